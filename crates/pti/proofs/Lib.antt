@@ -1,0 +1,8 @@
+pub mod Laws
+pub mod SpeedLaws
+pub mod RecordLaws
+pub mod BeamLaws
+pub mod RssiLaws
+pub mod FrameLaws
+pub mod PayloadLaws
+pub mod ScreenLaws

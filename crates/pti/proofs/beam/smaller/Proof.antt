@@ -1,0 +1,16 @@
+-- `pti::beam::smaller` meets its contract, by the laws of the crate. Assumes nothing.
+use borrow.Author.Needs.{needs}
+use Rattle.pti.proofs.Laws.{laws}
+use Rattle.pti.proofs.beam.smaller.Statement.{statement}
+use Rattle.pti.proofs.beam.smaller.Tie as tie
+
+-- src/beam.rt:12:1
+returns : tie.Need-returns
+returns c = search (needs, laws)
+
+-- src/beam.rt:12:1
+returns-2 : tie.Need-returns-2
+returns-2 c = search (needs, laws)
+
+pub smaller-spec : {M : Type 1} → statement M
+smaller-spec = tie.close (tie.spec returns returns-2)

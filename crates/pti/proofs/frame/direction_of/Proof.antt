@@ -1,0 +1,16 @@
+-- `pti::frame::direction_of` meets its contract, by the laws of the crate. Assumes nothing.
+use borrow.Author.Needs.{needs}
+use Rattle.pti.proofs.Laws.{laws}
+use Rattle.pti.proofs.frame.direction_of.Statement.{statement}
+use Rattle.pti.proofs.frame.direction_of.Tie as tie
+
+-- src/frame.rt:118:9
+returns : tie.Need-returns
+returns c = search (needs, laws)
+
+-- src/frame.rt:114:1
+returns-2 : tie.Need-returns-2
+returns-2 c = search (needs, laws)
+
+pub direction-of-spec : {M : Type 1} → statement M
+direction-of-spec = tie.close (tie.spec returns returns-2)

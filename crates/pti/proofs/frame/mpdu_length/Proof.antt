@@ -1,0 +1,29 @@
+-- `pti::frame::mpdu_length` meets its contract, by the laws of the crate. Assumes nothing.
+use Rattle.pti.proofs.Laws.{laws}
+use borrow.Author.Needs.{needs}
+use native.Mathlib.Omega.{arith}
+use Rattle.pti.proofs.frame.mpdu_length.Statement.{statement}
+use Rattle.pti.proofs.frame.mpdu_length.Tie as tie
+
+-- src/frame.rt:227:9
+returns : tie.Need-returns
+returns c = search (needs, laws)
+
+-- src/frame.rt:229:13
+shared-slice-read-l : tie.Need-shared-slice-read-l
+shared-slice-read-l c = search (needs, laws)
+
+-- src/frame.rt:229:13
+cast-l : tie.Need-cast-l
+cast-l c = omega (arith, c .shared-slice-known .given 7)
+
+-- src/frame.rt:222:1
+returns-2 : tie.Need-returns-2
+returns-2 c = search (needs, laws)
+
+-- src/frame.rt:222:1
+returns-3 : tie.Need-returns-3
+returns-3 c = search (needs, laws)
+
+pub mpdu-length-spec : {M : Type 1} → statement M
+mpdu-length-spec = tie.close (tie.spec returns shared-slice-read-l cast-l returns-2 returns-3)

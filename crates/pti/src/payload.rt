@@ -1,0 +1,141 @@
+// Every frame of a payload, as rows of a lent table: eight numbers a row.
+use crate::frame::Beams;
+use crate::frame::Direction;
+use crate::frame::PtiFrame;
+use crate::frame::Split;
+use crate::frame::frame_of;
+use crate::frame::split_body;
+use crate::records::Next;
+use crate::records::PayloadOffset;
+use crate::records::next_body;
+use crate::rssi::byte_of;
+use refusal::Refusal;
+use rows::put_row;
+ghost use mathlib.Core.Path.{_≡_};
+ghost use mathlib.Core.Bool.{cond};
+ghost use Prim.Native.Nat.{_+_, _*_, _^_, _≤_, _<_};
+ghost use lib.ListN.{length};
+ghost use Rattle.pti.specs.Frame.{isFrame};
+ghost use Rattle.pti.specs.Payload.{directionNumber, beamsNumber, rowOf, rowsOf, Parses};
+ghost use Rattle.pti.specs.Steps.{Writes};
+ghost use Rattle.rows.specs.Rows.{laid};
+
+// The numbers of a frame's row.
+const WIDTH: usize = 8;
+
+// How many rows a payload has, all of them written.
+pub enum Frames {
+    Rows(usize),
+    Refused(Refusal),
+}
+
+fn direction_number(direction: Direction) -> u64
+    ensures { λ r. ⌜ r ≡ directionNumber direction ⌝ }
+{
+    match direction {
+        Direction::Rx => 0,
+        Direction::Tx => 1,
+    }
+}
+
+fn beams_number(beams: Beams) -> u64
+    ensures { λ r. ⌜ r ≡ beamsNumber beams ⌝ }
+{
+    match beams {
+        Beams::Count(n) => n as u64,
+        Beams::NoBeam => 0,
+    }
+}
+
+// The row of a frame whose body starts at a place of the payload.
+fn row_of(frame: PtiFrame, body: PayloadOffset) -> [u64; 8]
+    requires { ⌜ body .0 + frame .start .0 < 2 ^ 64 ⌝ }
+    ensures { λ r. ⌜ r ≡ rowOf (body .0) frame ⌝ }
+{
+    let direction = frame.direction;
+    let beams = frame.beams;
+    let start = frame.start.in_payload(body);
+    [
+        direction_number(direction),
+        frame.region as u64,
+        frame.channel as u64,
+        frame.rate as u64,
+        byte_of(frame.rssi),
+        beams_number(beams),
+        start.0 as u64,
+        frame.length as u64,
+    ]
+}
+
+// How many frames a body holds: one or none.
+fn frames_in(body: &[u8]) -> usize
+    ensures { λ r. ⌜ r ≡ cond (isFrame (now (body .entry))) 1 0 ⌝ }
+    ensures { λ r. ⌜ r ≤ 1 ⌝ }
+{
+    let Split::Into(_) = split_body(body) else {
+        return 0;
+    };
+    1
+}
+
+fn count_frames(payload: &[u8]) -> usize
+    ensures { λ r. ⌜ r ≡ length (rowsOf (now (payload .entry))) ⌝ }
+{
+    let mut count: usize = 0;
+    let mut at: usize = 1;
+    loop {
+        let Next::Body(span) = next_body(payload, at) else {
+            return count;
+        };
+        let start = span.start.0;
+        let end = span.end.0;
+        count += frames_in(&payload[start..end]);
+        at = end + 2;
+    }
+}
+
+// Writes the row of a body's frame, if it holds one, as row n. Returns the number of the next row.
+fn write_frame(body: &[u8], start: PayloadOffset, table: &mut [u64], n: usize) -> usize
+    requires { ⌜ (start .0 < 2 ^ 63) × (n * 8 ≤ length (now table)) ⌝ }
+    ensures { λ r. ⌜ Writes (now (body .entry)) (start .0) n (now (table .entry)) r (now (table .exit)) ⌝ }
+{
+    let Split::Into(parts) = split_body(body) else {
+        return n;
+    };
+    let row = row_of(frame_of(body, parts), start);
+    put_row(table, n * WIDTH, &row);
+    n + 1
+}
+
+// Writes the rows of all frames, one after the other.
+fn write_frames(payload: &[u8], table: &mut [u64])
+    requires { ⌜ length (rowsOf (now payload)) * 8 ≤ length (now table) ⌝ }
+    ensures { λ _. ⌜ now (table .exit) ≡ laid (now (table .entry)) (rowsOf (now (payload .entry))) ⌝ }
+{
+    let mut n: usize = 0;
+    let mut at: usize = 1;
+    loop {
+        let Next::Body(span) = next_body(payload, at) else {
+            return;
+        };
+        let start = span.start.0;
+        let end = span.end.0;
+        n = write_frame(&payload[start..end], span.start, table, n);
+        at = end + 2;
+    }
+}
+
+// Every frame of a payload into the table, or refusal 4 or 8. A refusal writes nothing, an answer nothing past its last row.
+pub fn parse_payload(payload: &[u8], table: &mut [u64]) -> Frames
+    ensures { λ r. ⌜ Parses (now (payload .entry)) (now (table .entry)) r (now (table .exit)) ⌝ }
+{
+    if 65535 < payload.len() {
+        return Frames::Refused(Refusal::TooLong(payload.len()));
+    }
+    let needed = count_frames(payload);
+    if table.len() / WIDTH < needed {
+        return Frames::Refused(Refusal::MoreRows(needed));
+    }
+    write_frames(payload, table);
+    Frames::Rows(needed)
+}

@@ -1,0 +1,28 @@
+-- Document 01, "Refusal numbers": the number of each case, and what it carries.
+use Prim.Native.Nat.{ℕ}
+use Rattle.refusal.specs.declared.Refusal.{Refusal}
+use Rattle.refusal.specs.declared.Refusal.the-variants.{Form, Limit, Owner, TooLong, TooShort, NoBase, NoCandidate, MoreRows, NotAFrame}
+
+-- the column "No."
+abbrev pub numberOf : Refusal → ℕ
+numberOf (Form line) = 1
+numberOf (Limit line) = 2
+numberOf (Owner line) = 3
+numberOf (TooLong length) = 4
+numberOf (TooShort length) = 5
+numberOf (NoBase key) = 6
+numberOf NoCandidate = 7
+numberOf (MoreRows rows) = 8
+numberOf NotAFrame = 9
+
+-- the column "Carries"
+abbrev pub carriedBy : Refusal → ℕ
+carriedBy (Form line) = line
+carriedBy (Limit line) = line
+carriedBy (Owner line) = line
+carriedBy (TooLong length) = length
+carriedBy (TooShort length) = length
+carriedBy (NoBase key) = key
+carriedBy NoCandidate = 0
+carriedBy (MoreRows rows) = rows
+carriedBy NotAFrame = 0

@@ -1,0 +1,61 @@
+// Why a call refuses: document 01, "Refusal numbers". One case a number, with what it carries.
+// Every public call of the tap answers with its numbers or with one of these.
+ghost use mathlib.Core.Path.{_≡_};
+ghost use Rattle.refusal.specs.Refusal.{numberOf, carriedBy};
+
+pub enum Refusal {
+    // 1: a line of a definition text isn't one of the forms. Carries the line, from 1.
+    Form(usize),
+    // 2: a limit is passed. Carries the line, or 0 for the length of the text.
+    Limit(usize),
+    // 3: a line has no owner or parent, or has what its place forbids. Carries the line.
+    Owner(usize),
+    // 4: a payload, record body, MPDU or command payload is too long. Carries its length.
+    TooLong(usize),
+    // 5: an MPDU or command payload is too short. Carries its length.
+    TooShort(usize),
+    // 6: there is no base header with the key. Carries the key.
+    NoBase(usize),
+    // 7: no candidate holds.
+    NoCandidate,
+    // 8: the right answer has more rows than the table. Carries the rows needed.
+    MoreRows(usize),
+    // 9: a single record is not a frame.
+    NotAFrame,
+}
+
+impl Refusal {
+    // The number that document 01 gives the case.
+    pub fn number(self) -> u8
+        ensures { λ r. ⌜ r ≡ numberOf self ⌝ }
+    {
+        match self {
+            Refusal::Form(_) => 1,
+            Refusal::Limit(_) => 2,
+            Refusal::Owner(_) => 3,
+            Refusal::TooLong(_) => 4,
+            Refusal::TooShort(_) => 5,
+            Refusal::NoBase(_) => 6,
+            Refusal::NoCandidate => 7,
+            Refusal::MoreRows(_) => 8,
+            Refusal::NotAFrame => 9,
+        }
+    }
+
+    // What it carries: a line, a length, a key or a count of rows; 0 where it carries nothing.
+    pub fn carried(self) -> usize
+        ensures { λ r. ⌜ r ≡ carriedBy self ⌝ }
+    {
+        match self {
+            Refusal::Form(line) => line,
+            Refusal::Limit(line) => line,
+            Refusal::Owner(line) => line,
+            Refusal::TooLong(length) => length,
+            Refusal::TooShort(length) => length,
+            Refusal::NoBase(key) => key,
+            Refusal::NoCandidate => 0,
+            Refusal::MoreRows(rows) => rows,
+            Refusal::NotAFrame => 0,
+        }
+    }
+}

@@ -1,0 +1,90 @@
+-- `rows::put_row` meets its contract, by the laws of the crate. Assumes nothing.
+use borrow.Author.Needs.{needs}
+use Prim.Native.Nat.{_-_}
+use lib.ListN.{length}
+use Rattle.rows.proofs.Laws.{Putting, laws}
+use Rattle.rows.proofs.put_row.Statement.{statement}
+use Rattle.rows.proofs.put_row.Tie as tie
+
+abbrev Inv-loop : tie.InvT-loop
+Inv-loop table₀ at row i₀ table i = Putting table₀ table row at i
+
+abbrev μ-loop : tie.MeasureT-loop
+μ-loop table₀ at row i₀ table i = length row - i
+
+-- src/lib.rt:11:9
+returns : tie.Need-returns Inv-loop μ-loop
+returns c = search (needs, laws)
+
+-- src/lib.rt:13:8
+sub-if2 : tie.Need-sub-if2 Inv-loop μ-loop
+sub-if2 c = search (needs, laws)
+
+-- src/lib.rt:14:9
+returns-2 : tie.Need-returns-2 Inv-loop μ-loop
+returns-2 c = search (needs, laws)
+
+-- src/lib.rt:17:5
+loop-holds : tie.Need-loop-holds Inv-loop μ-loop
+loop-holds c = search (needs, laws)
+
+-- src/lib.rt:18:25
+mul-table : tie.Need-mul-table Inv-loop μ-loop
+mul-table c = search (needs, laws)
+
+-- src/lib.rt:18:25
+shared-slice-read-table : tie.Need-shared-slice-read-table Inv-loop μ-loop
+shared-slice-read-table c = search (needs, laws)
+
+-- src/lib.rt:18:15
+add-table : tie.Need-add-table Inv-loop μ-loop
+add-table c = search (needs, laws)
+
+-- src/lib.rt:18:9
+mul-table-2 : tie.Need-mul-table-2 Inv-loop μ-loop
+mul-table-2 c = search (needs, laws)
+
+-- src/lib.rt:18:9
+slice-write-table : tie.Need-slice-write-table Inv-loop μ-loop
+slice-write-table c = search (needs, laws)
+
+-- src/lib.rt:19:9
+add-i : tie.Need-add-i Inv-loop μ-loop
+add-i c = search (needs, laws)
+
+-- src/lib.rt:17:5
+loop-less : tie.Need-loop-less Inv-loop μ-loop
+loop-less c = search (needs, laws)
+
+-- src/lib.rt:17:5
+loop-again : tie.Need-loop-again Inv-loop μ-loop
+loop-again c = search (needs, laws)
+
+-- src/lib.rt:7:1
+same-length : tie.Need-same-length Inv-loop μ-loop
+same-length c = search (needs, laws)
+
+-- src/lib.rt:7:1
+returns-3 : tie.Need-returns-3 Inv-loop μ-loop
+returns-3 c = search (needs, laws)
+
+pub put-row-spec : {M : Type 1} → statement M
+put-row-spec =
+    tie.close
+    (tie.spec
+    Inv-loop
+    μ-loop
+    returns
+    sub-if2
+    returns-2
+    loop-holds
+    mul-table
+    shared-slice-read-table
+    add-table
+    mul-table-2
+    slice-write-table
+    add-i
+    loop-less
+    loop-again
+    same-length
+    returns-3)
