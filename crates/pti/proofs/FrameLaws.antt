@@ -1,6 +1,6 @@
 -- Laws of the frame in a record's body. Assumes nothing.
 use mathlib.Core.Path.{_≡_, refl, sym, ap, _∙_}
-use mathlib.Core.Bool.{Bool, true, false, cond, not, _&&_, _||_, and-false, and-true}
+use mathlib.Core.Bool.{Bool, true, false, cond, not, and-false}
 use mathlib.Core.List.{List, [], _∷_}
 use Prim.Native.Nat.{ℕ, _+_, _-_, _%_, _^_, _≤_, _<_}
 use mir.Syntax.{w8}
@@ -9,7 +9,7 @@ use mir.Facts.{toZ-ofZ}
 use lib.IntN.{ℤ}
 use lib.Signed.{mag}
 use native.Mathlib.Omega.{arith}
-use lib.Dec.{eqb, leb, ltb}
+use lib.Dec.{eqb}
 use lib.ListN.{length, getD, take, drop, length-drop}
 use lib.Seq.{getD-take, getD-drop}
 use borrow.Author.Tests.{le-leb, lt-leb, lt-ltb, le-ltb, eq-eqb, ne-eqb, eqb-false, not-true, ltb-true}
@@ -18,7 +18,7 @@ use Rattle.pti.specs.declared.frame.Direction.the-variants.{Rx, Tx}
 use Rattle.pti.specs.declared.frame.Trailer.{Trailer}
 use Rattle.pti.specs.declared.frame.Layout.{Layout}
 use Rattle.pti.specs.declared.frame.Layout.the-variants.{Between, Nothing as NoLayout}
-use Rattle.pti.specs.declared.records.BodyOffset.{BodyOffset}
+use Rattle.records.specs.declared.BodyOffset.{BodyOffset}
 use Rattle.pti.specs.declared.frame.Parts.{Parts}
 use Rattle.pti.specs.declared.frame.Split.{Split}
 use Rattle.pti.specs.declared.frame.Split.the-variants.{Into, Nothing as NoSplit}

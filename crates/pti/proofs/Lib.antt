@@ -1,8 +1,6 @@
 pub mod Laws
 pub mod SpeedLaws
-pub mod RecordLaws
 pub mod BeamLaws
 pub mod RssiLaws
 pub mod FrameLaws
 pub mod PayloadLaws
-pub mod ScreenLaws

@@ -9,26 +9,27 @@ use mir.Syntax.{w8, w64}
 use mir.Val.{Fits, ofZ, toZ, hbits}
 use mir.Facts.{toZ-ofZ}
 use lib.Signed.{mag}
-use lib.Dec.{eqb, leb}
-use lib.ListN.{length, getD, take, drop, length-append}
+use lib.Dec.{eqb}
+use lib.ListN.{length, getD, take, drop}
 use lib.Seq.{sets, length-sets}
 use borrow.Author.Tests.{le-leb, lt-leb}
 use Rattle.refusal.specs.declared.Refusal.the-variants.{TooLong, MoreRows}
 use Rattle.rows.specs.Rows.{put, flat, laid}
 use Rattle.rows.proofs.Laws.{sets-append, put-room, sets-laid}
-use Rattle.pti.specs.declared.records.Span.{Span}
-use Rattle.pti.specs.declared.records.Next.{Next}
-use Rattle.pti.specs.declared.records.Next.the-variants.{Body, NoMore}
+use Rattle.records.specs.declared.Span.{Span}
+use Rattle.records.specs.declared.Next.{Next}
+use Rattle.records.specs.declared.Next.the-variants.{Body, NoMore}
 use Rattle.pti.specs.declared.frame.Parts.{Parts}
 use Rattle.pti.specs.declared.frame.PtiFrame.{PtiFrame}
 use Rattle.pti.specs.declared.frame.Split.{Split}
 use Rattle.pti.specs.declared.frame.Split.the-variants.{Into, Nothing as NoSplit}
 use Rattle.pti.specs.declared.payload.Frames.the-variants.{Rows, Refused}
-use Rattle.pti.specs.Records.{bodiesFrom, bodies, bytesOf}
-use Rattle.pti.specs.Steps.{Leads, Follows, splitOf, Writes}
-use Rattle.pti.specs.Frame.{headerOf, header, isFrame, frameOf}
-use Rattle.pti.specs.Payload.{directionNumber, beamsNumber, rowOf, rowsIn, rowsOf, framesOf, Parses}
-use Rattle.pti.proofs.RecordLaws.{led}
+use Rattle.records.specs.Records.{bodiesFrom, bodies, bytesOf}
+use Rattle.records.specs.Steps.{Follows}
+use Rattle.pti.specs.Steps.{splitOf, Writes}
+use Rattle.pti.specs.Frame.{headerOf, isFrame, frameOf}
+use Rattle.pti.specs.Payload.{directionNumber, beamsNumber, rowOf, rowsIn, rowsOf, Parses}
+use Rattle.records.proofs.Laws.{led}
 use Rattle.pti.proofs.FrameLaws.{split-frame, split-none}
 
 -- ---- one body

@@ -1,15 +1,15 @@
 -- The table of rates is what the four lists say: one test over its 512 entries, which is computed. Assumes nothing.
-use mathlib.Core.Path.{_≡_, refl, sym}
+use mathlib.Core.Path.{_≡_, refl}
 use mathlib.Core.Bool.{Bool, true, false, _&&_, and-false}
 use mathlib.Core.List.{List, [], _∷_, _++_}
 use mathlib.Core.Logic.{_⊎_, inl, inr}
 use Prim.Native.Nat.{ℕ, _+_, _*_, _/_, _%_, _≤_, _<_}
 use native.Mathlib.Omega.{arith}
 use lib.Dec.{eqb, ltb}
-use lib.ListN.{length, getD, replicate}
+use lib.ListN.{getD, replicate}
 use borrow.Author.Tests.{eqb-true, ltb-true, ne-eqb}
 use Rattle.laws.proofs.Bools.{and-left, and-right}
-use Rattle.laws.proofs.Tables.{every, entry}
+use Rattle.laws.proofs.Tables.{entry}
 use Rattle.pti.specs.Speed.{contains, baud9600, baud40k, baud100k, baudLr, rateOf}
 
 -- the entry at k is the rate of channel k / 32 in region k % 32

@@ -10,7 +10,6 @@ use Rattle.refusal.specs.declared.Refusal.the-variants.{TooLong, NotAFrame}
 use Rattle.pti.specs.declared.frame.Direction.{Direction}
 use Rattle.pti.specs.declared.frame.Direction.the-variants.{Rx, Tx}
 use Rattle.pti.specs.declared.frame.Trailer.{Trailer}
-use Rattle.pti.specs.declared.frame.Beams.{Beams}
 use Rattle.pti.specs.declared.frame.Beams.the-variants.{Count, NoBeam}
 use Rattle.pti.specs.declared.frame.PtiFrame.{PtiFrame}
 use Rattle.pti.specs.declared.frame.Parsed.{Parsed}

@@ -16,7 +16,7 @@ use Rattle.pti.specs.declared.frame.Beams.the-variants.{Count, NoBeam}
 use Rattle.pti.specs.declared.frame.PtiFrame.{PtiFrame}
 use Rattle.pti.specs.declared.payload.Frames.{Frames}
 use Rattle.pti.specs.declared.payload.Frames.the-variants.{Rows, Refused}
-use Rattle.pti.specs.Records.{bodies, bytesOf}
+use Rattle.records.specs.Records.{bodies, bytesOf}
 use Rattle.pti.specs.Frame.{isFrame, frameOf}
 
 -- direction 0 is Rx, 1 is Tx

@@ -1,12 +1,8 @@
 -- What the steps below the public calls answer, over the document's definitions.
 use mathlib.Core.Path.{_≡_}
-use mathlib.Core.List.{List, [], _∷_}
+use mathlib.Core.List.{List}
 use Prim.Native.Nat.{ℕ, _+_, _-_, _*_, _≤_, _<_}
 use lib.ListN.{length}
-use Rattle.pti.specs.Records.{bodiesFrom}
-use Rattle.pti.specs.declared.records.Span.{Span}
-use Rattle.pti.specs.declared.records.Next.{Next}
-use Rattle.pti.specs.declared.records.Next.the-variants.{Body, NoMore}
 use mathlib.Core.Bool.{cond}
 use Rattle.pti.specs.Frame.{header, trailer, between, start, directionOf, fields, middle, isFrame, frameOf}
 use Rattle.pti.specs.Payload.{rowOf}
@@ -16,17 +12,6 @@ use Rattle.pti.specs.declared.frame.Layout.the-variants.{Between, Nothin
 use Rattle.pti.specs.declared.frame.Parts.{Parts}
 use Rattle.pti.specs.declared.frame.Split.{Split}
 use Rattle.pti.specs.declared.frame.Split.the-variants.{Into, Nothing as NoSplit}
-
--- the body b comes first from the place on, and lies inside the payload behind it; the others follow at its end and two bytes
-pub record Leads (s : List ℕ) (at : ℕ) (b : Span) : Type 0 where
-  pub first : bodiesFrom s at ≡ (b .start .0, b .end .0 - b .start .0) ∷ bodiesFrom s (b .end .0 + 2)
-  pub after : at < b .start .0
-  pub ordered : b .start .0 ≤ b .end .0
-  pub inside : b .end .0 < length s
-
-abbrev pub Follows : List ℕ → ℕ → Next → Type 0
-Follows s at (Body b) = Leads s at b
-Follows s at NoMore = bodiesFrom s at ≡ []
 
 -- where a body's header ends and its trailer starts
 abbrev pub layoutOf : List ℕ → Layout

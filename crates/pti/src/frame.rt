@@ -1,9 +1,9 @@
 // The frame in a record's body: document 01, "Body: first byte 2 or 3, header 12 or 19 bytes".
 use crate::beam::BEAM_MARKER;
 use crate::beam::beam_count;
-use crate::records::BodyOffset;
 use crate::rssi::signed;
 use crate::speed::speed_for;
+use records::BodyOffset;
 use refusal::Refusal;
 ghost use mathlib.Core.Path.{_≡_};
 ghost use Prim.Native.Nat.{_≤_};

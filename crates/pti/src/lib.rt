@@ -4,7 +4,5 @@
 pub mod beam;
 pub mod frame;
 pub mod payload;
-pub mod records;
 pub mod rssi;
-pub mod screen;
 pub mod speed;

@@ -1,0 +1,20 @@
+-- `screen::fillable` meets its contract, by the laws of the crate. Assumes nothing.
+use borrow.Author.Needs.{needs}
+use Rattle.screen.proofs.Laws.{laws}
+use Rattle.screen.proofs.fillable.Statement.{statement}
+use Rattle.screen.proofs.fillable.Tie as tie
+
+-- src/screen.rt:56:9
+returns : tie.Need-returns
+returns c = search (needs, laws)
+
+-- src/screen.rt:59:9
+returns-2 : tie.Need-returns-2
+returns-2 c = search (needs, laws)
+
+-- src/screen.rt:52:1
+returns-3 : tie.Need-returns-3
+returns-3 c = search (needs, laws)
+
+pub fillable-spec : {M : Type 1} → statement M
+fillable-spec = tie.close (tie.spec returns returns-2 returns-3)

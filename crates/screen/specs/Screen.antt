@@ -1,0 +1,45 @@
+-- Document 01, "Records and frames": "The frame table handed to the screen is a row of frame records: direction, region, channel, rate, RSSI, beam count or none, MPDU start in the payload
+-- (in the body, for a single record), MPDU length." A flat row is eight numbers in that order; flat rows stand one behind the other in a list of numbers.
+use mathlib.Core.Path.{_≡_}
+use mathlib.Core.Bool.{cond, not, _&&_}
+use mathlib.Core.List.{List, [], _∷_, _++_}
+use Prim.Native.Nat.{ℕ, zero, suc, _/_, _%_}
+use lib.Dec.{eqb, leb}
+use lib.ListN.{getD, drop, length}
+use mir.Syntax.{w8}
+use mir.Val.{toZ}
+use Rattle.screen.specs.declared.FrameRecord.{FrameRecord}
+
+-- The frame record of the flat row that comes first in these numbers: the RSSI is the signed number of its byte, and there is a beam count where it isn't 0. Of a number that is
+-- wider than its field, which no flat row of a frame has, the low bits are kept.
+unfoldable pub recordOf : List ℕ → FrameRecord
+recordOf row =
+    record {
+      direction = getD row 0 0 % 256;
+      region = getD row 1 0 % 256;
+      channel = getD row 2 0 % 256;
+      rate = getD row 3 0 % 256;
+      rssi = toZ w8 (getD row 4 0 % 256);
+      «is_beam» = not (eqb (getD row 5 0) 0);
+      beams = getD row 5 0 % 65536;
+      start = getD row 6 0;
+      length = getD row 7 0;
+    }
+
+-- "a row of frame records": those of the first n flat rows.
+abbrev pub recordsOf : ℕ → List ℕ → List FrameRecord
+recordsOf zero rows = []
+recordsOf (suc n) rows = recordOf rows ∷ recordsOf n (drop 8 rows)
+
+-- The frame table with the first n records filled: those records, followed by what stood behind them.
+abbrev pub filled : ℕ → List ℕ → List FrameRecord → List FrameRecord
+filled n rows frames = recordsOf n rows ++ drop n frames
+
+-- How many are filled of n: all, where the table has n records and the numbers are n flat rows or more; else none.
+unfoldable pub fillableOf : ℕ → ℕ → ℕ → ℕ
+fillableOf n records numbers = cond (leb n records && leb n (numbers / 8)) n 0
+
+-- The answer, and the frame table then.
+pub record Filled (rows : List ℕ) (n : ℕ) (entry : List FrameRecord) (answer : ℕ) (exit : List FrameRecord) : Type 0 where
+  pub count : answer ≡ fillableOf n (length entry) (length rows)
+  pub table : exit ≡ filled answer rows entry

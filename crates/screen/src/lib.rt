@@ -1,0 +1,68 @@
+// The frame table handed to the screen: a row of frame records, filled from the flat rows of `parse_payload`.
+use pti::rssi::signed;
+ghost use mathlib.Core.Path.{_≡_};
+ghost use Prim.Native.Nat.{_≤_, _+_, _*_};
+ghost use lib.ListN.{drop, length};
+ghost use Rattle.screen.specs.Screen.{recordOf, fillableOf, Filled};
+
+#[repr(C)]
+pub struct FrameRecord {
+    // 0 Rx, 1 Tx
+    pub direction: u8,
+    pub region: u8,
+    pub channel: u8,
+    pub rate: u8,
+    pub rssi: i8,
+    // whether there is a beam count; `beams` is 0 where there is none
+    pub is_beam: bool,
+    pub beams: u16,
+    pub start: usize,
+    pub length: usize,
+}
+
+// The frame record of flat row i.
+fn record_at(rows: &[u64], i: usize) -> FrameRecord
+    requires { ⌜ i * 8 + 8 ≤ length (now rows) ⌝ }
+    ensures { λ r. ⌜ r ≡ recordOf (drop (i * 8) (now (rows .entry))) ⌝ }
+{
+    let at = i * 8;
+    FrameRecord {
+        direction: (rows[at] % 256) as u8,
+        region: (rows[at + 1] % 256) as u8,
+        channel: (rows[at + 2] % 256) as u8,
+        rate: (rows[at + 3] % 256) as u8,
+        rssi: signed((rows[at + 4] % 256) as u8),
+        is_beam: rows[at + 5] != 0,
+        beams: (rows[at + 5] % 65536) as u16,
+        start: rows[at + 6] as usize,
+        length: rows[at + 7] as usize,
+    }
+}
+
+// How many records are filled: n, or none where the table has fewer records than n or there are fewer flat rows.
+fn fillable(n: usize, records: usize, numbers: usize) -> usize
+    ensures { λ r. ⌜ r ≡ fillableOf n records numbers ⌝ }
+{
+    if records < n {
+        return 0;
+    }
+    if n <= numbers / 8 {
+        return n;
+    }
+    0
+}
+
+// The first n records of the table, from the first n flat rows, row by row; the records past them stay as they are.
+// Answers how many were filled: n, or 0 where the table or the flat rows are fewer than n, and then nothing is written.
+#[no_mangle]
+pub extern "C" fn fill_frames(frames: &mut [FrameRecord], rows: &[u64], n: usize) -> usize
+    ensures { λ r. ⌜ Filled (now (rows .entry)) n (now (frames .entry)) r (now (frames .exit)) ⌝ }
+{
+    let m = fillable(n, frames.len(), rows.len());
+    let mut i: usize = 0;
+    while i < m {
+        frames[i] = record_at(rows, i);
+        i += 1;
+    }
+    m
+}
