@@ -10,7 +10,7 @@ use lib.IntN.{ℤ}
 use lib.Signed.{mag}
 use native.Mathlib.Omega.{arith}
 use lib.Dec.{eqb}
-use lib.ListN.{length, getD, take, drop, length-drop}
+use lib.ListN.{length, getD, take, drop, length-take, length-drop}
 use lib.Seq.{getD-take, getD-drop}
 use borrow.Author.Tests.{le-leb, lt-leb, lt-ltb, le-ltb, eq-eqb, ne-eqb, eqb-false, not-true, ltb-true}
 use Rattle.pti.specs.declared.frame.Direction.{Direction}
@@ -24,13 +24,14 @@ use Rattle.pti.specs.declared.frame.Split.{Split}
 use Rattle.pti.specs.declared.frame.Split.the-variants.{Into, Nothing as NoSplit}
 use Rattle.laws.proofs.Bools.{and-left, and-right}
 use Rattle.laws.proofs.Lists.{tail}
-use Rattle.pti.specs.Frame.{headerOf, trailerOf, directionOf, successOf, fieldsOf, header, start, trailer, between, middle, fields, holds, isFrame, mpduOf, framed, frameOf, parsedOf}
+use Rattle.pti.specs.Frame.{headerOf, trailerOf, directionOf, successOf, fieldsOf, header, start, trailer, between, middle, fields, holds, isFrame, isBeam, mpduOf, beamsIn, framed, frameOf, parsedOf}
 use Rattle.pti.specs.Steps.{layoutOf, partsOf, splitOf, PartsIn}
 use Rattle.refusal.specs.declared.Refusal.the-variants.{TooLong, NotAFrame}
 use Rattle.pti.specs.declared.frame.PtiFrame.{PtiFrame}
 use Rattle.pti.specs.declared.frame.Parsed.the-variants.{Frame, Refused}
 use Rattle.pti.specs.Speed.{rateOf}
 use Rattle.pti.specs.Beam.{beamsOf}
+use Rattle.pti.specs.declared.frame.Beams.{Beams}
 use Rattle.pti.specs.declared.frame.Beams.the-variants.{Count, NoBeam}
 
 -- ---- a choice by number
@@ -59,13 +60,13 @@ pub fields-tx : (d : Direction) (t : List ℕ) → d ≡ Tx
 fields-tx d t e = rw e refl
 
 module _ (d : Direction) (first : ℕ) (t : Trailer) where
-  pub other-protocol : (t .protocol ≡ 6 → ⊥) → false ≡ holds d first t
+  pub other-protocol : (t .protocol ≡ 6 → ⊥) → false ≡ holds d (eqb first 0x55) t
   other-protocol h = rw (ne-eqb (t .protocol) 6 h) refl
 
-  pub holds-beam : t .protocol ≡ 6 → first ≡ 0x55 → true ≡ holds d first t
+  pub holds-beam : t .protocol ≡ 6 → first ≡ 0x55 → true ≡ holds d (eqb first 0x55) t
   holds-beam h e = rw (eq-eqb (t .protocol) 6 h, eq-eqb first 0x55 e) refl
 
-  pub holds-tag : (tag : ℕ) (r : Bool) → t .protocol ≡ 6 → (first ≡ 0x55 → ⊥) → tag ≡ successOf d → r ≡ eqb (t .tag) tag → r ≡ holds d first t
+  pub holds-tag : (tag : ℕ) (r : Bool) → t .protocol ≡ 6 → (first ≡ 0x55 → ⊥) → tag ≡ successOf d → r ≡ eqb (t .tag) tag → r ≡ holds d (eqb first 0x55) t
   holds-tag tag r h e is-tag is-r = rw (eq-eqb (t .protocol) 6 h, ne-eqb first 0x55 e, ← is-tag) is-r
 
 -- ---- where the middle bytes lie
@@ -149,7 +150,7 @@ module _ (b : List ℕ) (l : Layout) (m e : BodyOffset) (is-l : l ≡ layoutOf b
   trailer-room = rw (tail b (e .0), length-drop) (omega (arith, is-e, room .0, room .1))
 
   module _ (d : Direction) (t : Trailer) (w : Bool) (is-d : d ≡ directionOf (getD b (m .0 - 1) 0)) (is-t : t ≡ fieldsOf d (take (length b - e .0) (drop (e .0) b)))
-      (is-w : w ≡ holds d (getD b (m .0) 0) t) where
+      (is-w : w ≡ holds d (eqb (getD b (m .0) 0) 0x55) t) where
     the-d : d ≡ directionOf (start b)
     the-d = rw (← is-m) at is-d
 
@@ -176,33 +177,40 @@ module _ (b : List ℕ) (l : Layout) (m e : BodyOffset) (is-l : l ≡ layoutOf b
 -- ---- the MPDU's length
 module _ (m : List ℕ) where
   pub mpdu-few : length m ≤ 7 → length m ≡ mpduOf m
-  mpdu-few few = rw (le-ltb 7 (length m) few) refl
+  mpdu-few few = rw (le-ltb 7 (length m) few, and-false) refl
 
-  pub mpdu-declared : 7 < length m → getD m 7 0 ≤ length m → getD m 7 0 ≡ mpduOf m
-  mpdu-declared some fits = rw (lt-ltb 7 (length m) some, le-leb (getD m 7 0) (length m) fits) refl
+  pub mpdu-beam : getD m 0 0 ≡ 0x55 → length m ≡ mpduOf m
+  mpdu-beam beam = rw (eq-eqb (getD m 0 0) 0x55 beam) refl
 
-  pub mpdu-all : 7 < length m → length m < getD m 7 0 → length m ≡ mpduOf m
-  mpdu-all some over = rw (lt-ltb 7 (length m) some, lt-leb (getD m 7 0) (length m) over) refl
+  module _ (some : 7 < length m) (no-beam : getD m 0 0 ≡ 0x55 → ⊥) where
+    pub mpdu-declared : getD m 7 0 ≤ length m → getD m 7 0 ≡ mpduOf m
+    mpdu-declared fits = rw (ne-eqb (getD m 0 0) 0x55 no-beam, lt-ltb 7 (length m) some, le-leb (getD m 7 0) (length m) fits) refl
+
+    pub mpdu-all : length m < getD m 7 0 → length m ≡ mpduOf m
+    mpdu-all over = rw (ne-eqb (getD m 0 0) 0x55 no-beam, lt-ltb 7 (length m) some, lt-leb (getD m 7 0) (length m) over) refl
+
+-- ---- the beams
+module _ (rate : ℕ) (m : List ℕ) where
+  pub beams-some : (n : ℕ) → getD m 0 0 ≡ 0x55 → n ≡ beamsOf rate m → Count n ≡ beamsIn rate m
+  beams-some n beam is-n = rw (eq-eqb (getD m 0 0) 0x55 beam) (ap Count is-n)
+
+  pub beams-none : (getD m 0 0 ≡ 0x55 → ⊥) → NoBeam ≡ beamsIn rate m
+  beams-none none = rw (ne-eqb (getD m 0 0) 0x55 none) refl
 
 -- ---- the frame
-module _ (b : List ℕ) (p : Parts) (rate : ℕ) (rssi : ℤ) (inside : PartsIn b p) (is-rate : rate ≡ rateOf (p .trailer .channel) (p .trailer .region))
-    (is-rssi : rssi ≡ toZ w8 (p .trailer .rssi)) (ok : mag rssi < 2 ^ hbits w8) where
+module _ (b : List ℕ) (p : Parts) (inside : PartsIn b p) where
   abbrev mid : List ℕ
   mid = take (p .end .0 - p .middle .0) (drop (p .middle .0) b)
 
-  whole : framed (p .direction) (p .trailer) (p .middle .0) mid ≡ frameOf b
-  whole = rw (inside .parts) refl
+  pub middle-bytes : 0 < length mid
+  middle-bytes = rw length-take (rw length-drop (omega (arith, inside .some, inside .inside)))
 
-  the-rssi : toZ w8 (ofZ w8 rssi) ≡ toZ w8 (p .trailer .rssi)
-  the-rssi = toZ-ofZ {w = w8} {z = rssi} (record { sfits = ok }) ∙ is-rssi
-
-  pub beam-frame : (n : ℕ) → getD mid 0 0 ≡ 0x55 → n ≡ beamsOf rate mid
-      → record { direction = p .direction; region = p .trailer .region; channel = p .trailer .channel; rate = rate; rssi = toZ w8 (ofZ w8 rssi); beams = Count n; start = p .middle; length = length mid } ≡ frameOf b
-  beam-frame n is-beam is-n = rw (is-n, the-rssi, is-rate) (rw (eq-eqb (getD mid 0 0) 0x55 is-beam) at whole)
-
-  pub plain-frame : (l : ℕ) → (getD mid 0 0 ≡ 0x55 → ⊥) → l ≡ mpduOf mid
-      → record { direction = p .direction; region = p .trailer .region; channel = p .trailer .channel; rate = rate; rssi = toZ w8 (ofZ w8 rssi); beams = NoBeam; start = p .middle; length = l } ≡ frameOf b
-  plain-frame l no-beam is-l = rw (is-l, the-rssi, is-rate) (rw (ne-eqb (getD mid 0 0) 0x55 no-beam) at whole)
+  pub frame-is : (rate l : ℕ) (rssi : ℤ) (beams : Beams) → rate ≡ rateOf (p .trailer .channel) (p .trailer .region) → rssi ≡ toZ w8 (p .trailer .rssi) → mag rssi < 2 ^ hbits w8 → beams ≡ beamsIn rate mid → l ≡ mpduOf mid
+      → record { direction = p .direction; region = p .trailer .region; channel = p .trailer .channel; rate = rate; rssi = toZ w8 (ofZ w8 rssi); beams = beams; start = p .middle; length = l } ≡ frameOf b
+  frame-is rate l rssi beams is-rate is-rssi ok is-beams is-l =
+      let read-back : toZ w8 (ofZ w8 rssi) ≡ toZ w8 (p .trailer .rssi) = toZ-ofZ {w = w8} {z = rssi} (record { sfits = ok }) ∙ is-rssi in
+      let whole : framed (p .direction) (p .trailer) (p .middle .0) mid ≡ frameOf b = rw (inside .parts) refl in
+      rw (is-beams, is-l, read-back, is-rate) whole
 
 -- ---- the answer
 split-parts : (t : Bool) (x p : Parts) → cond t (Into x) NoSplit ≡ Into p → (t ≡ true) × (p ≡ x)
@@ -242,4 +250,4 @@ module _ (b : List ℕ) (s : Split) (is-s : s ≡ splitOf b) where
     pub parsed-frame : (f : PtiFrame) → length b ≤ 2048 → f ≡ frameOf b → Frame f ≡ parsedOf b
     parsed-frame f short is-f = rw (le-leb (length b) 2048 short, the-parts .0) (ap Frame is-f)
 
-pub ruleset frame-laws = (pick-first, pick-rest, pick-second, pick-none, fields-rx, fields-tx, other-protocol, holds-beam, holds-tag, laid-none, laid-version, laid-cut, laid-start, laid-short, laid-out, split-nothing, middle-some, middle-inside, start-inside, end-inside, trailer-room, split-not, split-into, mpdu-few, mpdu-declared, mpdu-all, beam-frame, plain-frame, parsed-long, parsed-not, parts-in, parsed-frame)
+pub ruleset frame-laws = (pick-first, pick-rest, pick-second, pick-none, fields-rx, fields-tx, other-protocol, holds-beam, holds-tag, laid-none, laid-version, laid-cut, laid-start, laid-short, laid-out, split-nothing, middle-some, middle-inside, start-inside, end-inside, trailer-room, split-not, split-into, mpdu-few, mpdu-beam, mpdu-declared, mpdu-all, beams-some, beams-none, middle-bytes, frame-is, parsed-long, parsed-not, parts-in, parsed-frame)

@@ -10,6 +10,7 @@ use Rattle.refusal.specs.declared.Refusal.the-variants.{TooLong, NotAFrame}
 use Rattle.pti.specs.declared.frame.Direction.{Direction}
 use Rattle.pti.specs.declared.frame.Direction.the-variants.{Rx, Tx}
 use Rattle.pti.specs.declared.frame.Trailer.{Trailer}
+use Rattle.pti.specs.declared.frame.Beams.{Beams}
 use Rattle.pti.specs.declared.frame.Beams.the-variants.{Count, NoBeam}
 use Rattle.pti.specs.declared.frame.PtiFrame.{PtiFrame}
 use Rattle.pti.specs.declared.frame.Parsed.{Parsed}
@@ -60,18 +61,26 @@ middle b = take (length b - trailer b - header b) (drop (header b) b)
 abbrev pub fields : List ℕ → Trailer
 fields b = fieldsOf (directionOf (start b)) (drop (length b - trailer b) b)
 
--- "unless the first middle byte is 0x55: then it's a beam in either case"; "protocol must be 6"
-abbrev pub holds : Direction → ℕ → Trailer → Bool
-holds d first t = eqb (t .protocol) 6 && (eqb first 0x55 || eqb (t .tag) (successOf d))
+-- "unless the first middle byte is 0x55: then it's a beam in either case"
+abbrev pub isBeam : List ℕ → Bool
+isBeam m = eqb (getD m 0 0) 0x55
+
+-- "The trailer starts with 0xF9 (Rx) or 0xFD (Tx), unless .. it's a beam"; "protocol must be 6"
+abbrev pub holds : Direction → Bool → Trailer → Bool
+holds d beam t = eqb (t .protocol) 6 && (beam || eqb (t .tag) (successOf d))
 
 abbrev pub isFrame : List ℕ → Bool
-isFrame b = between b && holds (directionOf (start b)) (getD (middle b) 0 0) (fields b)
+isFrame b = between b && holds (directionOf (start b)) (isBeam (middle b)) (fields b)
 
 -- "MPDU: the m middle bytes; if not a beam, m > 7 and the byte l at middle place 7 is at most m, the first l of them."
 abbrev pub mpduOf : List ℕ → ℕ
-mpduOf m = cond (ltb 7 (length m) && leb (getD m 7 0) (length m)) (getD m 7 0) (length m)
+mpduOf m = cond (not (isBeam m) && (ltb 7 (length m) && leb (getD m 7 0) (length m))) (getD m 7 0) (length m)
 
--- the frame of a body, its trailer and its middle bytes, which start at a place of the body
+-- "beam count or none"
+abbrev pub beamsIn : ℕ → List ℕ → Beams
+beamsIn rate m = cond (isBeam m) (Count (beamsOf rate m)) NoBeam
+
+-- the frame of a direction, a trailer and middle bytes, which start at a place of the body
 abbrev pub framed : Direction → Trailer → ℕ → List ℕ → PtiFrame
 framed d t at m =
     record {
@@ -80,9 +89,9 @@ framed d t at m =
       channel = t .channel;
       rate = rateOf (t .channel) (t .region);
       rssi = toZ w8 (t .rssi);
-      beams = cond (eqb (getD m 0 0) 0x55) (Count (beamsOf (rateOf (t .channel) (t .region)) m)) NoBeam;
+      beams = beamsIn (rateOf (t .channel) (t .region)) m;
       start = record { 0 = at };
-      length = cond (eqb (getD m 0 0) 0x55) (length m) (mpduOf m);
+      length = mpduOf m;
     }
 
 abbrev pub frameOf : List ℕ → PtiFrame

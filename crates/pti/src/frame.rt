@@ -6,9 +6,10 @@ use crate::speed::speed_for;
 use records::BodyOffset;
 use refusal::Refusal;
 ghost use mathlib.Core.Path.{_≡_};
-ghost use Prim.Native.Nat.{_≤_};
+ghost use Prim.Native.Nat.{_≤_, _<_};
+ghost use lib.Dec.{eqb};
 ghost use lib.ListN.{length};
-ghost use Rattle.pti.specs.Frame.{headerOf, trailerOf, directionOf, successOf, fieldsOf, holds, mpduOf, frameOf, parsedOf};
+ghost use Rattle.pti.specs.Frame.{headerOf, trailerOf, directionOf, successOf, fieldsOf, holds, mpduOf, beamsIn, frameOf, parsedOf};
 ghost use Rattle.pti.specs.Steps.{layoutOf, splitOf, PartsIn};
 
 // Hardware start tags, the header's last byte, and success tags, the trailer's first.
@@ -159,7 +160,7 @@ fn read_trailer(direction: Direction, trailer: &[u8]) -> Trailer
 
 // Only a successful transfer carries a valid frame, but for a beam; and it must be Z-Wave.
 fn is_whole(direction: Direction, first: u8, trailer: Trailer) -> bool
-    ensures { λ r. ⌜ r ≡ holds direction first trailer ⌝ }
+    ensures { λ r. ⌜ r ≡ holds direction (eqb first 0x55) trailer ⌝ }
 {
     if trailer.protocol != ZWAVE_PROTOCOL {
         return false;
@@ -216,7 +217,7 @@ pub fn split_body(body: &[u8]) -> Split
     Split::Nothing
 }
 
-// The MPDU's length: what its header declares, where that is there and fits; else all middle bytes.
+// The MPDU's length: what its header declares, where that is there and fits; else all middle bytes, and so for a beam.
 fn mpdu_length(middle: &[u8]) -> usize
     ensures { λ r. ⌜ r ≡ mpduOf (now (middle .entry)) ⌝ }
 {
@@ -224,8 +225,23 @@ fn mpdu_length(middle: &[u8]) -> usize
     if m <= LENGTH_INDEX_IN_HEADER {
         return m;
     }
+    let marker = middle[0];
+    if marker == BEAM_MARKER {
+        return m;
+    }
     let l = middle[LENGTH_INDEX_IN_HEADER] as usize;
     if l <= m { l } else { m }
+}
+
+// The repetitions of a beam, if the middle bytes are one.
+fn beams_in(rate: u8, middle: &[u8]) -> Beams
+    requires { ⌜ 0 < length (now middle) ⌝ }
+    ensures { λ r. ⌜ r ≡ beamsIn rate (now (middle .entry)) ⌝ }
+{
+    if middle[0] == BEAM_MARKER {
+        return Beams::Count(beam_count(rate, middle));
+    }
+    Beams::NoBeam
 }
 
 // The frame of a body, given its parts.
@@ -237,35 +253,20 @@ pub fn frame_of(body: &[u8], parts: Parts) -> PtiFrame
     let at = start.0;
     let end = parts.end.0;
     let middle = &body[at..end];
+    let direction = parts.direction;
     let trailer = parts.trailer;
     let region = trailer.region;
     let channel = trailer.channel;
     let rate = speed_for(channel as usize, region as usize);
-    let rssi = signed(trailer.rssi);
-    let direction = parts.direction;
-    if middle[0] == BEAM_MARKER {
-        let beams = Beams::Count(beam_count(rate, middle));
-        return PtiFrame {
-            direction,
-            region,
-            channel,
-            rate,
-            rssi,
-            beams,
-            start,
-            length: middle.len(),
-        };
-    }
-    let length = mpdu_length(middle);
     PtiFrame {
         direction,
         region,
         channel,
         rate,
-        rssi,
-        beams: Beams::NoBeam,
+        rssi: signed(trailer.rssi),
+        beams: beams_in(rate, middle),
         start,
-        length,
+        length: mpdu_length(middle),
     }
 }
 

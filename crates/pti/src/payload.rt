@@ -133,9 +133,9 @@ pub fn parse_payload(payload: &[u8], table: &mut [u64]) -> Frames
         return Frames::Refused(Refusal::TooLong(payload.len()));
     }
     let needed = count_frames(payload);
-    if table.len() / WIDTH < needed {
-        return Frames::Refused(Refusal::MoreRows(needed));
+    if needed <= table.len() / WIDTH {
+        write_frames(payload, table);
+        return Frames::Rows(needed);
     }
-    write_frames(payload, table);
-    Frames::Rows(needed)
+    Frames::Refused(Refusal::MoreRows(needed))
 }

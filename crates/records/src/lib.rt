@@ -5,6 +5,9 @@ ghost use Prim.Native.Nat.{_<_, _+_, _^_};
 ghost use Rattle.records.specs.Records.{recordAt, countedOf, spanOf, PartOf};
 ghost use Rattle.records.specs.Steps.{Follows};
 
+// The most bytes that a payload may have.
+const LONGEST: usize = 65535;
+
 // A byte's place in a payload.
 pub struct PayloadOffset(pub usize);
 
@@ -92,8 +95,9 @@ pub fn next_body(payload: &[u8], at: usize) -> Next
 pub fn count_records(payload: &[u8]) -> Counted
     ensures { λ r. ⌜ r ≡ countedOf (now (payload .entry)) ⌝ }
 {
-    if 65535 < payload.len() {
-        return Counted::Refused(Refusal::TooLong(payload.len()));
+    let length = payload.len();
+    if LONGEST < length {
+        return Counted::Refused(Refusal::TooLong(length));
     }
     let mut count: usize = 0;
     let mut at: usize = 1;
@@ -110,7 +114,7 @@ pub fn count_records(payload: &[u8]) -> Counted
 pub fn record_body(payload: &[u8], k: usize) -> &[u8]
     ensures { λ r. ⌜ PartOf (payload .entry) r (spanOf (now (payload .entry)) k) ⌝ }
 {
-    if 65535 < payload.len() {
+    if LONGEST < payload.len() {
         return &payload[..0];
     }
     let mut left: usize = k;

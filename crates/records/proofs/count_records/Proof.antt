@@ -7,48 +7,38 @@ use Rattle.records.proofs.count_records.Statement.{statement}
 use Rattle.records.proofs.count_records.Tie as tie
 
 abbrev Inv-loop : tie.InvT-loop
-Inv-loop payload count₀ at₀ count at = Counting payload count at
+Inv-loop payload length₀ count₀ at₀ count at = Counting payload count at
 
 abbrev μ-loop : tie.MeasureT-loop
-μ-loop payload count₀ at₀ count at = length payload - at
+μ-loop payload length₀ count₀ at₀ count at = length payload - at
 
--- src/records.rt:96:9
 returns : tie.Need-returns Inv-loop μ-loop
 returns c = search (needs, laws)
 
--- src/records.rt:100:5
 loop-holds : tie.Need-loop-holds Inv-loop μ-loop
 loop-holds c = search (needs, laws)
 
--- src/records.rt:101:32
 next-body-requires : tie.Need-next-body-requires Inv-loop μ-loop
 next-body-requires c κs = search (needs, laws)
 
--- src/records.rt:101:24
 enum-known-span : tie.Need-enum-known-span Inv-loop μ-loop
 enum-known-span c = search (needs, laws)
 
--- src/records.rt:102:13
 enum-told : tie.Need-enum-told Inv-loop μ-loop
 enum-told c = search (needs, laws)
 
--- src/records.rt:102:13
 returns-2 : tie.Need-returns-2 Inv-loop μ-loop
 returns-2 c = search (needs, laws)
 
--- src/records.rt:104:9
 add-count : tie.Need-add-count Inv-loop μ-loop
 add-count c = search (needs, laws)
 
--- src/records.rt:105:14
 add-at : tie.Need-add-at Inv-loop μ-loop
 add-at c = search (needs, laws)
 
--- src/records.rt:100:5
 loop-less : tie.Need-loop-less Inv-loop μ-loop
 loop-less c = search (needs, laws)
 
--- src/records.rt:100:5
 loop-again : tie.Need-loop-again Inv-loop μ-loop
 loop-again c = search (needs, laws)
 

@@ -12,51 +12,39 @@ Inv-loop payload at place₀ place = Passing payload at place
 abbrev μ-loop : tie.MeasureT-loop
 μ-loop payload at place₀ place = length payload - place
 
--- src/records.rt:78:5
 loop-holds : tie.Need-loop-holds Inv-loop μ-loop
 loop-holds c = search (needs, laws)
 
--- src/records.rt:79:35
 record-at-requires : tie.Need-record-at-requires Inv-loop μ-loop
 record-at-requires c κs = search (needs, laws)
 
--- src/records.rt:79:30
 enum-known-n : tie.Need-enum-known-n Inv-loop μ-loop
 enum-known-n c = search (needs, laws)
 
--- src/records.rt:80:13
 enum-told : tie.Need-enum-told Inv-loop μ-loop
 enum-told c = search (needs, laws)
 
--- src/records.rt:80:13
 returns : tie.Need-returns Inv-loop μ-loop
 returns c = search (needs, laws)
 
--- src/records.rt:84:38
 add-t7 : tie.Need-add-t7 Inv-loop μ-loop
 add-t7 c = search (needs, laws)
 
--- src/records.rt:85:36
 add-t9 : tie.Need-add-t9 Inv-loop μ-loop
 add-t9 c = search (needs, laws)
 
--- src/records.rt:83:13
 returns-2 : tie.Need-returns-2 Inv-loop μ-loop
 returns-2 c = search (needs, laws)
 
--- src/records.rt:88:17
 add-place : tie.Need-add-place Inv-loop μ-loop
 add-place c = search (needs, laws)
 
--- src/records.rt:88:17
 add-place-2 : tie.Need-add-place-2 Inv-loop μ-loop
 add-place-2 c = search (needs, laws)
 
--- src/records.rt:78:5
 loop-less : tie.Need-loop-less Inv-loop μ-loop
 loop-less c = search (needs, laws)
 
--- src/records.rt:78:5
 loop-again : tie.Need-loop-again Inv-loop μ-loop
 loop-again c = search (needs, laws)
 

@@ -5,55 +5,42 @@ use native.Mathlib.Omega.{arith}
 use Rattle.records.proofs.record_at.Statement.{statement}
 use Rattle.records.proofs.record_at.Tie as tie
 
--- src/records.rt:53:9
 returns : tie.Need-returns
 returns c = search (needs, laws)
 
--- src/records.rt:56:9
 returns-2 : tie.Need-returns-2
 returns-2 c = search (needs, laws)
 
--- src/records.rt:58:18
 shared-slice-read-n : tie.Need-shared-slice-read-n
 shared-slice-read-n c = search (needs, laws)
 
--- src/records.rt:59:13
 cast-n : tie.Need-cast-n
 cast-n c = omega (arith, c .shared-slice-known .given (c .before .before .before .args .at))
 
--- src/records.rt:60:25
 add-if3 : tie.Need-add-if3
 add-if3 c = omega (arith, c .shared-slice-known .given (c .before .before .before .args .at))
 
--- src/records.rt:61:9
 returns-3 : tie.Need-returns-3
 returns-3 c = search (needs, laws)
 
--- src/records.rt:63:16
 sub-if4 : tie.Need-sub-if4
 sub-if4 c = search (needs, laws)
 
--- src/records.rt:63:8
 shared-slice-read-if4 : tie.Need-shared-slice-read-if4
 shared-slice-read-if4 c = search (needs, laws)
 
--- src/records.rt:64:9
 returns-4 : tie.Need-returns-4
 returns-4 c = search (needs, laws)
 
--- src/records.rt:66:16
 add-if5 : tie.Need-add-if5
 add-if5 c = search (needs, laws)
 
--- src/records.rt:66:8
 shared-slice-read-if5 : tie.Need-shared-slice-read-if5
 shared-slice-read-if5 c = search (needs, laws)
 
--- src/records.rt:67:9
 returns-5 : tie.Need-returns-5
 returns-5 c = search (needs, laws)
 
--- src/records.rt:48:1
 returns-6 : tie.Need-returns-6
 returns-6 c = search (needs, laws)
 

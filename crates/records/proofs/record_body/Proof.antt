@@ -14,69 +14,53 @@ Inv-loop payload k left₀ at₀ left at = Seeking payload k left at
 abbrev μ-loop : tie.MeasureT-loop
 μ-loop payload k left₀ at₀ left at = length payload - at
 
--- src/records.rt:114:9
 slice-aggregate-result : tie.Need-slice-aggregate-result Inv-loop μ-loop
 slice-aggregate-result c = search (needs, laws)
 
--- src/records.rt:114:9
 returns : tie.Need-returns Inv-loop μ-loop
 returns c = shown _ _ 0 0 _ (search (needs, laws)) refl (omega arith) refl
 
--- src/records.rt:118:5
 loop-holds : tie.Need-loop-holds Inv-loop μ-loop
 loop-holds c = search (needs, laws)
 
--- src/records.rt:119:32
 next-body-requires : tie.Need-next-body-requires Inv-loop μ-loop
 next-body-requires c κs = search (needs, laws)
 
--- src/records.rt:119:24
 enum-known-span : tie.Need-enum-known-span Inv-loop μ-loop
 enum-known-span c = search (needs, laws)
 
--- src/records.rt:120:20
 enum-told : tie.Need-enum-told Inv-loop μ-loop
 enum-told c = search (needs, laws)
 
--- src/records.rt:120:13
 slice-aggregate-result-2 : tie.Need-slice-aggregate-result-2 Inv-loop μ-loop
 slice-aggregate-result-2 c = search (needs, laws)
 
--- src/records.rt:120:13
 returns-2 : tie.Need-returns-2 Inv-loop μ-loop
 returns-2 c = shown _ _ 0 0 _ (search (needs, laws)) refl (omega arith) refl
 
--- src/records.rt:125:20
 sub-result : tie.Need-sub-result Inv-loop μ-loop
 sub-result c = search (needs, laws)
 
--- src/records.rt:125:20
 part-result-start : tie.Need-part-result-start Inv-loop μ-loop
 part-result-start c = search (needs, laws)
 
--- src/records.rt:125:20
 part-result-end : tie.Need-part-result-end Inv-loop μ-loop
 part-result-end c = search (needs, laws)
 
--- src/records.rt:125:13
 returns-3 : tie.Need-returns-3 Inv-loop μ-loop
 returns-3 c =
     let b = c .before .before .before .span .given .0 .0 in
     shown _ _ (b .start .0) (b .end .0 - b .start .0) _ (search (needs, laws)) refl (omega arith) refl
 
--- src/records.rt:127:9
 sub-left : tie.Need-sub-left Inv-loop μ-loop
 sub-left c = search (needs, laws)
 
--- src/records.rt:128:14
 add-at : tie.Need-add-at Inv-loop μ-loop
 add-at c = search (needs, laws)
 
--- src/records.rt:118:5
 loop-less : tie.Need-loop-less Inv-loop μ-loop
 loop-less c = search (needs, laws)
 
--- src/records.rt:118:5
 loop-again : tie.Need-loop-again Inv-loop μ-loop
 loop-again c = search (needs, laws)
 

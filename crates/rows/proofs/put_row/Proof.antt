@@ -12,59 +12,45 @@ Inv-loop table₀ at row i₀ table i = Putting table₀ table row at i
 abbrev μ-loop : tie.MeasureT-loop
 μ-loop table₀ at row i₀ table i = length row - i
 
--- src/lib.rt:11:9
 returns : tie.Need-returns Inv-loop μ-loop
 returns c = search (needs, laws)
 
--- src/lib.rt:13:8
 sub-if2 : tie.Need-sub-if2 Inv-loop μ-loop
 sub-if2 c = search (needs, laws)
 
--- src/lib.rt:14:9
 returns-2 : tie.Need-returns-2 Inv-loop μ-loop
 returns-2 c = search (needs, laws)
 
--- src/lib.rt:17:5
 loop-holds : tie.Need-loop-holds Inv-loop μ-loop
 loop-holds c = search (needs, laws)
 
--- src/lib.rt:18:25
 mul-table : tie.Need-mul-table Inv-loop μ-loop
 mul-table c = search (needs, laws)
 
--- src/lib.rt:18:25
 shared-slice-read-table : tie.Need-shared-slice-read-table Inv-loop μ-loop
 shared-slice-read-table c = search (needs, laws)
 
--- src/lib.rt:18:15
 add-table : tie.Need-add-table Inv-loop μ-loop
 add-table c = search (needs, laws)
 
--- src/lib.rt:18:9
 mul-table-2 : tie.Need-mul-table-2 Inv-loop μ-loop
 mul-table-2 c = search (needs, laws)
 
--- src/lib.rt:18:9
 slice-write-table : tie.Need-slice-write-table Inv-loop μ-loop
 slice-write-table c = search (needs, laws)
 
--- src/lib.rt:19:9
 add-i : tie.Need-add-i Inv-loop μ-loop
 add-i c = search (needs, laws)
 
--- src/lib.rt:17:5
 loop-less : tie.Need-loop-less Inv-loop μ-loop
 loop-less c = search (needs, laws)
 
--- src/lib.rt:17:5
 loop-again : tie.Need-loop-again Inv-loop μ-loop
 loop-again c = search (needs, laws)
 
--- src/lib.rt:7:1
 same-length : tie.Need-same-length Inv-loop μ-loop
 same-length c = search (needs, laws)
 
--- src/lib.rt:7:1
 returns-3 : tie.Need-returns-3 Inv-loop μ-loop
 returns-3 c = search (needs, laws)
 

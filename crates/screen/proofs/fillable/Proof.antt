@@ -4,15 +4,12 @@ use Rattle.screen.proofs.Laws.{laws}
 use Rattle.screen.proofs.fillable.Statement.{statement}
 use Rattle.screen.proofs.fillable.Tie as tie
 
--- src/screen.rt:56:9
 returns : tie.Need-returns
 returns c = search (needs, laws)
 
--- src/screen.rt:59:9
 returns-2 : tie.Need-returns-2
 returns-2 c = search (needs, laws)
 
--- src/screen.rt:52:1
 returns-3 : tie.Need-returns-3
 returns-3 c = search (needs, laws)
 

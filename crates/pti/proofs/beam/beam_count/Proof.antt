@@ -13,47 +13,36 @@ Inv-loop rate middle width count₀ at₀ count at = Beaming middle width count 
 abbrev μ-loop : tie.MeasureT-loop
 μ-loop rate middle width count₀ at₀ count at = length middle - at
 
--- src/beam.rt:56:9
 beam-width-requires : tie.Need-beam-width-requires Inv-loop μ-loop
 beam-width-requires c κs = search (needs, laws)
 
--- src/beam.rt:59:5
 loop-holds : tie.Need-loop-holds Inv-loop μ-loop
 loop-holds c = search (needs, laws)
 
--- src/beam.rt:60:12
 repeats-at-requires : tie.Need-repeats-at-requires Inv-loop μ-loop
 repeats-at-requires c κs = search (needs, laws)
 
--- src/beam.rt:61:13
 add-count : tie.Need-add-count Inv-loop μ-loop
 add-count c = search (needs, laws)
 
--- src/beam.rt:62:13
 add-at : tie.Need-add-at Inv-loop μ-loop
 add-at c = search (needs, laws)
 
--- src/beam.rt:59:5
 loop-less : tie.Need-loop-less Inv-loop μ-loop
 loop-less c = search (needs, laws)
 
--- src/beam.rt:59:5
 loop-again : tie.Need-loop-again Inv-loop μ-loop
 loop-again c = search (needs, laws)
 
--- src/beam.rt:65:9
 add-at-2 : tie.Need-add-at-2 Inv-loop μ-loop
 add-at-2 c = search (needs, laws)
 
--- src/beam.rt:59:5
 loop-less-2 : tie.Need-loop-less-2 Inv-loop μ-loop
 loop-less-2 c = search (needs, laws)
 
--- src/beam.rt:59:5
 loop-again-2 : tie.Need-loop-again-2 Inv-loop μ-loop
 loop-again-2 c = search (needs, laws)
 
--- src/beam.rt:53:1
 returns : tie.Need-returns Inv-loop μ-loop
 returns c = search (needs, laws)
 

@@ -4,19 +4,15 @@ use borrow.Author.Needs.{needs}
 use Rattle.pti.proofs.beam.beam_width.Statement.{statement}
 use Rattle.pti.proofs.beam.beam_width.Tie as tie
 
--- src/beam.rt:25:9
 smaller-requires : tie.Need-smaller-requires
 smaller-requires c κs = search (needs, laws)
 
--- src/beam.rt:25:9
 returns : tie.Need-returns
 returns c = search (needs, laws)
 
--- src/beam.rt:27:5
 smaller-requires-2 : tie.Need-smaller-requires-2
 smaller-requires-2 c κs = search (needs, laws)
 
--- src/beam.rt:20:1
 returns-2 : tie.Need-returns-2
 returns-2 c = search (needs, laws)
 

@@ -12,55 +12,42 @@ Inv-loop middle at width i₀ i = Same middle at width i
 abbrev μ-loop : tie.MeasureT-loop
 μ-loop middle at width i₀ i = width - i
 
--- src/beam.rt:26:8
 shared-slice-read-if1 : tie.Need-shared-slice-read-if1 Inv-loop μ-loop
 shared-slice-read-if1 c = search (needs, laws)
 
--- src/beam.rt:27:9
 returns : tie.Need-returns Inv-loop μ-loop
 returns c = search (needs, laws)
 
--- src/beam.rt:29:8
 sub-if2 : tie.Need-sub-if2 Inv-loop μ-loop
 sub-if2 c = search (needs, laws)
 
--- src/beam.rt:30:9
 returns-2 : tie.Need-returns-2 Inv-loop μ-loop
 returns-2 c = search (needs, laws)
 
--- src/beam.rt:33:5
 loop-holds : tie.Need-loop-holds Inv-loop μ-loop
 loop-holds c = search (needs, laws)
 
--- src/beam.rt:34:12
 shared-slice-read-if3 : tie.Need-shared-slice-read-if3 Inv-loop μ-loop
 shared-slice-read-if3 c = search (needs, laws)
 
--- src/beam.rt:34:32
 add-if3 : tie.Need-add-if3 Inv-loop μ-loop
 add-if3 c = search (needs, laws)
 
--- src/beam.rt:34:25
 shared-slice-read-if3-2 : tie.Need-shared-slice-read-if3-2 Inv-loop μ-loop
 shared-slice-read-if3-2 c = search (needs, laws)
 
--- src/beam.rt:35:13
 returns-3 : tie.Need-returns-3 Inv-loop μ-loop
 returns-3 c = search (needs, laws)
 
--- src/beam.rt:37:9
 add-i : tie.Need-add-i Inv-loop μ-loop
 add-i c = search (needs, laws)
 
--- src/beam.rt:33:5
 loop-less : tie.Need-loop-less Inv-loop μ-loop
 loop-less c = search (needs, laws)
 
--- src/beam.rt:33:5
 loop-again : tie.Need-loop-again Inv-loop μ-loop
 loop-again c = search (needs, laws)
 
--- src/beam.rt:22:1
 returns-4 : tie.Need-returns-4 Inv-loop μ-loop
 returns-4 c = search (needs, laws)
 

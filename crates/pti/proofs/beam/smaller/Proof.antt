@@ -4,11 +4,9 @@ use Rattle.pti.proofs.Laws.{laws}
 use Rattle.pti.proofs.beam.smaller.Statement.{statement}
 use Rattle.pti.proofs.beam.smaller.Tie as tie
 
--- src/beam.rt:12:1
 returns : tie.Need-returns
 returns c = search (needs, laws)
 
--- src/beam.rt:12:1
 returns-2 : tie.Need-returns-2
 returns-2 c = search (needs, laws)
 

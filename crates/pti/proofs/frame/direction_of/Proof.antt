@@ -4,11 +4,9 @@ use Rattle.pti.proofs.Laws.{laws}
 use Rattle.pti.proofs.frame.direction_of.Statement.{statement}
 use Rattle.pti.proofs.frame.direction_of.Tie as tie
 
--- src/frame.rt:118:9
 returns : tie.Need-returns
 returns c = search (needs, laws)
 
--- src/frame.rt:114:1
 returns-2 : tie.Need-returns-2
 returns-2 c = search (needs, laws)
 

@@ -4,15 +4,12 @@ use Rattle.pti.proofs.Laws.{laws}
 use Rattle.pti.proofs.frame.header_length.Statement.{statement}
 use Rattle.pti.proofs.frame.header_length.Tie as tie
 
--- src/frame.rt:95:9
 returns : tie.Need-returns
 returns c = search (needs, laws)
 
--- src/frame.rt:98:9
 returns-2 : tie.Need-returns-2
 returns-2 c = search (needs, laws)
 
--- src/frame.rt:90:1
 returns-3 : tie.Need-returns-3
 returns-3 c = search (needs, laws)
 

@@ -4,55 +4,42 @@ use borrow.Author.Needs.{needs}
 use Rattle.pti.proofs.frame.lay_out.Statement.{statement}
 use Rattle.pti.proofs.frame.lay_out.Tie as tie
 
--- src/frame.rt:177:9
 returns : tie.Need-returns
 returns c = search (needs, laws)
 
--- src/frame.rt:179:32
 shared-slice-read-header-length : tie.Need-shared-slice-read-header-length
 shared-slice-read-header-length c = search (needs, laws)
 
--- src/frame.rt:179:9
 header-length-requires : tie.Need-header-length-requires
 header-length-requires c κs = search (needs, laws)
 
--- src/frame.rt:181:9
 returns-2 : tie.Need-returns-2
 returns-2 c = search (needs, laws)
 
--- src/frame.rt:184:9
 returns-3 : tie.Need-returns-3
 returns-3 c = search (needs, laws)
 
--- src/frame.rt:186:39
 sub-trailer-length : tie.Need-sub-trailer-length
 sub-trailer-length c = search (needs, laws)
 
--- src/frame.rt:186:34
 shared-slice-read-trailer-length : tie.Need-shared-slice-read-trailer-length
 shared-slice-read-trailer-length c = search (needs, laws)
 
--- src/frame.rt:186:9
 trailer-length-requires : tie.Need-trailer-length-requires
 trailer-length-requires c κs = search (needs, laws)
 
--- src/frame.rt:188:9
 returns-4 : tie.Need-returns-4
 returns-4 c = search (needs, laws)
 
--- src/frame.rt:190:22
 add-if5 : tie.Need-add-if5
 add-if5 c = search (needs, laws)
 
--- src/frame.rt:191:9
 returns-5 : tie.Need-returns-5
 returns-5 c = search (needs, laws)
 
--- src/frame.rt:193:52
 sub-t9 : tie.Need-sub-t9
 sub-t9 c = search (needs, laws)
 
--- src/frame.rt:173:1
 returns-6 : tie.Need-returns-6
 returns-6 c = search (needs, laws)
 

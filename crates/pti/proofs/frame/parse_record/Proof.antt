@@ -4,31 +4,24 @@ use borrow.Author.Needs.{needs}
 use Rattle.pti.proofs.frame.parse_record.Statement.{statement}
 use Rattle.pti.proofs.frame.parse_record.Tie as tie
 
--- src/frame.rt:290:9
 returns : tie.Need-returns
 returns c = search (needs, laws)
 
--- src/frame.rt:292:30
 split-body-requires : tie.Need-split-body-requires
 split-body-requires c κs = search (needs, laws)
 
--- src/frame.rt:292:21
 enum-known-parts : tie.Need-enum-known-parts
 enum-known-parts c = search (needs, laws)
 
--- src/frame.rt:293:32
 enum-told : tie.Need-enum-told
 enum-told c = search (needs, laws)
 
--- src/frame.rt:293:9
 returns-2 : tie.Need-returns-2
 returns-2 c = search (needs, laws)
 
--- src/frame.rt:295:19
 frame-of-requires : tie.Need-frame-of-requires
 frame-of-requires c κs = search (needs, laws)
 
--- src/frame.rt:286:1
 returns-3 : tie.Need-returns-3
 returns-3 c = search (needs, laws)
 

@@ -4,55 +4,42 @@ use borrow.Author.Needs.{needs}
 use Rattle.pti.proofs.frame.read_trailer.Statement.{statement}
 use Rattle.pti.proofs.frame.read_trailer.Tie as tie
 
--- src/frame.rt:140:18
 enum-told : tie.Need-enum-told
 enum-told c = search (needs, laws)
 
--- src/frame.rt:140:18
 shared-slice-read-t5 : tie.Need-shared-slice-read-t5
 shared-slice-read-t5 c = search (needs, laws)
 
--- src/frame.rt:141:19
 shared-slice-read-t7 : tie.Need-shared-slice-read-t7
 shared-slice-read-t7 c = search (needs, laws)
 
--- src/frame.rt:142:21
 shared-slice-read-t9 : tie.Need-shared-slice-read-t9
 shared-slice-read-t9 c = search (needs, laws)
 
--- src/frame.rt:143:22
 shared-slice-read-t12 : tie.Need-shared-slice-read-t12
 shared-slice-read-t12 c = search (needs, laws)
 
--- src/frame.rt:144:23
 shared-slice-read-t15 : tie.Need-shared-slice-read-t15
 shared-slice-read-t15 c = search (needs, laws)
 
--- src/frame.rt:147:18
 enum-told-2 : tie.Need-enum-told-2
 enum-told-2 c = search (needs, laws)
 
--- src/frame.rt:147:18
 shared-slice-read-t18 : tie.Need-shared-slice-read-t18
 shared-slice-read-t18 c = search (needs, laws)
 
--- src/frame.rt:149:21
 shared-slice-read-t20 : tie.Need-shared-slice-read-t20
 shared-slice-read-t20 c = search (needs, laws)
 
--- src/frame.rt:150:22
 shared-slice-read-t23 : tie.Need-shared-slice-read-t23
 shared-slice-read-t23 c = search (needs, laws)
 
--- src/frame.rt:151:23
 shared-slice-read-t26 : tie.Need-shared-slice-read-t26
 shared-slice-read-t26 c = search (needs, laws)
 
--- src/frame.rt:134:1
 returns : tie.Need-returns
 returns c = search (needs, laws)
 
--- src/frame.rt:134:1
 returns-2 : tie.Need-returns-2
 returns-2 c = search (needs, laws)
 

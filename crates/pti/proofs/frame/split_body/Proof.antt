@@ -4,63 +4,48 @@ use borrow.Author.Needs.{needs}
 use Rattle.pti.proofs.frame.split_body.Statement.{statement}
 use Rattle.pti.proofs.frame.split_body.Tie as tie
 
--- src/frame.rt:200:40
 lay-out-requires : tie.Need-lay-out-requires
 lay-out-requires c κs = search (needs, laws)
 
--- src/frame.rt:200:25
 enum-known-middle : tie.Need-enum-known-middle
 enum-known-middle c = search (needs, laws)
 
--- src/frame.rt:201:9
 enum-told : tie.Need-enum-told
 enum-told c = search (needs, laws)
 
--- src/frame.rt:201:9
 returns : tie.Need-returns
 returns c = search (needs, laws)
 
--- src/frame.rt:205:39
 sub-direction-of : tie.Need-sub-direction-of
 sub-direction-of c = search (needs, laws)
 
--- src/frame.rt:205:34
 shared-slice-read-direction-of : tie.Need-shared-slice-read-direction-of
 shared-slice-read-direction-of c = search (needs, laws)
 
--- src/frame.rt:205:9
 direction-of-requires : tie.Need-direction-of-requires
 direction-of-requires c κs = search (needs, laws)
 
--- src/frame.rt:206:43
 sub-read-trailer : tie.Need-sub-read-trailer
 sub-read-trailer c = search (needs, laws)
 
--- src/frame.rt:206:43
 part-read-trailer-start : tie.Need-part-read-trailer-start
 part-read-trailer-start c = search (needs, laws)
 
--- src/frame.rt:206:43
 part-read-trailer-end : tie.Need-part-read-trailer-end
 part-read-trailer-end c = search (needs, laws)
 
--- src/frame.rt:206:9
 read-trailer-requires : tie.Need-read-trailer-requires
 read-trailer-requires c κs = search (needs, laws)
 
--- src/frame.rt:207:28
 shared-slice-read-is-whole : tie.Need-shared-slice-read-is-whole
 shared-slice-read-is-whole c = search (needs, laws)
 
--- src/frame.rt:207:8
 is-whole-requires : tie.Need-is-whole-requires
 is-whole-requires c κs = search (needs, laws)
 
--- src/frame.rt:208:9
 returns-2 : tie.Need-returns-2
 returns-2 c = search (needs, laws)
 
--- src/frame.rt:197:1
 returns-3 : tie.Need-returns-3
 returns-3 c = search (needs, laws)
 

@@ -4,15 +4,12 @@ use Rattle.pti.proofs.Laws.{laws}
 use Rattle.pti.proofs.frame.trailer_length.Statement.{statement}
 use Rattle.pti.proofs.frame.trailer_length.Tie as tie
 
--- src/frame.rt:109:9
 returns : tie.Need-returns
 returns c = search (needs, laws)
 
--- src/frame.rt:112:9
 returns-2 : tie.Need-returns-2
 returns-2 c = search (needs, laws)
 
--- src/frame.rt:104:1
 returns-3 : tie.Need-returns-3
 returns-3 c = search (needs, laws)
 

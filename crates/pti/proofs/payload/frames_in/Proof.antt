@@ -4,22 +4,18 @@ use borrow.Author.Needs.{needs}
 use Rattle.pti.proofs.payload.frames_in.Statement.{statement}
 use Rattle.pti.proofs.payload.frames_in.Tie as tie
 
--- src/payload.rt:74:26
 split-body-requires : tie.Need-split-body-requires
 split-body-requires c κs = search (needs, laws)
 
 enum-told : tie.Need-enum-told
 enum-told c = search (needs, laws)
 
--- src/payload.rt:75:9
 enum-told-2 : tie.Need-enum-told-2
 enum-told-2 c = search (needs, laws)
 
--- src/payload.rt:75:9
 returns : tie.Need-returns
 returns c = search (needs, laws)
 
--- src/payload.rt:70:1
 returns-2 : tie.Need-returns-2
 returns-2 c = search (needs, laws)
 

@@ -4,23 +4,18 @@ use Rattle.pti.proofs.Laws.{laws}
 use Rattle.pti.proofs.rssi.byte_of.Statement.{statement}
 use Rattle.pti.proofs.rssi.byte_of.Tie as tie
 
--- src/rssi.rt:22:16
 cast-result : tie.Need-cast-result
 cast-result c = search (needs, laws)
 
--- src/rssi.rt:22:9
 sub-result : tie.Need-sub-result
 sub-result c = search (needs, laws)
 
--- src/rssi.rt:24:9
 cast-result-2 : tie.Need-cast-result-2
 cast-result-2 c = search (needs, laws)
 
--- src/rssi.rt:18:1
 returns : tie.Need-returns
 returns c = search (needs, laws)
 
--- src/rssi.rt:18:1
 returns-2 : tie.Need-returns-2
 returns-2 c = search (needs, laws)
 

@@ -4,23 +4,18 @@ use borrow.Author.Needs.{needs}
 use Rattle.pti.proofs.rssi.signed.Statement.{statement}
 use Rattle.pti.proofs.rssi.signed.Tie as tie
 
--- src/rssi.rt:11:9
 cast-result : tie.Need-cast-result
 cast-result c = search (needs, laws)
 
--- src/rssi.rt:13:12
 sub-result : tie.Need-sub-result
 sub-result c = search (needs, laws)
 
--- src/rssi.rt:13:11
 cast-result-2 : tie.Need-cast-result-2
 cast-result-2 c = search (needs, laws)
 
--- src/rssi.rt:7:1
 returns : tie.Need-returns
 returns c = search (needs, laws)
 
--- src/rssi.rt:7:1
 returns-2 : tie.Need-returns-2
 returns-2 c = search (needs, laws)
 

@@ -5,27 +5,21 @@ use borrow.Author.Needs.{needs}
 use Rattle.pti.proofs.speed.speed_for.Statement.{statement}
 use Rattle.pti.proofs.speed.speed_for.Tie as tie
 
--- src/speed.rt:542:9
 returns : tie.Need-returns
 returns c = search (needs, laws)
 
--- src/speed.rt:545:9
 returns-2 : tie.Need-returns-2
 returns-2 c = search (needs, laws)
 
--- src/speed.rt:547:11
 mul-result : tie.Need-mul-result
 mul-result c = search (needs, laws)
 
--- src/speed.rt:547:11
 add-result : tie.Need-add-result
 add-result c = search (needs, laws)
 
--- src/speed.rt:547:5
 array-read-result : tie.Need-array-read-result
 array-read-result c = search (needs, laws)
 
--- src/speed.rt:538:1
 returns-3 : tie.Need-returns-3
 unfolding rates
 returns-3 c = at-pair (c .before .before .args .channel) (c .before .before .args .region) (search needs) (search needs)
