@@ -1,10 +1,9 @@
 -- Document 01, "Examples": the starred ones, proved together under one claim, over the definitions that the contracts cite.
 use mathlib.Core.Path.{_≡_, refl}
-use mathlib.Core.List.{List, [], _∷_}
-use Prim.Native.Nat.{ℕ}
+use mathlib.Core.List.{[], _∷_}
 use Rattle.records.specs.Records.{bodies, bodiesFrom}
-use Rattle.pti.specs.Speed.{rateOf}
-use Rattle.pti.specs.Beam.{beamsOf}
+use Rattle.radio.specs.Speed.{rateOf}
+use Rattle.radio.specs.Beam.{beamsOf}
 
 pub record Starred : Type 0 where
   -- "5B 02 00 5D: no body. The same with 00 after it: one empty body."

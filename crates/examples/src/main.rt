@@ -1,8 +1,8 @@
 // Document 01, "Examples": the starred ones are proved (specs/Examples.antt); all of them are run here, and what is written is held to the
 // file `stdout`.
+use frame::Parsed;
 use pti::beam_count;
 use pti::count_records;
-use pti::frame::Parsed;
 use pti::parse_record;
 use pti::record_body;
 use pti::speed_for;

@@ -2,12 +2,11 @@
 use mathlib.Core.Path.{_≡_, refl, ap, _∙_}
 use mathlib.Core.List.{List}
 use Prim.Native.Nat.{ℕ}
-use lib.ListN.{length}
 use Rattle.refusal.specs.declared.Refusal.{Refusal}
 use Rattle.refusal.specs.Refusal.{numberOf, carriedBy}
 use Rattle.pti.specs.declared.payload.Frames.{Frames}
 use Rattle.pti.specs.declared.payload.Frames.the-variants.{Rows, Refused}
-use Rattle.pti.specs.Payload.{framesOf, tableAfter, Parses}
+use Rattle.pti.specs.Payload.{Parses}
 use Rattle.libtap.specs.declared.TapAnswer.{TapAnswer}
 use Rattle.libtap.specs.Answers.{told, Told}
 

@@ -1,5 +1,2 @@
-pub mod Speed
-pub mod Beam
-pub mod Frame
 pub mod Payload
 pub mod Steps

@@ -9,15 +9,15 @@ use mir.Syntax.{w8}
 use mir.Val.{ofZ}
 use Rattle.refusal.specs.declared.Refusal.the-variants.{TooLong, MoreRows}
 use Rattle.rows.specs.Rows.{laid}
-use Rattle.pti.specs.declared.frame.Direction.{Direction}
-use Rattle.pti.specs.declared.frame.Direction.the-variants.{Rx, Tx}
-use Rattle.pti.specs.declared.frame.Beams.{Beams}
-use Rattle.pti.specs.declared.frame.Beams.the-variants.{Count, NoBeam}
-use Rattle.pti.specs.declared.frame.PtiFrame.{PtiFrame}
+use Rattle.frame.specs.declared.Direction.{Direction}
+use Rattle.frame.specs.declared.Direction.the-variants.{Rx, Tx}
+use Rattle.frame.specs.declared.Beams.{Beams}
+use Rattle.frame.specs.declared.Beams.the-variants.{Count, NoBeam}
+use Rattle.frame.specs.declared.PtiFrame.{PtiFrame}
 use Rattle.pti.specs.declared.payload.Frames.{Frames}
 use Rattle.pti.specs.declared.payload.Frames.the-variants.{Rows, Refused}
 use Rattle.records.specs.Records.{bodies, bytesOf}
-use Rattle.pti.specs.Frame.{isFrame, frameOf}
+use Rattle.frame.specs.Frame.{isFrame, frameOf}
 
 -- direction 0 is Rx, 1 is Tx
 abbrev pub directionNumber : Direction → ℕ

@@ -1,11 +1,11 @@
 // Every frame of a payload, as rows of a lent table: eight numbers a row.
-use crate::frame::Beams;
-use crate::frame::Direction;
-use crate::frame::PtiFrame;
-use crate::frame::Split;
-use crate::frame::frame_of;
-use crate::frame::split_body;
-use crate::rssi::byte_of;
+use frame::Beams;
+use frame::Direction;
+use frame::PtiFrame;
+use frame::Split;
+use frame::frame_of;
+use frame::split_body;
+use radio::rssi::byte_of;
 use records::Next;
 use records::PayloadOffset;
 use records::next_body;
@@ -15,7 +15,7 @@ ghost use mathlib.Core.Path.{_≡_};
 ghost use mathlib.Core.Bool.{cond};
 ghost use Prim.Native.Nat.{_+_, _*_, _^_, _≤_, _<_};
 ghost use lib.ListN.{length};
-ghost use Rattle.pti.specs.Frame.{isFrame};
+ghost use Rattle.frame.specs.Frame.{isFrame};
 ghost use Rattle.pti.specs.Payload.{directionNumber, beamsNumber, rowOf, rowsOf, Parses};
 ghost use Rattle.pti.specs.Steps.{Writes};
 ghost use Rattle.rows.specs.Rows.{laid};

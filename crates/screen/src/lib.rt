@@ -1,5 +1,5 @@
 // The frame table handed to the screen: a row of frame records, filled from the flat rows of `parse_payload`.
-use pti::rssi::signed;
+use radio::rssi::signed;
 ghost use mathlib.Core.Path.{_≡_};
 ghost use Prim.Native.Nat.{_≤_, _+_, _*_};
 ghost use lib.ListN.{drop, length};

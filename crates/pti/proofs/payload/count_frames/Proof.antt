@@ -2,8 +2,7 @@
 use borrow.Author.Needs.{needs}
 use Prim.Native.Nat.{_-_}
 use lib.ListN.{length}
-use Rattle.pti.proofs.Laws.{laws}
-use Rattle.pti.proofs.PayloadLaws.{Tallying}
+use Rattle.pti.proofs.Laws.{Tallying, laws}
 use Rattle.pti.proofs.payload.count_frames.Statement.{statement}
 use Rattle.pti.proofs.payload.count_frames.Tie as tie
 

@@ -2,8 +2,7 @@
 use borrow.Author.Needs.{needs}
 use Prim.Native.Nat.{_-_}
 use lib.ListN.{length}
-use Rattle.pti.proofs.Laws.{laws}
-use Rattle.pti.proofs.PayloadLaws.{Writing}
+use Rattle.pti.proofs.Laws.{Writing, laws}
 use Rattle.pti.proofs.payload.write_frames.Statement.{statement}
 use Rattle.pti.proofs.payload.write_frames.Tie as tie
 

@@ -1,0 +1,253 @@
+-- Laws of the frame in a record's body. Assumes nothing.
+use mathlib.Core.Path.{_≡_, refl, sym, ap, _∙_}
+use mathlib.Core.Bool.{Bool, true, false, cond, not, and-false}
+use mathlib.Core.List.{List, [], _∷_}
+use Prim.Native.Nat.{ℕ, _+_, _-_, _%_, _^_, _≤_, _<_}
+use mir.Syntax.{w8}
+use mir.Val.{toZ, ofZ, hbits}
+use mir.Facts.{toZ-ofZ}
+use lib.IntN.{ℤ}
+use lib.Signed.{mag}
+use native.Mathlib.Omega.{arith}
+use lib.Dec.{eqb}
+use lib.ListN.{length, getD, take, drop, length-take, length-drop}
+use lib.Seq.{getD-take, getD-drop}
+use borrow.Author.Tests.{le-leb, lt-leb, lt-ltb, le-ltb, eq-eqb, ne-eqb, eqb-false, not-true, ltb-true}
+use Rattle.frame.specs.declared.Direction.{Direction}
+use Rattle.frame.specs.declared.Direction.the-variants.{Rx, Tx}
+use Rattle.frame.specs.declared.Trailer.{Trailer}
+use Rattle.frame.specs.declared.Layout.{Layout}
+use Rattle.frame.specs.declared.Layout.the-variants.{Between, Nothing as NoLayout}
+use Rattle.records.specs.declared.BodyOffset.{BodyOffset}
+use Rattle.frame.specs.declared.Parts.{Parts}
+use Rattle.frame.specs.declared.Split.{Split}
+use Rattle.frame.specs.declared.Split.the-variants.{Into, Nothing as NoSplit}
+use Rattle.laws.proofs.Bools.{and-left, and-right}
+use Rattle.laws.proofs.Lists.{tail}
+use Rattle.frame.specs.Frame.{headerOf, trailerOf, directionOf, successOf, fieldsOf, header, start, trailer, between, middle, fields, holds, isFrame, mpduOf, beamsIn, framed, frameOf, parsedOf}
+use Rattle.frame.specs.Steps.{layoutOf, partsOf, splitOf, PartsIn}
+use Rattle.refusal.specs.declared.Refusal.the-variants.{TooLong, NotAFrame}
+use Rattle.frame.specs.declared.PtiFrame.{PtiFrame}
+use Rattle.frame.specs.declared.Parsed.the-variants.{Frame, Refused}
+use Rattle.radio.specs.Speed.{rateOf}
+use Rattle.radio.specs.Beam.{beamsOf}
+use Rattle.frame.specs.declared.Beams.{Beams}
+use Rattle.frame.specs.declared.Beams.the-variants.{Count, NoBeam}
+
+-- ---- a choice by number
+module _ {A : Type 0} (x a : ℕ) (p : A) where
+  pub pick-first : (r : A) → x ≡ a → p ≡ cond (eqb x a) p r
+  pick-first r e = rw (eq-eqb x a e) refl
+
+  module _ (differs : x ≡ a → ⊥) where
+    pub pick-rest : (r : A) → r ≡ cond (eqb x a) p r
+    pick-rest r = rw (ne-eqb x a differs) refl
+
+    module _ (b : ℕ) (q : A) (r : A) where
+      pub pick-second : x ≡ b → q ≡ cond (eqb x a) p (cond (eqb x b) q r)
+      pick-second e = rw (ne-eqb x a differs, eq-eqb x b e) refl
+
+      pub pick-none : (x ≡ b → ⊥) → r ≡ cond (eqb x a) p (cond (eqb x b) q r)
+      pick-none h = rw (ne-eqb x a differs, ne-eqb x b h) refl
+
+-- ---- the trailer
+pub fields-rx : (d : Direction) (t : List ℕ) → d ≡ Rx
+    → record { tag = getD t 0 0; rssi = getD t 1 0; region = getD t 2 0 % 16; channel = getD t 3 0 % 16; protocol = getD t 4 0 % 16 } ≡ fieldsOf d t
+fields-rx d t e = rw e refl
+
+pub fields-tx : (d : Direction) (t : List ℕ) → d ≡ Tx
+    → record { tag = getD t 0 0; rssi = 0; region = getD t 1 0 % 16; channel = getD t 2 0 % 16; protocol = getD t 3 0 % 16 } ≡ fieldsOf d t
+fields-tx d t e = rw e refl
+
+module _ (d : Direction) (first : ℕ) (t : Trailer) where
+  pub other-protocol : (t .protocol ≡ 6 → ⊥) → false ≡ holds d (eqb first 0x55) t
+  other-protocol h = rw (ne-eqb (t .protocol) 6 h) refl
+
+  pub holds-beam : t .protocol ≡ 6 → first ≡ 0x55 → true ≡ holds d (eqb first 0x55) t
+  holds-beam h e = rw (eq-eqb (t .protocol) 6 h, eq-eqb first 0x55 e) refl
+
+  pub holds-tag : (tag : ℕ) (r : Bool) → t .protocol ≡ 6 → (first ≡ 0x55 → ⊥) → tag ≡ successOf d → r ≡ eqb (t .tag) tag → r ≡ holds d (eqb first 0x55) t
+  holds-tag tag r h e is-tag is-r = rw (eq-eqb (t .protocol) 6 h, ne-eqb first 0x55 e, ← is-tag) is-r
+
+-- ---- where the middle bytes lie
+pub laid-none : (b : List ℕ) → length b ≡ 0 → NoLayout ≡ layoutOf b
+laid-none [] e = refl
+laid-none (x ∷ xs) e = absurd (omega arith)
+
+module _ (b : List ℕ) (h : ℕ) (is-h : h ≡ headerOf (getD b 0 0)) where
+  pub laid-version : h ≡ 0 → NoLayout ≡ layoutOf b
+  laid-version e = rw (← is-h, eq-eqb h 0 e) refl
+
+  pub laid-cut : length b < h → NoLayout ≡ layoutOf b
+  laid-cut short = rw (← is-h, le-ltb (h + trailerOf (getD b (h - 1) 0)) (length b) (omega arith), and-false, and-false) refl
+
+  module _ (t : ℕ) (is-t : t ≡ trailerOf (getD b (h - 1) 0)) where
+    pub laid-start : t ≡ 0 → NoLayout ≡ layoutOf b
+    laid-start e = rw (← is-h, ← is-t, eq-eqb t 0 e, and-false) refl
+
+    pub laid-short : length b ≤ h + t → NoLayout ≡ layoutOf b
+    laid-short short = rw (← is-h, ← is-t, le-ltb (h + t) (length b) short, and-false, and-false) refl
+
+    pub laid-out : (h ≡ 0 → ⊥) → (t ≡ 0 → ⊥) → h + t < length b → Between (record { 0 = h }) (record { 0 = length b - t }) ≡ layoutOf b
+    laid-out some-h some-t long = rw (← is-h, ← is-t, ne-eqb h 0 some-h, ne-eqb t 0 some-t, lt-ltb (h + t) (length b) long) refl
+
+-- what is known of a body whose middle bytes lie from m up to e
+laid-between : (t : Bool) (x y m e : BodyOffset) → cond t (Between x y) NoLayout ≡ Between m e → (t ≡ true) × ((x ≡ m) × (y ≡ e))
+laid-between true x y m e h = (refl, (cc, cc))
+laid-between false x y m e h = (cc, (cc, cc))
+
+laid-nowhere : (t : Bool) (x y : BodyOffset) → cond t (Between x y) NoLayout ≡ NoLayout → t ≡ false
+laid-nowhere true x y h = cc
+laid-nowhere false x y h = refl
+
+some-trailer : (start : ℕ) → not (eqb (trailerOf start) 0) ≡ true → 5 ≤ trailerOf start
+some-trailer start = go (eqb start 0xF8) (eqb start 0xFC)
+  where
+    go : (a b : Bool) → not (eqb (cond a 6 (cond b 5 0)) 0) ≡ true → 5 ≤ cond a 6 (cond b 5 0)
+    go true b h = omega arith
+    go false true h = omega arith
+    go false false h = let z : false ≡ true = h in absurd (let y : _≡_ {A = ℕ} 0 1 = cc in omega arith)
+
+roomy : (b : List ℕ) → between b ≡ true → (5 ≤ trailer b) × (header b + trailer b < length b)
+roomy b h =
+    let both = and-right (not (eqb (header b) 0)) _ h in (
+      some-trailer (start b) (and-left (not (eqb (trailer b) 0)) _ both),
+      ltb-true (header b + trailer b) (length b) (and-right (not (eqb (trailer b) 0)) _ both),
+    )
+
+pub split-nothing : (b : List ℕ) (l : Layout) → l ≡ layoutOf b → l ≡ NoLayout → NoSplit ≡ splitOf b
+split-nothing b l is-l e = rw (laid-nowhere (between b) (record { 0 = header b }) (record { 0 = length b - trailer b }) (sym is-l ∙ e)) refl
+
+module _ (b : List ℕ) (l : Layout) (m e : BodyOffset) (is-l : l ≡ layoutOf b) (lies : l ≡ Between m e) where
+  known : (between b ≡ true) × ((record { 0 = header b } ≡ m) × (record { 0 = length b - trailer b } ≡ e))
+  known = laid-between (between b) (record { 0 = header b }) (record { 0 = length b - trailer b }) m e (sym is-l ∙ lies)
+
+  is-m : header b ≡ m .0
+  is-m = ap (λ (x : BodyOffset). x .0) (known .1 .0)
+
+  is-e : length b - trailer b ≡ e .0
+  is-e = ap (λ (x : BodyOffset). x .0) (known .1 .1)
+
+  some-h : header b ≡ 0 → ⊥
+  some-h = eqb-false (header b) 0 (not-true (eqb (header b) 0) (and-left (not (eqb (header b) 0)) _ (known .0)))
+
+  room : (5 ≤ trailer b) × (header b + trailer b < length b)
+  room = roomy b (known .0)
+
+  pub middle-some : 1 ≤ m .0
+  middle-some = rw (← is-m) (omega (arith, some-h))
+
+  pub middle-inside : m .0 < length b
+  middle-inside = omega (arith, is-m, room .1)
+
+  pub start-inside : m .0 - 1 < length b
+  start-inside = omega (arith, is-m, room .1)
+
+  pub end-inside : e .0 ≤ length b
+  end-inside = omega (arith, is-e)
+
+  pub trailer-room : 5 ≤ length (take (length b - e .0) (drop (e .0) b))
+  trailer-room = rw (tail b (e .0), length-drop) (omega (arith, is-e, room .0, room .1))
+
+  module _ (d : Direction) (t : Trailer) (w : Bool) (is-d : d ≡ directionOf (getD b (m .0 - 1) 0)) (is-t : t ≡ fieldsOf d (take (length b - e .0) (drop (e .0) b)))
+      (is-w : w ≡ holds d (eqb (getD b (m .0) 0) 0x55) t) where
+    the-d : d ≡ directionOf (start b)
+    the-d = rw (← is-m) at is-d
+
+    the-t : t ≡ fields b
+    the-t =
+        let parts : t ≡ fieldsOf d (drop (length b - trailer b) b) = rw (tail b (e .0), ← is-e) at is-t in
+        rw the-d at parts
+
+    first-byte : getD b (m .0) 0 ≡ getD (middle b) 0 0
+    first-byte =
+        let n : 0 < length b - trailer b - header b = omega (arith, room .1) in
+        sym (getD-take (length b - trailer b - header b) (drop (header b) b) 0 0 n ∙ getD-drop (header b) b 0 0 ∙ ap (λ (k : ℕ). getD b k 0) (omega (arith, is-m)))
+
+    the-w : w ≡ isFrame b
+    the-w = rw (known .0) (is-w ∙ rw (first-byte, the-t, the-d) refl)
+
+    pub split-not : w ≡ false → NoSplit ≡ splitOf b
+    split-not none = rw (← the-w, none) refl
+
+    pub split-into : w ≡ true → Into (record { direction = d; middle = m; end = e; trailer = t }) ≡ splitOf b
+    split-into whole =
+        rw (← the-w, whole) (λ k. Into (record { direction = the-d k; middle = sym (known .1 .0) k; end = sym (known .1 .1) k; trailer = the-t k }))
+
+-- ---- the MPDU's length
+module _ (m : List ℕ) where
+  pub mpdu-few : length m ≤ 7 → length m ≡ mpduOf m
+  mpdu-few few = rw (le-ltb 7 (length m) few, and-false) refl
+
+  pub mpdu-beam : getD m 0 0 ≡ 0x55 → length m ≡ mpduOf m
+  mpdu-beam beam = rw (eq-eqb (getD m 0 0) 0x55 beam) refl
+
+  module _ (some : 7 < length m) (no-beam : getD m 0 0 ≡ 0x55 → ⊥) where
+    pub mpdu-declared : getD m 7 0 ≤ length m → getD m 7 0 ≡ mpduOf m
+    mpdu-declared fits = rw (ne-eqb (getD m 0 0) 0x55 no-beam, lt-ltb 7 (length m) some, le-leb (getD m 7 0) (length m) fits) refl
+
+    pub mpdu-all : length m < getD m 7 0 → length m ≡ mpduOf m
+    mpdu-all over = rw (ne-eqb (getD m 0 0) 0x55 no-beam, lt-ltb 7 (length m) some, lt-leb (getD m 7 0) (length m) over) refl
+
+-- ---- the beams
+module _ (rate : ℕ) (m : List ℕ) where
+  pub beams-some : (n : ℕ) → getD m 0 0 ≡ 0x55 → n ≡ beamsOf rate m → Count n ≡ beamsIn rate m
+  beams-some n beam is-n = rw (eq-eqb (getD m 0 0) 0x55 beam) (ap Count is-n)
+
+  pub beams-none : (getD m 0 0 ≡ 0x55 → ⊥) → NoBeam ≡ beamsIn rate m
+  beams-none none = rw (ne-eqb (getD m 0 0) 0x55 none) refl
+
+-- ---- the frame
+module _ (b : List ℕ) (p : Parts) (inside : PartsIn b p) where
+  abbrev mid : List ℕ
+  mid = take (p .end .0 - p .middle .0) (drop (p .middle .0) b)
+
+  pub middle-bytes : 0 < length mid
+  middle-bytes = rw length-take (rw length-drop (omega (arith, inside .some, inside .inside)))
+
+  pub frame-is : (rate l : ℕ) (rssi : ℤ) (beams : Beams) → rate ≡ rateOf (p .trailer .channel) (p .trailer .region) → rssi ≡ toZ w8 (p .trailer .rssi) → mag rssi < 2 ^ hbits w8 → beams ≡ beamsIn rate mid → l ≡ mpduOf mid
+      → record { direction = p .direction; region = p .trailer .region; channel = p .trailer .channel; rate = rate; rssi = toZ w8 (ofZ w8 rssi); beams = beams; start = p .middle; length = l } ≡ frameOf b
+  frame-is rate l rssi beams is-rate is-rssi ok is-beams is-l =
+      let read-back : toZ w8 (ofZ w8 rssi) ≡ toZ w8 (p .trailer .rssi) = toZ-ofZ {w = w8} {z = rssi} (record { sfits = ok }) ∙ is-rssi in
+      let whole : framed (p .direction) (p .trailer) (p .middle .0) mid ≡ frameOf b = rw (inside .parts) refl in
+      rw (is-beams, is-l, read-back, is-rate) whole
+
+-- ---- the answer
+split-parts : (t : Bool) (x p : Parts) → cond t (Into x) NoSplit ≡ Into p → (t ≡ true) × (p ≡ x)
+split-parts true x p h = (refl, cc)
+split-parts false x p h = (cc, cc)
+
+split-without : (t : Bool) (x : Parts) → cond t (Into x) NoSplit ≡ NoSplit → t ≡ false
+split-without true x h = cc
+split-without false x h = refl
+
+module _ (b : List ℕ) (r : Split) (is-r : r ≡ splitOf b) where
+  pub split-none : r ≡ NoSplit → isFrame b ≡ false
+  split-none e = split-without (isFrame b) (partsOf b) (sym is-r ∙ e)
+
+  pub split-frame : (p : Parts) → r ≡ Into p → isFrame b ≡ true
+  split-frame p e = split-parts (isFrame b) (partsOf b) p (sym is-r ∙ e) .0
+
+pub parsed-long : (b : List ℕ) → 2048 < length b → Refused (TooLong (length b)) ≡ parsedOf b
+parsed-long b long = rw (lt-leb (length b) 2048 long) refl
+
+module _ (b : List ℕ) (s : Split) (is-s : s ≡ splitOf b) where
+  pub parsed-not : s ≡ NoSplit → length b ≤ 2048 → Refused NotAFrame ≡ parsedOf b
+  parsed-not e short = rw (le-leb (length b) 2048 short, split-none b s is-s e) refl
+
+  module _ (p : Parts) (e : s ≡ Into p) where
+    the-parts : (isFrame b ≡ true) × (p ≡ partsOf b)
+    the-parts = split-parts (isFrame b) (partsOf b) p (sym is-s ∙ e)
+
+    pub parts-in : PartsIn b p
+    parts-in =
+        let is-p = the-parts .1 in
+        let r = roomy b (and-left (between b) _ (the-parts .0)) in
+        let m : p .middle .0 ≡ header b = ap (λ (x : Parts). x .middle .0) is-p in
+        let n : p .end .0 ≡ length b - trailer b = ap (λ (x : Parts). x .end .0) is-p in
+        record { parts = is-p; some = omega (arith, r .1); inside = omega arith }
+
+    pub parsed-frame : (f : PtiFrame) → length b ≤ 2048 → f ≡ frameOf b → Frame f ≡ parsedOf b
+    parsed-frame f short is-f = rw (le-leb (length b) 2048 short, the-parts .0) (ap Frame is-f)
+
+pub ruleset laws = (pick-first, pick-rest, pick-second, pick-none, fields-rx, fields-tx, other-protocol, holds-beam, holds-tag, laid-none, laid-version, laid-cut, laid-start, laid-short, laid-out, split-nothing, middle-some, middle-inside, start-inside, end-inside, trailer-room, split-not, split-into, mpdu-few, mpdu-beam, mpdu-declared, mpdu-all, beams-some, beams-none, middle-bytes, frame-is, parsed-long, parsed-not, parts-in, parsed-frame)

@@ -1,0 +1,284 @@
+// The frame in a record's body: document 01, "Body: first byte 2 or 3, header 12 or 19 bytes".
+use radio::beam::BEAM_MARKER;
+use radio::beam::beam_count;
+use radio::rssi::signed;
+use radio::speed::speed_for;
+use records::BodyOffset;
+use refusal::Refusal;
+ghost use mathlib.Core.Path.{_≡_};
+ghost use Prim.Native.Nat.{_≤_, _<_};
+ghost use lib.Dec.{eqb};
+ghost use lib.ListN.{length};
+ghost use Rattle.frame.specs.Frame.{headerOf, trailerOf, directionOf, successOf, fieldsOf, holds, mpduOf, beamsIn, frameOf, parsedOf};
+ghost use Rattle.frame.specs.Steps.{layoutOf, splitOf, PartsIn};
+
+// Hardware start tags, the header's last byte, and success tags, the trailer's first.
+const HW_RX_START: u8 = 0xF8;
+
+const HW_TX_START: u8 = 0xFC;
+
+const HW_RX_SUCCESS: u8 = 0xF9;
+
+const HW_TX_SUCCESS: u8 = 0xFD;
+
+// Offset of the MPDU length field within a Z-Wave header.
+const LENGTH_INDEX_IN_HEADER: usize = 7;
+
+// Z-Wave's number among the protocols that a trailer can name.
+const ZWAVE_PROTOCOL: u8 = 6;
+
+// The direction a frame was observed in.
+pub enum Direction {
+    Rx,
+    Tx,
+}
+
+// The fields of a trailer.
+pub struct Trailer {
+    pub tag: u8,
+    pub rssi: u8,
+    pub region: u8,
+    pub channel: u8,
+    pub protocol: u8,
+}
+
+// Where a body's header ends and its trailer starts, if at least one byte stands between.
+pub enum Layout {
+    Between(BodyOffset, BodyOffset),
+    Nothing,
+}
+
+// The parts of a body that holds a frame: the middle bytes stand from `middle` up to `end`.
+pub struct Parts {
+    pub direction: Direction,
+    pub middle: BodyOffset,
+    pub end: BodyOffset,
+    pub trailer: Trailer,
+}
+
+pub enum Split {
+    Into(Parts),
+    Nothing,
+}
+
+// The repetitions of a wake-up beam; other frames have none.
+pub enum Beams {
+    Count(usize),
+    NoBeam,
+}
+
+// A Z-Wave frame recovered from a record. Its MPDU stays a part of the body.
+pub struct PtiFrame {
+    pub direction: Direction,
+    // The region as PTI numbers it, which is no F code of a definition text.
+    pub region: u8,
+    pub channel: u8,
+    // 0 is 9.6 kbit/s, 1 is 40, 2 is 100, 3 is Long Range.
+    pub rate: u8,
+    // 0 for a transmitted frame, which carries none.
+    pub rssi: i8,
+    pub beams: Beams,
+    pub start: BodyOffset,
+    pub length: usize,
+}
+
+// The frame of a single record.
+pub enum Parsed {
+    Frame(PtiFrame),
+    Refused(Refusal),
+}
+
+// The header's length by its version, a body's first byte; 0 for a version that there isn't.
+fn header_length(version: u8) -> usize
+    ensures { λ r. ⌜ r ≡ headerOf version ⌝ }
+    ensures { λ r. ⌜ r ≤ 19 ⌝ }
+{
+    if version == 2 {
+        return 12;
+    }
+    if version == 3 {
+        return 19;
+    }
+    0
+}
+
+// The trailer's length by the start tag; 0 where there is no such tag.
+fn trailer_length(start: u8) -> usize
+    ensures { λ r. ⌜ r ≡ trailerOf start ⌝ }
+    ensures { λ r. ⌜ r ≤ 6 ⌝ }
+{
+    if start == HW_RX_START {
+        return 6;
+    }
+    if start == HW_TX_START {
+        return 5;
+    }
+    0
+}
+
+fn direction_of(start: u8) -> Direction
+    ensures { λ r. ⌜ r ≡ directionOf start ⌝ }
+{
+    if start == HW_RX_START {
+        return Direction::Rx;
+    }
+    Direction::Tx
+}
+
+// The tag that says that a transfer succeeded.
+fn success_tag(direction: Direction) -> u8
+    ensures { λ r. ⌜ r ≡ successOf direction ⌝ }
+{
+    match direction {
+        Direction::Rx => HW_RX_SUCCESS,
+        Direction::Tx => HW_TX_SUCCESS,
+    }
+}
+
+// The fields of a trailer. A transmitted frame's lacks the RSSI.
+fn read_trailer(direction: Direction, trailer: &[u8]) -> Trailer
+    requires { ⌜ 5 ≤ length (now trailer) ⌝ }
+    ensures { λ r. ⌜ r ≡ fieldsOf direction (now (trailer .entry)) ⌝ }
+{
+    match direction {
+        Direction::Rx => Trailer {
+            tag: trailer[0],
+            rssi: trailer[1],
+            region: trailer[2] % 16,
+            channel: trailer[3] % 16,
+            protocol: trailer[4] % 16,
+        },
+        Direction::Tx => Trailer {
+            tag: trailer[0],
+            rssi: 0,
+            region: trailer[1] % 16,
+            channel: trailer[2] % 16,
+            protocol: trailer[3] % 16,
+        },
+    }
+}
+
+// Only a successful transfer carries a valid frame, but for a beam; and it must be Z-Wave.
+fn is_whole(direction: Direction, first: u8, trailer: Trailer) -> bool
+    ensures { λ r. ⌜ r ≡ holds direction (eqb first 0x55) trailer ⌝ }
+{
+    if trailer.protocol != ZWAVE_PROTOCOL {
+        return false;
+    }
+    if first == BEAM_MARKER {
+        return true;
+    }
+    trailer.tag == success_tag(direction)
+}
+
+// Where the header ends and the trailer starts.
+fn lay_out(body: &[u8]) -> Layout
+    ensures { λ r. ⌜ r ≡ layoutOf (now (body .entry)) ⌝ }
+{
+    if body.len() == 0 {
+        return Layout::Nothing;
+    }
+    let header = header_length(body[0]);
+    if header == 0 {
+        return Layout::Nothing;
+    }
+    if body.len() < header {
+        return Layout::Nothing;
+    }
+    let trailer = trailer_length(body[header - 1]);
+    if trailer == 0 {
+        return Layout::Nothing;
+    }
+    if body.len() <= header + trailer {
+        return Layout::Nothing;
+    }
+    Layout::Between(BodyOffset(header), BodyOffset(body.len() - trailer))
+}
+
+// The parts of a body, if it holds a frame.
+pub fn split_body(body: &[u8]) -> Split
+    ensures { λ r. ⌜ r ≡ splitOf (now (body .entry)) ⌝ }
+{
+    let Layout::Between(middle, end) = lay_out(body) else {
+        return Split::Nothing;
+    };
+    let header = middle.0;
+    let tail = end.0;
+    let direction = direction_of(body[header - 1]);
+    let trailer = read_trailer(direction, &body[tail..]);
+    if is_whole(direction, body[header], trailer) {
+        return Split::Into(Parts {
+            direction,
+            middle,
+            end,
+            trailer,
+        });
+    }
+    Split::Nothing
+}
+
+// The MPDU's length: what its header declares, where that is there and fits; else all middle bytes, and so for a beam.
+fn mpdu_length(middle: &[u8]) -> usize
+    ensures { λ r. ⌜ r ≡ mpduOf (now (middle .entry)) ⌝ }
+{
+    let m = middle.len();
+    if m <= LENGTH_INDEX_IN_HEADER {
+        return m;
+    }
+    let marker = middle[0];
+    if marker == BEAM_MARKER {
+        return m;
+    }
+    let l = middle[LENGTH_INDEX_IN_HEADER] as usize;
+    if l <= m { l } else { m }
+}
+
+// The repetitions of a beam, if the middle bytes are one.
+fn beams_in(rate: u8, middle: &[u8]) -> Beams
+    requires { ⌜ 0 < length (now middle) ⌝ }
+    ensures { λ r. ⌜ r ≡ beamsIn rate (now (middle .entry)) ⌝ }
+{
+    if middle[0] == BEAM_MARKER {
+        return Beams::Count(beam_count(rate, middle));
+    }
+    Beams::NoBeam
+}
+
+// The frame of a body, given its parts.
+pub fn frame_of(body: &[u8], parts: Parts) -> PtiFrame
+    requires { ⌜ PartsIn (now body) parts ⌝ }
+    ensures { λ r. ⌜ r ≡ frameOf (now (body .entry)) ⌝ }
+{
+    let start = parts.middle;
+    let at = start.0;
+    let end = parts.end.0;
+    let middle = &body[at..end];
+    let direction = parts.direction;
+    let trailer = parts.trailer;
+    let region = trailer.region;
+    let channel = trailer.channel;
+    let rate = speed_for(channel as usize, region as usize);
+    PtiFrame {
+        direction,
+        region,
+        channel,
+        rate,
+        rssi: signed(trailer.rssi),
+        beams: beams_in(rate, middle),
+        start,
+        length: mpdu_length(middle),
+    }
+}
+
+// The frame of a single record's body, or refusal 4 or 9.
+pub fn parse_record(body: &[u8]) -> Parsed
+    ensures { λ r. ⌜ r ≡ parsedOf (now (body .entry)) ⌝ }
+{
+    if 2048 < body.len() {
+        return Parsed::Refused(Refusal::TooLong(body.len()));
+    }
+    let Split::Into(parts) = split_body(body) else {
+        return Parsed::Refused(Refusal::NotAFrame);
+    };
+    Parsed::Frame(frame_of(body, parts))
+}

@@ -1,0 +1,4 @@
+pub mod Laws
+pub mod SpeedLaws
+pub mod BeamLaws
+pub mod RssiLaws
