@@ -2,13 +2,15 @@
 use radio::beam::BEAM_MARKER;
 use radio::beam::beam_count;
 use radio::rssi::signed;
-use radio::speed::speed_for;
+use radio::speed::RATES;
+use radio::speed::rate_in;
 use records::BodyOffset;
 use refusal::Refusal;
 ghost use mathlib.Core.Path.{_≡_};
 ghost use Prim.Native.Nat.{_≤_, _<_};
 ghost use lib.Dec.{eqb};
 ghost use lib.ListN.{length};
+ghost use Rattle.radio.specs.Speed.{RateTable};
 ghost use Rattle.frame.specs.Frame.{headerOf, trailerOf, directionOf, successOf, fieldsOf, holds, mpduOf, beamsIn, frameOf, parsedOf};
 ghost use Rattle.frame.specs.Steps.{layoutOf, splitOf, PartsIn};
 
@@ -244,8 +246,9 @@ fn beams_in(rate: u8, middle: &[u8]) -> Beams
     Beams::NoBeam
 }
 
-// The frame of a body, given its parts.
-pub fn frame_of(body: &[u8], parts: Parts) -> PtiFrame
+// The frame of a body, given its parts and the rates.
+pub fn frame_of(rates: &[u8; 512], body: &[u8], parts: Parts) -> PtiFrame
+    requires { ⌜ RateTable (now rates) ⌝ }
     requires { ⌜ PartsIn (now body) parts ⌝ }
     ensures { λ r. ⌜ r ≡ frameOf (now (body .entry)) ⌝ }
 {
@@ -257,7 +260,7 @@ pub fn frame_of(body: &[u8], parts: Parts) -> PtiFrame
     let trailer = parts.trailer;
     let region = trailer.region;
     let channel = trailer.channel;
-    let rate = speed_for(channel as usize, region as usize);
+    let rate = rate_in(rates, channel as usize, region as usize);
     PtiFrame {
         direction,
         region,
@@ -280,5 +283,5 @@ pub fn parse_record(body: &[u8]) -> Parsed
     let Split::Into(parts) = split_body(body) else {
         return Parsed::Refused(Refusal::NotAFrame);
     };
-    Parsed::Frame(frame_of(body, parts))
+    Parsed::Frame(frame_of(&RATES, body, parts))
 }

@@ -189,9 +189,18 @@ rows-so-far s t₀ t n at w = omega (arith, w .room)
 pub parses-long : (s t : List ℕ) → 65535 < length s → Parses s t (Refused (TooLong (length s))) t
 parses-long s t long = record { answer = rw (lt-leb (length s) 65535 long) refl; table = refl }
 
+no-length : (l : List (List ℕ)) → length l ≡ 0 → l ≡ []
+no-length [] h = refl
+no-length (x ∷ xs) h = absurd (omega arith)
+
 module _ (s t : List ℕ) (needed : ℕ) (is-needed : needed ≡ length (rowsOf s)) (short : length s ≤ 65535) where
   pub parses-more : length t / 8 < needed → Parses s t (Refused (MoreRows needed)) t
   parses-more few = rw is-needed (record { answer = rw (le-leb (length s) 65535 short, lt-leb (length (rowsOf s)) (length t / 8) (omega arith)) refl; table = refl })
+
+  pub parses-none : needed ≡ 0 → Parses s t (Rows 0) t
+  parses-none none =
+      let empty : rowsOf s ≡ [] = no-length (rowsOf s) (omega arith) in
+      record { answer = rw (le-leb (length s) 65535 short, empty, le-leb 0 (length t / 8) (omega arith)) refl; table = rw empty refl }
 
   pub rows-fit : needed ≤ length t / 8 → length (rowsOf s) * 8 ≤ length t
   rows-fit enough = omega arith
@@ -200,4 +209,4 @@ module _ (s t : List ℕ) (needed : ℕ) (is-needed : needed ≡ length (rowsOf 
   parses-all t′ enough is-t = rw is-needed (record { answer = rw (le-leb (length s) 65535 short, le-leb (length (rowsOf s)) (length t / 8) (omega arith)) refl; table = is-t })
 
 -- what the proofs of the functions go by
-pub ruleset laws = (body-nearer, body-ordered, body-inside, after-fits, parts-in, holds-one, holds-none, tallying-starts, tallied, tallying-more, tally-fits, row-is, mpdu-fits, writes-none, writes-row, writing-starts, written, start-low, writing-more, rows-so-far, parses-long, parses-more, rows-fit, parses-all)
+pub ruleset laws = (body-nearer, body-ordered, body-inside, after-fits, parts-in, holds-one, holds-none, tallying-starts, tallied, tallying-more, tally-fits, row-is, mpdu-fits, writes-none, writes-row, writing-starts, written, start-low, writing-more, rows-so-far, parses-long, parses-none, parses-more, rows-fit, parses-all)

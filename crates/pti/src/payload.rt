@@ -6,6 +6,7 @@ use frame::Split;
 use frame::frame_of;
 use frame::split_body;
 use radio::rssi::byte_of;
+use radio::speed::RATES;
 use records::Next;
 use records::PayloadOffset;
 use records::next_body;
@@ -15,6 +16,7 @@ ghost use mathlib.Core.Path.{_≡_};
 ghost use mathlib.Core.Bool.{cond};
 ghost use Prim.Native.Nat.{_+_, _*_, _^_, _≤_, _<_};
 ghost use lib.ListN.{length};
+ghost use Rattle.radio.specs.Speed.{RateTable};
 ghost use Rattle.frame.specs.Frame.{isFrame};
 ghost use Rattle.pti.specs.Payload.{directionNumber, beamsNumber, rowOf, rowsOf, Parses};
 ghost use Rattle.pti.specs.Steps.{Writes};
@@ -95,20 +97,28 @@ fn count_frames(payload: &[u8]) -> usize
 }
 
 // Writes the row of a body's frame, if it holds one, as row n. Returns the number of the next row.
-fn write_frame(body: &[u8], start: PayloadOffset, table: &mut [u64], n: usize) -> usize
+fn write_frame(
+    rates: &[u8; 512],
+    body: &[u8],
+    start: PayloadOffset,
+    table: &mut [u64],
+    n: usize,
+) -> usize
+    requires { ⌜ RateTable (now rates) ⌝ }
     requires { ⌜ (start .0 < 2 ^ 63) × (n * 8 ≤ length (now table)) ⌝ }
     ensures { λ r. ⌜ Writes (now (body .entry)) (start .0) n (now (table .entry)) r (now (table .exit)) ⌝ }
 {
     let Split::Into(parts) = split_body(body) else {
         return n;
     };
-    let row = row_of(frame_of(body, parts), start);
+    let row = row_of(frame_of(rates, body, parts), start);
     put_row(table, n * WIDTH, &row);
     n + 1
 }
 
 // Writes the rows of all frames, one after the other.
-fn write_frames(payload: &[u8], table: &mut [u64])
+fn write_frames(rates: &[u8; 512], payload: &[u8], table: &mut [u64])
+    requires { ⌜ RateTable (now rates) ⌝ }
     requires { ⌜ length (rowsOf (now payload)) * 8 ≤ length (now table) ⌝ }
     ensures { λ _. ⌜ now (table .exit) ≡ laid (now (table .entry)) (rowsOf (now (payload .entry))) ⌝ }
 {
@@ -120,9 +130,17 @@ fn write_frames(payload: &[u8], table: &mut [u64])
         };
         let start = span.start.0;
         let end = span.end.0;
-        n = write_frame(&payload[start..end], span.start, table, n);
+        n = write_frame(rates, &payload[start..end], span.start, table, n);
         at = end + 2;
     }
+}
+
+// The same, with the rates lent once for all frames.
+fn write_rows(payload: &[u8], table: &mut [u64])
+    requires { ⌜ length (rowsOf (now payload)) * 8 ≤ length (now table) ⌝ }
+    ensures { λ _. ⌜ now (table .exit) ≡ laid (now (table .entry)) (rowsOf (now (payload .entry))) ⌝ }
+{
+    write_frames(&RATES, payload, table);
 }
 
 // Every frame of a payload into the table, or refusal 4 or 8. A refusal writes nothing, an answer nothing past its last row.
@@ -133,8 +151,11 @@ pub fn parse_payload(payload: &[u8], table: &mut [u64]) -> Frames
         return Frames::Refused(Refusal::TooLong(payload.len()));
     }
     let needed = count_frames(payload);
+    if needed == 0 {
+        return Frames::Rows(0);
+    }
     if needed <= table.len() / WIDTH {
-        write_frames(payload, table);
+        write_rows(payload, table);
         return Frames::Rows(needed);
     }
     Frames::Refused(Refusal::MoreRows(needed))

@@ -10,7 +10,7 @@ use lib.ListN.{getD, replicate}
 use borrow.Author.Tests.{eqb-true, ltb-true, ne-eqb}
 use Rattle.laws.proofs.Bools.{and-left, and-right}
 use Rattle.laws.proofs.Tables.{entry}
-use Rattle.radio.specs.Speed.{contains, baud9600, baud40k, baud100k, baudLr, rateOf}
+use Rattle.radio.specs.Speed.{contains, baud9600, baud40k, baud100k, baudLr, rateOf, RateTable}
 
 -- the entry at k is the rate of channel k / 32 in region k % 32
 right : ℕ → ℕ → Bool
@@ -25,13 +25,19 @@ rates =
     ++ (0 ∷ 0 ∷ 0 ∷ 0 ∷ 0 ∷ 0 ∷ 0 ∷ 0 ∷ 0 ∷ 0 ∷ 0 ∷ 0 ∷ 3 ∷ 3 ∷ 0 ∷ 3 ∷ 3 ∷ 0 ∷ 0 ∷ 0 ∷ 0 ∷ 0 ∷ 0 ∷ 0 ∷ 0 ∷ 0 ∷ 0 ∷ 0 ∷ 0 ∷ 0 ∷ 0 ∷ 0 ∷ [])
     ++ replicate 384 0
 
-pub at-pair : (channel region : ℕ) → channel < 16 → region < 32 → getD rates (channel * 32 + region) 0 ≡ rateOf channel region
+at-pair : (channel region : ℕ) → channel < 16 → region < 32 → getD rates (channel * 32 + region) 0 ≡ rateOf channel region
 unfolding right rates rateOf
 at-pair channel region hc hr =
     let k = channel * 32 + region in
     let c : (channel * 32 + region) / 32 ≡ channel = omega arith in
     let r : (channel * 32 + region) % 32 ≡ region = omega arith in
     rw (c, r) at (eqb-true (getD rates k 0) (rateOf (k / 32) (k % 32)) (entry right rates refl k (omega arith)))
+
+pub rates-right : RateTable rates
+rates-right = record { entry = at-pair }
+
+pub in-table : (t : List ℕ) (channel region : ℕ) → RateTable t → channel < 16 → region < 32 → getD t (channel * 32 + region) 0 ≡ rateOf channel region
+in-table t channel region table hc hr = table .entry channel region hc hr
 
 -- ---- past the table: each pair of a list has a channel below a and a region below b, so a pair that has not is in no list
 within : ℕ → ℕ → List (ℕ × ℕ) → Bool
@@ -68,4 +74,4 @@ past-channels channel region h = none channel region (inl h)
 pub past-regions : (channel region : ℕ) → 32 ≤ region → 0 ≡ rateOf channel region
 past-regions channel region h = none channel region (inr h)
 
-pub ruleset speed-laws = (past-channels, past-regions)
+pub ruleset speed-laws = (in-table, past-channels, past-regions)

@@ -1,9 +1,11 @@
 -- Document 01, "Records and frames": "Rates stand in a single table of 512 rates, sixteen channels by thirty-two regions,
 -- equal to the four lists of speed.rs (53 entries) and 0 elsewhere; other arguments give 0."
+use mathlib.Core.Path.{_≡_}
 use mathlib.Core.Bool.{Bool, false, cond, _&&_, _||_}
 use mathlib.Core.List.{List, [], _∷_}
-use Prim.Native.Nat.{ℕ}
+use Prim.Native.Nat.{ℕ, _+_, _*_, _<_}
 use lib.Dec.{eqb}
+use lib.ListN.{getD}
 
 -- the four lists, as pairs of a channel and a region: 9.6 kbit/s
 abbrev pub baud9600 : List (ℕ × ℕ)
@@ -33,3 +35,7 @@ rateOf channel region =
     (cond (contains baud40k channel region) 1
     (cond (contains baud100k channel region) 2
     (cond (contains baudLr channel region) 3 0)))
+
+-- a table has the rate of each of sixteen channels in each of thirty-two regions
+pub record RateTable (t : List ℕ) : Type 0 where
+  pub entry : (channel region : ℕ) → channel < 16 → region < 32 → getD t (channel * 32 + region) 0 ≡ rateOf channel region

@@ -1,9 +1,9 @@
 // Channel and region to bit rate: document 01, "a single table of 512 rates, sixteen channels by thirty-two regions".
 ghost use mathlib.Core.Path.{_≡_};
-ghost use Rattle.radio.specs.Speed.{rateOf};
+ghost use Rattle.radio.specs.Speed.{rateOf, RateTable};
 
 // A row of thirty-two regions for each channel.
-const RATES: [u8; 512] = [
+pub const RATES: [u8; 512] = [
     // channel 0
     0,
     2,
@@ -534,8 +534,10 @@ const RATES: [u8; 512] = [
     0,
 ];
 
-// The rate of a channel in a region: 0 is 9.6 kbit/s, 1 is 40, 2 is 100, 3 is Long Range. 0 for what the table does not have.
-pub fn speed_for(channel: usize, region: usize) -> u8
+// The rate of a channel in a region by a lent table: 0 is 9.6 kbit/s, 1 is 40, 2 is 100, 3 is Long Range. 0 for what the table does not
+// have. Where many rates are wanted the table is lent once, since naming it lays its 512 bytes out anew.
+pub fn rate_in(rates: &[u8; 512], channel: usize, region: usize) -> u8
+    requires { ⌜ RateTable (now rates) ⌝ }
     ensures { λ r. ⌜ r ≡ rateOf channel region ⌝ }
 {
     if 16 <= channel {
@@ -544,5 +546,12 @@ pub fn speed_for(channel: usize, region: usize) -> u8
     if 32 <= region {
         return 0;
     }
-    RATES[channel * 32 + region]
+    rates[channel * 32 + region]
+}
+
+// The rate of a channel in a region.
+pub fn speed_for(channel: usize, region: usize) -> u8
+    ensures { λ r. ⌜ r ≡ rateOf channel region ⌝ }
+{
+    rate_in(&RATES, channel, region)
 }

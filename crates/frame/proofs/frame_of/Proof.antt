@@ -13,14 +13,14 @@ part-middle-start c = search (needs, laws)
 part-middle-end : tie.Need-part-middle-end
 part-middle-end c = search (needs, laws)
 
-cast-speed-for : tie.Need-cast-speed-for
-cast-speed-for c = search (needs, laws)
+cast-rate-in : tie.Need-cast-rate-in
+cast-rate-in c = search (needs, laws)
 
-cast-speed-for-2 : tie.Need-cast-speed-for-2
-cast-speed-for-2 c = search (needs, laws)
+cast-rate-in-2 : tie.Need-cast-rate-in-2
+cast-rate-in-2 c = search (needs, laws)
 
-speed-for-requires : tie.Need-speed-for-requires
-speed-for-requires c κs = search (needs, laws)
+rate-in-requires : tie.Need-rate-in-requires
+rate-in-requires c κs = search (needs, laws)
 
 signed-requires : tie.Need-signed-requires
 signed-requires c κs = search (needs, laws)
@@ -41,9 +41,9 @@ frame-of-spec =
     sub-middle
     part-middle-start
     part-middle-end
-    cast-speed-for
-    cast-speed-for-2
-    speed-for-requires
+    cast-rate-in
+    cast-rate-in-2
+    rate-in-requires
     signed-requires
     beams-in-requires
     mpdu-length-requires

@@ -1,4 +1,5 @@
 -- `frame::parse_record` meets its contract, by the laws of the crate. Assumes nothing.
+use Rattle.radio.proofs.SpeedLaws.{rates, rates-right}
 use Rattle.frame.proofs.Laws.{laws}
 use borrow.Author.Needs.{needs}
 use Rattle.frame.proofs.parse_record.Statement.{statement}
@@ -20,7 +21,8 @@ returns-2 : tie.Need-returns-2
 returns-2 c = search (needs, laws)
 
 frame-of-requires : tie.Need-frame-of-requires
-frame-of-requires c κs = search (needs, laws)
+unfolding rates
+frame-of-requires c κs = (rates-right, search (needs, laws))
 
 returns-3 : tie.Need-returns-3
 returns-3 c = search (needs, laws)

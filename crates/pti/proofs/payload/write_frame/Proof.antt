@@ -1,6 +1,7 @@
 -- `pti::payload::write_frame` meets its contract, by the laws of the crate. Assumes nothing.
 use Rattle.pti.proofs.Laws.{laws}
 use borrow.Author.Needs.{needs}
+use native.Mathlib.Omega.{arith}
 use Rattle.pti.proofs.payload.write_frame.Statement.{statement}
 use Rattle.pti.proofs.payload.write_frame.Tie as tie
 
@@ -32,7 +33,7 @@ put-row-requires : tie.Need-put-row-requires
 put-row-requires c κs = search (needs, laws)
 
 add-result : tie.Need-add-result
-add-result c = search (needs, laws)
+add-result c = let start = c .before .before .before .before .before .before .before .before .before .before .before .before .before in omega (arith, start .pre, start .good)
 
 same-length : tie.Need-same-length
 same-length c = search (needs, laws)

@@ -7,10 +7,10 @@ use Rattle.pti.proofs.payload.write_frames.Statement.{statement}
 use Rattle.pti.proofs.payload.write_frames.Tie as tie
 
 abbrev Inv-loop : tie.InvT-loop
-Inv-loop payload table₀ n₀ at₀ table n at = Writing payload table₀ table n at
+Inv-loop rates payload table₀ n₀ at₀ table n at = Writing payload table₀ table n at
 
 abbrev μ-loop : tie.MeasureT-loop
-μ-loop payload table₀ n₀ at₀ table n at = length payload - at
+μ-loop rates payload table₀ n₀ at₀ table n at = length payload - at
 
 loop-holds : tie.Need-loop-holds Inv-loop μ-loop
 loop-holds c = search (needs, laws)
