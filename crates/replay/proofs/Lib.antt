@@ -1,0 +1,4 @@
+mod RequestLaws
+mod AnswerLaws
+mod ServeLaws
+mod Laws

@@ -1,0 +1,111 @@
+// `fill_frames` on a table of frame records, and what stands in each of them afterwards.
+use crate::table::PATTERN;
+use radio::rssi::byte_of;
+use rows::put_row;
+use screen::FrameRecord;
+use screen::fill_frames;
+ghost use Prim.Native.Nat.{_≤_, _*_};
+ghost use lib.ListN.{length};
+ghost use Rattle.replay.specs.Screen.{FilledFirst};
+
+// The table of 16,384 records, and the answer of the call that filled it.
+pub struct FrameTable {
+    pub records: [FrameRecord; 16384],
+    pub filled: usize,
+}
+
+// `fill_frames` is lent the first cap records.
+fn fill_first(mut records: [FrameRecord; 16384], rows: &[u64], n: usize, cap: usize) -> FrameTable
+    requires { ⌜ cap ≤ 16384 ⌝ }
+    ensures { λ r. ⌜ FilledFirst records (now (rows .entry)) n cap r ⌝ }
+{
+    let filled = fill_frames(&mut records[..cap], rows, n);
+    FrameTable {
+        records: records,
+        filled: filled,
+    }
+}
+
+// A record that nothing has been written to.
+fn untouched() -> FrameRecord {
+    FrameRecord {
+        direction: 0xA5,
+        region: 0xA5,
+        channel: 0xA5,
+        rate: 0xA5,
+        rssi: -91,
+        is_beam: true,
+        beams: 0xA5A5,
+        start: PATTERN as usize,
+        length: PATTERN as usize,
+    }
+}
+
+// The beam count; 65,536 more, which no count is, where the flag does not say whether there is one.
+fn beams_of(is_beam: bool, beams: u16) -> u64 {
+    let count = beams as u64;
+    if is_beam {
+        if count == 0 { 65536 } else { count }
+    } else {
+        if count == 0 { 0 } else { count + 65536 }
+    }
+}
+
+// Whether two flat rows are the same.
+fn same(a: &[u64; 8], b: &[u64; 8]) -> bool {
+    let mut i: usize = 0;
+    while i < 8 {
+        if a[i] != b[i] {
+            return false;
+        }
+        i += 1;
+    }
+    true
+}
+
+// The flat row of a record: eight times the pattern for one that nothing has been written to.
+fn flat_row(record: FrameRecord) -> [u64; 8] {
+    let row = [
+        record.direction as u64,
+        record.region as u64,
+        record.channel as u64,
+        record.rate as u64,
+        byte_of(record.rssi),
+        beams_of(record.is_beam, record.beams),
+        record.start as u64,
+        record.length as u64,
+    ];
+    let fresh: [u64; 8] = [0xA5, 0xA5, 0xA5, 0xA5, 0xA5, 0xA5A5, PATTERN, PATTERN];
+    if same(&row, &fresh) {
+        return [PATTERN; 8];
+    }
+    row
+}
+
+// The smaller of the two.
+fn least(a: usize, b: usize) -> usize
+    ensures { λ r. ⌜ (r ≤ a) × (r ≤ b) ⌝ }
+{
+    if a < b {
+        return a;
+    }
+    b
+}
+
+// `fill_frames` on a table of as many records as there are flat rows, from the first n of these. Afterwards the flat row of each
+// record stands where the flat rows stood. Answers what the call answered. No more than 16,384 records are lent.
+pub fn frame_table(rows: &mut [u64], n: usize) -> usize
+    ensures { λ r. ⌜ r * 8 ≤ length (now (rows .exit)) ⌝ }
+{
+    let lent = least(16384, rows.len() / 8);
+    let fresh = untouched();
+    let records = [fresh; 16384];
+    let table = fill_first(records, rows, n, lent);
+    let mut i: usize = 0;
+    while i < lent {
+        let record = table.records[i];
+        put_row(rows, i * 8, &flat_row(record));
+        i += 1;
+    }
+    table.filled
+}

@@ -1,0 +1,140 @@
+// Requests in, answers out, to the end of the input.
+use crate::answer::Answer;
+use crate::answer::flush;
+use crate::answer::put;
+use crate::answer::put_byte;
+use crate::frames::frames;
+use crate::frames::frametable;
+use crate::input::Filled;
+use crate::input::Found;
+use crate::input::Input;
+use crate::request::Word;
+use crate::request::find;
+use crate::request::word_of;
+use crate::single::body;
+use crate::single::count;
+use crate::single::rate;
+use crate::single::record;
+ghost use Prim.Native.Nat.{_≤_};
+ghost use lib.ListN.{length};
+ghost use Rattle.replay.specs.Answer.{Room, Answers};
+ghost use Rattle.replay.specs.Input.{In};
+ghost use Rattle.replay.specs.Serve.{Goes};
+
+// A proved loop has to end, and nothing says that the input does. So the turns are counted down from a number that no
+// run uses up: at a thousand million a second it would take more than a hundred years.
+const TURNS: u64 = 0x4000000000000000;
+
+// How it goes on: with what waits of the input and how much of the output, or not at all.
+enum Turn {
+    Next(Input, usize),
+    End,
+}
+
+// Answers a request. Every one has two words or more.
+fn answer(line: &[u8], bytes: &mut [u8], rows: &mut [u64], out: &mut [u8], used: usize) -> Answer
+    requires { ⌜ Room (now out) used ⌝ }
+    requires { ⌜ 131072 ≤ length (now rows) ⌝ }
+    ensures { λ r. ⌜ Answers (now (out .exit)) r ⌝ }
+{
+    let e = find(line, b' ');
+    if e == line.len() {
+        return Answer::Bad;
+    }
+    let words = &line[e + 1..];
+    match word_of(&line[..e]) {
+        Word::Rate => rate(words, out, used),
+        Word::Count => count(words, bytes, out, used),
+        Word::Body => body(words, bytes, out, used),
+        Word::Record => record(words, bytes, out, used),
+        Word::Frames => frames(words, bytes, rows, out, used),
+        Word::Frametable => frametable(words, bytes, rows, out, used),
+        Word::Unknown => Answer::Bad,
+    }
+}
+
+fn put_bad(out: &mut [u8], used: usize) -> usize
+    requires { ⌜ Room (now out) used ⌝ }
+    ensures { λ r. ⌜ Room (now (out .exit)) r ⌝ }
+{
+    put(b"bad request\n", out, used)
+}
+
+fn answer_line(
+    line: &[u8],
+    bytes: &mut [u8],
+    rows: &mut [u64],
+    out: &mut [u8],
+    used: usize,
+) -> usize
+    requires { ⌜ Room (now out) used ⌝ }
+    requires { ⌜ 131072 ≤ length (now rows) ⌝ }
+    ensures { λ r. ⌜ Room (now (out .exit)) r ⌝ }
+{
+    match answer(line, bytes, rows, out, used) {
+        Answer::Put(n) => put_byte(b'\n', out, n),
+        Answer::Bad => put_bad(out, used),
+    }
+}
+
+// Writes out what waits, so that whoever waits for the answers has them, and reads on. A request is ended by 0x0A: what the
+// end of the input cuts off before it is a line, and a bad request.
+fn read_on(input: Input, lines: &mut [u8], out: &mut [u8], used: usize) -> Turn
+    requires { ⌜ In (now lines) input ⌝ }
+    requires { ⌜ Room (now out) used ⌝ }
+    ensures { λ r. ⌜ Goes (now (lines .exit)) (now (out .exit)) r ⌝ }
+{
+    flush(out, used);
+    match input.fill(lines) {
+        Filled::More(next) => Turn::Next(next, 0),
+        Filled::TooLong(next) => Turn::Next(next, put_bad(out, 0)),
+        Filled::Cut => {
+            let n = put_bad(out, 0);
+            flush(out, n);
+            Turn::End
+        }
+        Filled::End => Turn::End,
+    }
+}
+
+fn step(
+    input: Input,
+    lines: &mut [u8],
+    bytes: &mut [u8],
+    rows: &mut [u64],
+    out: &mut [u8],
+    used: usize,
+) -> Turn
+    requires { ⌜ In (now lines) input ⌝ }
+    requires { ⌜ 131072 ≤ length (now rows) ⌝ }
+    requires { ⌜ Room (now out) used ⌝ }
+    ensures { λ r. ⌜ Goes (now (lines .exit)) (now (out .exit)) r ⌝ }
+{
+    match input.next_line(lines) {
+        Found::Line(from, to, next) => {
+            let n = answer_line(&lines[from..to], bytes, rows, out, used);
+            Turn::Next(next, n)
+        }
+        Found::Rest(next) => Turn::Next(next, used),
+        Found::More(next) => read_on(next, lines, out, used),
+    }
+}
+
+pub fn serve(
+    lines: &mut [u8; 524288],
+    bytes: &mut [u8; 262144],
+    rows: &mut [u64; 131072],
+    out: &mut [u8; 65536],
+) {
+    let mut input = Input::empty(false);
+    let mut used: usize = 0;
+    let mut turns = TURNS;
+    while turns > 0 {
+        let Turn::Next(next, n) = step(input, lines, bytes, rows, out, used) else {
+            return;
+        };
+        input = next;
+        used = n;
+        turns -= 1;
+    }
+}

@@ -1,0 +1,129 @@
+// The requests on rates and on single records.
+use crate::answer::Answer;
+use crate::answer::put;
+use crate::answer::put_count;
+use crate::answer::put_hex;
+use crate::answer::put_refusal;
+use crate::frames::put_row;
+use crate::request::Bytes;
+use crate::request::Leading;
+use crate::request::Number;
+use crate::request::read_bytes;
+use crate::request::read_leading;
+use crate::request::read_number;
+use frame::Beams;
+use frame::Direction;
+use frame::Parsed;
+use frame::PtiFrame;
+use pti::count_records;
+use pti::parse_record;
+use pti::record_body;
+use pti::speed_for;
+use radio::rssi::byte_of;
+use records::Counted;
+ghost use mathlib.Core.Path.{_≡_};
+ghost use Rattle.pti.specs.Payload.{directionNumber, beamsNumber, rowOf};
+ghost use Rattle.replay.specs.Answer.{Room, Answers};
+
+// `rate CHANNEL REGION`
+pub fn rate(words: &[u8], out: &mut [u8], used: usize) -> Answer
+    requires { ⌜ Room (now out) used ⌝ }
+    ensures { λ r. ⌜ Answers (now (out .exit)) r ⌝ }
+{
+    let Leading::Is(channel, at) = read_leading(words) else {
+        return Answer::Bad;
+    };
+    let Number::Is(region) = read_number(&words[at..]) else {
+        return Answer::Bad;
+    };
+    let rate = speed_for(channel as usize, region as usize);
+    Answer::Put(put_count(b"rate", rate as u64, out, used))
+}
+
+// `count PAYLOAD`
+pub fn count(words: &[u8], bytes: &mut [u8], out: &mut [u8], used: usize) -> Answer
+    requires { ⌜ Room (now out) used ⌝ }
+    ensures { λ r. ⌜ Answers (now (out .exit)) r ⌝ }
+{
+    let Bytes::Are(n) = read_bytes(words, bytes) else {
+        return Answer::Bad;
+    };
+    match count_records(&bytes[..n]) {
+        Counted::Records(k) => Answer::Put(put_count(b"count", k as u64, out, used)),
+        Counted::Refused(refusal) => Answer::Put(put_refusal(refusal, out, used)),
+    }
+}
+
+// `body K PAYLOAD`
+pub fn body(words: &[u8], bytes: &mut [u8], out: &mut [u8], used: usize) -> Answer
+    requires { ⌜ Room (now out) used ⌝ }
+    ensures { λ r. ⌜ Answers (now (out .exit)) r ⌝ }
+{
+    let Leading::Is(k, at) = read_leading(words) else {
+        return Answer::Bad;
+    };
+    let Bytes::Are(n) = read_bytes(&words[at..], bytes) else {
+        return Answer::Bad;
+    };
+    let m = put(b"body ", out, used);
+    Answer::Put(put_hex(record_body(&bytes[..n], k as usize), out, m))
+}
+
+// `record BODY`
+pub fn record(words: &[u8], bytes: &mut [u8], out: &mut [u8], used: usize) -> Answer
+    requires { ⌜ Room (now out) used ⌝ }
+    ensures { λ r. ⌜ Answers (now (out .exit)) r ⌝ }
+{
+    let Bytes::Are(n) = read_bytes(words, bytes) else {
+        return Answer::Bad;
+    };
+    match parse_record(&bytes[..n]) {
+        Parsed::Frame(frame) => Answer::Put(put_frame(frame, out, used)),
+        Parsed::Refused(refusal) => Answer::Put(put_refusal(refusal, out, used)),
+    }
+}
+
+fn put_frame(frame: PtiFrame, out: &mut [u8], used: usize) -> usize
+    requires { ⌜ Room (now out) used ⌝ }
+    ensures { λ r. ⌜ Room (now (out .exit)) r ⌝ }
+{
+    let n = put(b"frame", out, used);
+    put_row(&row_of(frame), out, n)
+}
+
+fn direction_number(direction: Direction) -> u64
+    ensures { λ r. ⌜ r ≡ directionNumber direction ⌝ }
+{
+    match direction {
+        Direction::Rx => 0,
+        Direction::Tx => 1,
+    }
+}
+
+fn beams_number(beams: Beams) -> u64
+    ensures { λ r. ⌜ r ≡ beamsNumber beams ⌝ }
+{
+    match beams {
+        Beams::Count(n) => n as u64,
+        Beams::NoBeam => 0,
+    }
+}
+
+// The flat row of a frame, its start in the body.
+fn row_of(frame: PtiFrame) -> [u64; 8]
+    ensures { λ r. ⌜ r ≡ rowOf 0 frame ⌝ }
+{
+    let direction = frame.direction;
+    let beams = frame.beams;
+    let start = frame.start;
+    [
+        direction_number(direction),
+        frame.region as u64,
+        frame.channel as u64,
+        frame.rate as u64,
+        byte_of(frame.rssi),
+        beams_number(beams),
+        start.0 as u64,
+        frame.length as u64,
+    ]
+}
