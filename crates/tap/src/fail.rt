@@ -1,0 +1,35 @@
+// What is said when a word of the command can't be done: one line on standard error, and the last line of the output.
+use libc::STDERR_FILENO;
+use libc::STDOUT_FILENO;
+
+pub fn fail(what: &[u8]) {
+    io::write_all(STDERR_FILENO, what);
+    io::write_all(STDOUT_FILENO, b"failed\n");
+}
+
+pub fn fail_word(word: &[u8]) {
+    io::write_all(STDERR_FILENO, b"tap: there is no word '");
+    io::write_all(STDERR_FILENO, word);
+    fail(b"': 'tap help' lists the words\n");
+}
+
+// A file that the system doesn't open or read.
+pub fn fail_file(name: &[u8]) {
+    io::write_all(STDERR_FILENO, b"tap: cannot read ");
+    os::fail(name);
+    fail(b"");
+}
+
+// A file that is no capture, as a line and a column of it show.
+pub fn fail_capture(name: &[u8], line: u64, column: u64) {
+    io::write_all(STDERR_FILENO, b"tap: ");
+    io::write_all(STDERR_FILENO, name);
+    io::write_all(
+        STDERR_FILENO,
+        b" is no capture: its first byte is not 5b, and there is no hex digit at line ",
+    );
+    io::print_decimal(STDERR_FILENO, line);
+    io::write_all(STDERR_FILENO, b", column ");
+    io::print_decimal(STDERR_FILENO, column);
+    fail(b"\n");
+}
