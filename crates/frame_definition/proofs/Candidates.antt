@@ -1,0 +1,227 @@
+-- Laws on looking for candidates in an accepted frame text. Assumes nothing.
+use mathlib.Core.Path.{_≡_, refl, sym, ap, _∙_}
+use mathlib.Core.Bool.{Bool, true, false, cond, _&&_, _||_}
+use mathlib.Core.List.{List, [], _∷_}
+use mathlib.Core.Option.{Option, none, some}
+use Prim.Native.Nat.{ℕ, suc, _+_, _-_, _≤_, _<_}
+use native.Mathlib.Omega.{arith}
+use native.Mathlib.Numerals.{add-one}
+use lib.Dec.{eqb, leb}
+use lib.ListN.{length, getD}
+use borrow.Author.Tests.{eqb-true, eq-eqb, ne-eqb}
+use Rattle.text.specs.Text.{field, within, upTo, value, worth, missing, name, optionalUpTo, optional}
+use Rattle.text.specs.Text as text
+use Rattle.text.specs.Place.{kindOf, cells, Steps, Has, partOf, IsPart}
+use Rattle.text.specs.Records.{Readable}
+use Rattle.text.specs.declared.Place.{Place}
+use Rattle.text.specs.declared.Line.{Line}
+use Rattle.text.specs.declared.Part.{Part}
+use Rattle.text.specs.declared.Number.{Number}
+use Rattle.text.specs.declared.Number.the-variants.{Is, Over, Not}
+use Rattle.text.specs.declared.Optional.{Optional}
+use Rattle.text.specs.declared.Optional.the-variants.{Given, Missing, Wrong}
+use Rattle.text.proofs.Tests.{and-left, and-right, value-of}
+use Rattle.text.proofs.Reading.{rest-end}
+use Rattle.frame_definition.specs.Form.{Header, Record, frequency, base, header, param, validation, set, entry, given, flags, flag, headerForm, headerOf, form}
+use Rattle.frame_definition.specs.Rules.{letter, rules}
+use Rattle.frame_definition.specs.Definition.{Frame, Validation, below, params, validations, frames, isKey, some?, candidates}
+use Rattle.frame_definition.specs.Find.{from, Good, oneMore, FindsValidation, IsValidation, candidate, HasFlags, IsRead, Counted, frameOf, IsCandidate, FindsCandidate}
+use Rattle.frame_definition.specs.declared.definition.NextValidation.{NextValidation}
+use Rattle.frame_definition.specs.declared.definition.NextValidation.the-variants as nextValidation
+use Rattle.frame_definition.specs.declared.definition.Candidate.{Candidate}
+use Rattle.frame_definition.specs.declared.definition.NextCandidate.the-variants as nextCandidate
+use Rattle.frame_definition.proofs.Views.{View}
+use Rattle.frame_definition.proofs.Finding.{Lined, lined, good-line, said-good, counted, more-bound}
+
+-- ---- an H line
+module _ (t : List ℕ) (l : Line) (good : Good t l) (is : l .kind ≡ 72) where
+  abbrev h-said : (headerForm (cells t l) ≡ true) × (form (cells t l) ≡ some (header (headerOf (cells t l))))
+  h-said = said-good (cells t l) (headerForm (cells t l)) _ (rw (sym (good .kind-is) ∙ is)) (good .allowed)
+
+  abbrev h-fields : List (List ℕ)
+  h-fields = cells t l
+
+  pub header-has : (k : ℕ) → k < 5 → Has t l k
+  header-has k h = record { marked = good .marked; there = omega (arith, counted t l 5 _ (h-said .0)) }
+
+  header-tests : (upTo 255 (field 1 h-fields) && (optionalUpTo 255 (field 2 h-fields) && (flags (field 3 h-fields) && name (field 4 h-fields)))) ≡ true
+  header-tests = and-right (eqb (length h-fields) 5) _ (h-said .0)
+
+  header-key : value 255 (field 1 h-fields) ≡ worth 0 (field 1 h-fields)
+  header-key = value-of 255 (field 1 h-fields) (and-left (upTo 255 (field 1 h-fields)) _ header-tests)
+
+  header-base : optionalUpTo 255 (field 2 h-fields) ≡ true
+  header-base = and-left (optionalUpTo 255 (field 2 h-fields)) _ (and-right (upTo 255 (field 1 h-fields)) _ header-tests)
+
+  pub header-flags : (s : List ℕ) → s ≡ field 3 h-fields → length s ≡ 4
+  header-flags s e =
+      let f : flags (field 3 h-fields) ≡ true = and-left (flags (field 3 h-fields)) (name (field 4 h-fields)) (and-right (optionalUpTo 255 (field 2 h-fields)) _ (and-right (upTo 255 (field 1 h-fields)) _ header-tests)) in
+      ap length e ∙ eqb-true _ _ (and-left (eqb (length (field 3 h-fields)) 4) (within 48 49 (field 3 h-fields)) f)
+
+  pub flags-inside : (s : List ℕ) (k : ℕ) → s ≡ field 3 h-fields → k < 4 → k < length s
+  flags-inside s k e h = omega (arith, header-flags s e)
+
+  pub flags-are : (s : List ℕ) → s ≡ field 3 h-fields
+      → HasFlags (field 3 h-fields) (record { ack = eqb (getD s 0 0) 49; routed = eqb (getD s 1 0) 49; multicast = eqb (getD s 2 0) 49; error = eqb (getD s 3 0) 49 })
+  flags-are s e = rw e (record { ack = refl; routed = refl; multicast = refl; error = refl })
+
+-- ---- a base key that may be missing
+module _ (l : List ℕ) (key : ℕ) where
+  based-given : (m d u : Bool) (n : ℕ) → cond m Missing (text.given (cond d (cond u (Is (worth 0 l)) Over) Not)) ≡ Given n → eqb n key ≡ isKey key (cond m none (some (worth 0 l)))
+  based-given true d u n e = absurd (let z : _≡_ {A = ℕ} 0 1 = cc in omega arith)
+  based-given false true true n e = let z : worth 0 l ≡ n = cc in rw z
+  based-given false true false n e = absurd (let z : _≡_ {A = ℕ} 0 1 = cc in omega arith)
+  based-given false false u n e = absurd (let z : _≡_ {A = ℕ} 0 1 = cc in omega arith)
+
+  based-missing : (m d u : Bool) → cond m Missing (text.given (cond d (cond u (Is (worth 0 l)) Over) Not)) ≡ Missing → false ≡ isKey key (cond m none (some (worth 0 l)))
+  based-missing true d u e = refl
+  based-missing false true true e = absurd (let z : _≡_ {A = ℕ} 0 1 = cc in omega arith)
+  based-missing false true false e = absurd (let z : _≡_ {A = ℕ} 0 1 = cc in omega arith)
+  based-missing false false u e = absurd (let z : _≡_ {A = ℕ} 0 1 = cc in omega arith)
+
+  based-wrong : (m d u : Bool) → cond m Missing (text.given (cond d (cond u (Is (worth 0 l)) Over) Not)) ≡ Wrong → (m || (d && u)) ≡ true → ⊥
+  based-wrong true d u e h = let z : _≡_ {A = ℕ} 0 1 = cc in omega arith
+  based-wrong false true true e h = let z : _≡_ {A = ℕ} 0 1 = cc in omega arith
+  based-wrong false true false e h = let z : _≡_ {A = ℕ} 0 1 = cc in omega arith
+  based-wrong false false u e h = let z : _≡_ {A = ℕ} 0 1 = cc in omega arith
+
+module _ (t : List ℕ) (l : Line) (key : ℕ) (r : Optional) (good : Good t l) (is : l .kind ≡ 72) (says : r ≡ optional 255 (field 2 (cells t l))) where
+  abbrev base-field : List ℕ
+  base-field = field 2 (cells t l)
+
+  pub base-given : (n : ℕ) → r ≡ Given n → eqb n key ≡ isKey key (given (worth 0) base-field)
+  base-given n e = based-given base-field key (missing base-field) (text.decimal base-field) (leb (worth 0 base-field) 255) n (sym says ∙ e)
+
+  pub base-missing : r ≡ Missing → false ≡ isKey key (given (worth 0) base-field)
+  base-missing e = based-missing base-field key (missing base-field) (text.decimal base-field) (leb (worth 0 base-field) 255) (sym says ∙ e)
+
+  pub base-wrong : r ≡ Wrong → false ≡ isKey key (given (worth 0) base-field)
+  base-wrong e = absurd (based-wrong base-field key (missing base-field) (text.decimal base-field) (leb (worth 0 base-field) 255) (sym says ∙ e) (header-base t l good is))
+
+pub ruleset header-laws = (header-has, flags-inside, flags-are, base-given, base-missing, base-wrong)
+
+-- ---- a V under an H
+module _ (t : List ℕ) (p : Place) (r : NextValidation) (finds : FindsValidation t p r) where
+  pub some-validation : (path : Part) (v : ℕ) (q : Place) → r ≡ nextValidation.At path v q → true ≡ some? (validations (below (from t p)))
+  some-validation path v q e = let h : IsValidation t p q path v = rw e at finds in rw (h .first)
+
+  pub no-validation : r ≡ nextValidation.Nothing → false ≡ some? (validations (below (from t p)))
+  no-validation e = let h : validations (below (from t p)) ≡ [] = rw e at finds in rw h
+
+pub ruleset some-laws = (some-validation, no-validation)
+
+-- ---- a candidate
+module _ (t : List ℕ) (l : Line) (key : ℕ) (good : Good t l) where
+  pub candidate-other : (rs : List Record) → (l .kind ≡ 72 → ⊥) → false ≡ candidate key (cells t l) rs
+  candidate-other rs h = rw (← good .kind-is, ne-eqb (l .kind) 72 h)
+
+  pub candidate-rest : (rs : List Record) (y : Bool) → l .kind ≡ 72 → y ≡ (isKey key (given (worth 0) (field 2 (cells t l))) && some? (validations (below rs))) → y ≡ candidate key (cells t l) rs
+  candidate-rest rs y h e = rw (← good .kind-is, eq-eqb (l .kind) 72 h) e
+
+  pub candidate-next : Readable rules t (l .next)
+  candidate-next = good .next
+
+  pub candidate-kind : (b : Bool) (rs : List Record) → b ≡ candidate key (cells t l) rs → b ≡ true → l .kind ≡ 72
+  candidate-kind b rs e q = good .kind-is ∙ eqb-true _ _ (and-left (eqb (kindOf (cells t l)) 72) _ (sym e ∙ q))
+
+pub ruleset candidate-laws = (candidate-other, candidate-rest, candidate-next)
+
+-- one line more
+candidates-step : (fs : List (List ℕ)) (x : Record) (rs : List Record) (key h n : ℕ) → View fs x → candidate key fs rs ≡ false
+    → candidates key (frames h n (x ∷ rs)) ≡ candidates key (frames (oneMore (kindOf fs) 72 h) (oneMore (kindOf fs) 80 n) rs)
+candidates-step fs (frequency code k) rs key h n v c = rw (v .kind)
+candidates-step fs (base k) rs key h n v c = rw (v .kind)
+candidates-step fs (header hd) rs key h n v c =
+    let tests : (isKey key (given (worth 0) (field 2 fs)) && some? (validations (below rs))) ≡ false = rw (v .kind) at c in
+    rw (v .kind, v .says, tests, add-one)
+candidates-step fs (param p) rs key h n v c = rw (v .kind, add-one)
+candidates-step fs (validation path x) rs key h n v c = rw (v .kind)
+candidates-step fs (set name) rs key h n v c = rw (v .kind)
+candidates-step fs (entry k text) rs key h n v c = rw (v .kind)
+
+the-key : (key : ℕ) (o : Option ℕ) → isKey key o ≡ true → o ≡ some key
+the-key key none e = absurd (let z : _≡_ {A = ℕ} 0 1 = cc in omega arith)
+the-key key (some k) e = rw (eqb-true k key e)
+
+pub record Looking (t : List ℕ) (p₀ : Place) (key h₀ n₀ : ℕ) (p : Place) (h n : ℕ) : Type 0 where
+  pub counts : Counted t p h n
+  pub after : p₀ .at ≤ p .at
+  pub so : candidates key (frames h₀ n₀ (from t p₀)) ≡ candidates key (frames h n (from t p))
+
+pub look-start : (t : List ℕ) (p : Place) (key h n : ℕ) → Counted t p h n → Looking t p key h n p h n
+look-start t p key h n c = record { counts = c; after = omega arith; so = refl }
+
+pub look-end : (t : List ℕ) (p₀ : Place) (key h₀ n₀ : ℕ) (p : Place) (h n : ℕ) → Looking t p₀ key h₀ n₀ p h n → length t ≤ p .at → FindsCandidate t p₀ key h₀ n₀ nextCandidate.Nothing
+look-end t p₀ key h₀ n₀ p h n k e = let q : from t p ≡ [] = rest-end rules t p e in k .so ∙ rw q
+
+module _ (t : List ℕ) (p₀ : Place) (key h₀ n₀ : ℕ) (p : Place) (h n : ℕ) (l : Line) (k : Looking t p₀ key h₀ n₀ p h n) (inside : p .at < length t) (step : Steps t p l) where
+  abbrev line-here : Lined t p l
+  line-here = lined t p l (k .counts .readable) inside step
+
+  pub look-good : Good t l
+  look-good = good-line t p l (k .counts .readable) inside step
+
+  pub look-few : h < 65536
+  look-few = omega (arith, k .counts .headers-few, k .counts .short)
+
+  pub look-few-params : n < 65536
+  look-few-params = omega (arith, k .counts .params-few, k .counts .short)
+
+  pub look-less : length t - l .next .at < length t - p .at
+  look-less = omega (arith, step .on)
+
+  module _ (b : Bool) (is : b ≡ candidate key (cells t l) (from t (l .next))) where
+    pub look-next : (h′ n′ : ℕ) → b ≡ false → h′ ≡ oneMore (l .kind) 72 h → n′ ≡ oneMore (l .kind) 80 n → Looking t p₀ key h₀ n₀ (l .next) h′ n′
+    look-next h′ n′ e eh en =
+        let fh : h′ ≡ oneMore (kindOf (cells t l)) 72 h = eh ∙ ap (λ (x : ℕ). oneMore x 72 h) (step .kind-is) in
+        let fn : n′ ≡ oneMore (kindOf (cells t l)) 80 n = en ∙ ap (λ (x : ℕ). oneMore x 80 n) (step .kind-is) in
+        record {
+          counts = record {
+            readable = line-here .next;
+            short = k .counts .short;
+            headers-few = rw eh (more-bound (l .kind) 72 h (p .at) (l .next .at) (k .counts .headers-few) (step .on));
+            params-few = rw en (more-bound (l .kind) 80 n (p .at) (l .next .at) (k .counts .params-few) (step .on));
+          };
+          after = omega (arith, k .after, step .on);
+          so = k .so ∙ ap (λ (rs : List Record). candidates key (frames h n rs)) (line-here .rest-is)
+              ∙ candidates-step (cells t l) (line-here .said) (from t (l .next)) key h n (line-here .view) (sym is ∙ e) ∙ rw (fh, fn);
+        }
+
+    pub look-kind : b ≡ true → l .kind ≡ 72
+    look-kind e = candidate-kind t l key look-good b (from t (l .next)) is e
+
+    pub look-hit : (c : Candidate) → b ≡ true → IsRead t l h n c → FindsCandidate t p₀ key h₀ n₀ (nextCandidate.At c)
+    look-hit c e r = record {
+      first = k .so ∙ ap (λ (rs : List Record). candidates key (frames h n rs)) (line-here .rest-is ∙ ap (λ (x : Record). x ∷ from t (l .next)) is-header) ∙ is-first ∙ same-frame;
+      counted = rw (r .place-is, r .number-is, r .params-is) (record {
+        readable = line-here .next;
+        short = k .counts .short;
+        headers-few = omega (arith, k .counts .headers-few, step .on);
+        params-few = omega (arith, k .counts .params-few, step .on);
+      });
+      on = rw (r .place-is) (omega (arith, k .after, step .on));
+    }
+      where
+        kind-is : l .kind ≡ 72
+        kind-is = look-kind e
+
+        is-header : line-here .said ≡ header (headerOf (cells t l))
+        is-header = let z : some (line-here .said) ≡ some (header (headerOf (cells t l))) = sym (line-here .form-is) ∙ h-said t l look-good kind-is .1 in cc
+
+        tests : (isKey key (given (worth 0) (field 2 (cells t l))) && some? (validations (below (from t (l .next))))) ≡ true
+        tests = and-right (eqb (kindOf (cells t l)) 72) _ (sym is ∙ e)
+
+        base-is : given (worth 0) (field 2 (cells t l)) ≡ some key
+        base-is = the-key key _ (and-left (isKey key (given (worth 0) (field 2 (cells t l)))) _ tests)
+
+        frame : Frame
+        frame = record { number = h; says = headerOf (cells t l); params = params n (below (from t (l .next))); validations = validations (below (from t (l .next))) }
+
+        is-first : candidates key (frames h n (header (headerOf (cells t l)) ∷ from t (l .next))) ≡ frame ∷ candidates key (frames (suc h) n (from t (l .next)))
+        is-first = rw tests
+
+        same-frame : frame ∷ candidates key (frames (suc h) n (from t (l .next))) ≡ frameOf t key c ∷ candidates key (frames (suc (c .number)) (c .params) (from t (c .place)))
+        same-frame =
+            rw (r .number-is, r .params-is, r .place-is, r .key-is, header-key t l look-good kind-is, r .flags-are .ack, r .flags-are .routed, r .flags-are .multicast, r .flags-are .error, r .name-is .says, base-is)
+
+pub ruleset look-laws = (look-start, look-end, look-good, look-few, look-few-params, look-less, look-next, look-kind, look-hit)

@@ -1,0 +1,6 @@
+pub mod Laws
+pub mod Keeping
+pub mod Views
+pub mod Finding
+pub mod Candidates
+pub mod Symbols

@@ -1,0 +1,423 @@
+// Looking things up in an accepted frame text. Every loop reads on from a place where a line begins.
+use crate::ParamType;
+use crate::Typed;
+use text::Line;
+use text::Optional;
+use text::Part;
+use text::Place;
+ghost use mathlib.Core.Path.{_≡_};
+ghost use mathlib.Core.Option.{some};
+ghost use Prim.Native.Nat.{_≤_, _<_};
+ghost use lib.ListN.{length};
+ghost use Rattle.text.specs.Text.{field};
+ghost use Rattle.text.specs.Place.{kindOf, cells, IsOptionalPart};
+ghost use Rattle.text.specs.Records.{Readable};
+ghost use Rattle.text.specs.declared.Verdict.the-variants.{Accepted};
+ghost use Rattle.frame_definition.specs.Form.{given, value, flag, param, typeOf, form};
+ghost use Rattle.frame_definition.specs.Rules.{rules, verdict};
+ghost use Rattle.frame_definition.specs.Definition.{below, validations, entries, definition, baseKey, isKey, some?, firstEntry};
+ghost use Rattle.frame_definition.specs.Find.{Good, keyed, oneMore, FindsBase, ownerKind, NextOf, HasNumbers, HasPaths, meant, FindsParam, FindsValidation, from, HasFlags, candidate, IsRead, Counted, FindsCandidate, named, FindsSet};
+
+// Where the P lines of a B begin, and how many P lines come before.
+pub enum Found {
+    At { place: Place, params: usize },
+    Nothing,
+}
+
+// The place of a line under an owner.
+pub enum Under {
+    At(Place),
+    Nothing,
+}
+
+// A P line: its numbers, and where its names and paths stand. A missing one has no bytes.
+pub struct Field {
+    pub level: u16,
+    pub order: u16,
+    pub bits: u16,
+    pub kind: ParamType,
+    pub name: Part,
+    pub set: Part,
+    pub optional: Part,
+    pub size: Part,
+}
+
+// The next P line, and the place after it.
+pub enum NextParam {
+    At { field: Field, place: Place },
+    Nothing,
+}
+
+// The next V line, and the place after it.
+pub enum NextValidation {
+    At {
+        path: Part,
+        value: u16,
+        place: Place,
+    },
+    Nothing,
+}
+
+// The flags of an H, as they stand in the text.
+pub struct Flags {
+    pub ack: bool,
+    pub routed: bool,
+    pub multicast: bool,
+    pub error: bool,
+}
+
+// An H that is a candidate: its number among the H lines, its key and flags, where its name stands, the place after it,
+// and how many P lines come before.
+pub struct Candidate {
+    pub number: usize,
+    pub key: u16,
+    pub flags: Flags,
+    pub name: Part,
+    pub place: Place,
+    pub params: usize,
+}
+
+pub enum NextCandidate {
+    At(Candidate),
+    Nothing,
+}
+
+// Is the line of this kind, with this key?
+fn is_keyed(text: &[u8], line: Line, kind: u8, limit: u16, key: u64) -> bool
+    requires { ⌜ Good (now text) line ⌝ }
+    ensures { λ r. ⌜ r ≡ keyed kind limit key (cells (now (text .entry)) line) ⌝ }
+{
+    if line.kind != kind {
+        return false;
+    }
+    line.value(text, 1, limit) as u64 == key
+}
+
+// One more after a line of this kind.
+fn one_more(kind: u8, is: u8, n: usize) -> usize
+    requires { ⌜ n < 65536 ⌝ }
+    ensures { λ r. ⌜ r ≡ oneMore kind is n ⌝ }
+{
+    if kind == is { n + 1 } else { n }
+}
+
+// The base key for a region and speed.
+pub fn base_key(text: &[u8], region: u64, speed: u64) -> u16
+    requires { ⌜ verdict (now text) ≡ Accepted ⌝ }
+    ensures { λ r. ⌜ r ≡ baseKey region speed (definition (now (text .entry))) ⌝ }
+{
+    if speed == 3 {
+        return 2;
+    }
+    let mut place = Place::start();
+    while place.at < text.len() {
+        let line = place.step(text);
+        if is_keyed(text, line, b'F', 255, region) {
+            return line.value(text, 2, 255);
+        }
+        place = line.next;
+    }
+    0
+}
+
+// The first B with a key.
+pub fn find_base(text: &[u8], key: u64) -> Found
+    requires { ⌜ verdict (now text) ≡ Accepted ⌝ }
+    ensures { λ r. ⌜ FindsBase (now (text .entry)) key r ⌝ }
+{
+    let mut place = Place::start();
+    let mut params: usize = 0;
+    while place.at < text.len() {
+        let line = place.step(text);
+        let next = line.next;
+        if is_keyed(text, line, b'B', 255, key) {
+            return Found::At {
+                place: next,
+                params,
+            };
+        }
+        params = one_more(line.kind, b'P', params);
+        place = next;
+    }
+    Found::Nothing
+}
+
+// Does a line of this kind own what follows?
+fn is_owner(kind: u8) -> bool
+    ensures { λ r. ⌜ r ≡ ownerKind kind ⌝ }
+{
+    if kind == b'F' {
+        return true;
+    }
+    if kind == b'B' {
+        return true;
+    }
+    if kind == b'H' {
+        return true;
+    }
+    kind == b'D'
+}
+
+// The next line of this kind under the owner of what follows the place.
+fn next_under(text: &[u8], from: Place, kind: u8) -> Under
+    requires { ⌜ Readable rules (now text) from ⌝ }
+    ensures { λ r. ⌜ NextOf (now (text .entry)) from kind r ⌝ }
+{
+    let mut place = from;
+    while place.at < text.len() {
+        let line = place.step(text);
+        if line.kind == kind {
+            return Under::At(place);
+        }
+        if is_owner(line.kind) {
+            return Under::Nothing;
+        }
+        place = line.next;
+    }
+    Under::Nothing
+}
+
+// The numbers of a P line.
+struct Numbers {
+    level: u16,
+    order: u16,
+    bits: u16,
+}
+
+// Where the names and paths of a P line stand.
+struct Paths {
+    name: Part,
+    set: Part,
+    optional: Part,
+    size: Part,
+}
+
+fn read_numbers(text: &[u8], line: Line) -> Numbers
+    requires { ⌜ (Good (now text) line) × (line .kind ≡ 80) ⌝ }
+    ensures { λ r. ⌜ HasNumbers (cells (now (text .entry)) line) r ⌝ }
+{
+    Numbers {
+        level: line.value(text, 1, 7),
+        order: line.value(text, 2, 65535),
+        bits: line.value(text, 3, 255),
+    }
+}
+
+fn read_paths(text: &[u8], line: Line) -> Paths
+    requires { ⌜ (Good (now text) line) × (line .kind ≡ 80) ⌝ }
+    ensures { λ r. ⌜ HasPaths (now (text .entry)) (cells (now (text .entry)) line) r ⌝ }
+{
+    Paths {
+        name: line.part(text, 5),
+        set: line.optional_part(text, 6),
+        optional: line.optional_part(text, 7),
+        size: line.optional_part(text, 8),
+    }
+}
+
+// The type that field 4 names.
+fn read_kind(text: &[u8], line: Line) -> ParamType
+    requires { ⌜ (Good (now text) line) × (line .kind ≡ 80) ⌝ }
+    ensures { λ r. ⌜ typeOf (field 4 (cells (now (text .entry)) line)) ≡ Typed.Is r ⌝ }
+{
+    match crate::read_type(line.field(text, 4)) {
+        Typed::Is(kind) => kind,
+        Typed::Not => ParamType::Hex,
+    }
+}
+
+// What a P line says.
+fn read_field(text: &[u8], line: Line) -> Field
+    requires { ⌜ (Good (now text) line) × (line .kind ≡ 80) ⌝ }
+    ensures { λ r. ⌜ form (cells (now (text .entry)) line) ≡ some (param (meant (now (text .entry)) r)) ⌝ }
+{
+    let numbers = read_numbers(text, line);
+    let paths = read_paths(text, line);
+    let kind = read_kind(text, line);
+    let name = paths.name;
+    let set = paths.set;
+    let optional = paths.optional;
+    let size = paths.size;
+    Field {
+        level: numbers.level,
+        order: numbers.order,
+        bits: numbers.bits,
+        kind,
+        name,
+        set,
+        optional,
+        size,
+    }
+}
+
+// The next P line under the owner of what follows the place; n P lines come before it in the text.
+pub fn next_param(text: &[u8], place: Place, n: usize) -> NextParam
+    requires { ⌜ Readable rules (now text) place ⌝ }
+    ensures { λ r. ⌜ FindsParam (now (text .entry)) place n r ⌝ }
+{
+    let Under::At(at) = next_under(text, place, b'P') else {
+        return NextParam::Nothing;
+    };
+    let line = at.step(text);
+    let next = line.next;
+    NextParam::At {
+        field: read_field(text, line),
+        place: next,
+    }
+}
+
+// The next V line under the owner of what follows the place.
+pub fn next_validation(text: &[u8], place: Place) -> NextValidation
+    requires { ⌜ Readable rules (now text) place ⌝ }
+    ensures { λ r. ⌜ FindsValidation (now (text .entry)) place r ⌝ }
+{
+    let Under::At(at) = next_under(text, place, b'V') else {
+        return NextValidation::Nothing;
+    };
+    let line = at.step(text);
+    let next = line.next;
+    NextValidation::At {
+        path: line.part(text, 1),
+        value: line.value(text, 2, 65535),
+        place: next,
+    }
+}
+
+// The flags of an H line.
+fn read_flags(text: &[u8], line: Line) -> Flags
+    requires { ⌜ (Good (now text) line) × (line .kind ≡ 72) ⌝ }
+    ensures { λ r. ⌜ HasFlags (field 3 (cells (now (text .entry)) line)) r ⌝ }
+{
+    let s = line.field(text, 3);
+    Flags {
+        ack: s[0] == b'1',
+        routed: s[1] == b'1',
+        multicast: s[2] == b'1',
+        error: s[3] == b'1',
+    }
+}
+
+// Has an H line this base key?
+fn is_based(text: &[u8], line: Line, key: u64) -> bool
+    requires { ⌜ (Good (now text) line) × (line .kind ≡ 72) ⌝ }
+    ensures { λ r. ⌜ r ≡ isKey key (given value (field 2 (cells (now (text .entry)) line))) ⌝ }
+{
+    match line.optional(text, 2, 255) {
+        Optional::Given(n) => n as u64 == key,
+        Optional::Missing => false,
+        Optional::Wrong => false,
+    }
+}
+
+// Is there a V line under the owner of what follows the place?
+fn has_validation(text: &[u8], place: Place) -> bool
+    requires { ⌜ Readable rules (now text) place ⌝ }
+    ensures { λ r. ⌜ r ≡ some? (validations (below (from (now (text .entry)) place))) ⌝ }
+{
+    match next_validation(text, place) {
+        NextValidation::At {
+            path: _,
+            value: _,
+            place: _,
+        } => true,
+        NextValidation::Nothing => false,
+    }
+}
+
+// Is the line an H with this base key and a V under it?
+fn is_candidate(text: &[u8], line: Line, key: u64) -> bool
+    requires { ⌜ Good (now text) line ⌝ }
+    ensures { λ r. ⌜ r ≡ candidate key (cells (now (text .entry)) line) (from (now (text .entry)) (line .next)) ⌝ }
+{
+    if line.kind != b'H' {
+        return false;
+    }
+    let next = line.next;
+    is_based(text, line, key) && has_validation(text, next)
+}
+
+// What a candidate's H line says, after h H and n P lines.
+fn read_candidate(text: &[u8], line: Line, h: usize, n: usize) -> Candidate
+    requires { ⌜ (Good (now text) line) × (line .kind ≡ 72) ⌝ }
+    ensures { λ r. ⌜ IsRead (now (text .entry)) line h n r ⌝ }
+{
+    let next = line.next;
+    let flags = read_flags(text, line);
+    Candidate {
+        number: h,
+        key: line.value(text, 1, 255),
+        flags,
+        name: line.part(text, 4),
+        place: next,
+        params: n,
+    }
+}
+
+// The first candidate from the place on, after h H and n P lines.
+pub fn next_candidate(text: &[u8], start: Place, key: u64, h: usize, n: usize) -> NextCandidate
+    requires { ⌜ Counted (now text) start h n ⌝ }
+    ensures { λ r. ⌜ FindsCandidate (now (text .entry)) start key h n r ⌝ }
+{
+    let mut place = start;
+    let mut number = h;
+    let mut params = n;
+    while place.at < text.len() {
+        let line = place.step(text);
+        let next = line.next;
+        if is_candidate(text, line, key) {
+            return NextCandidate::At(read_candidate(text, line, number, params));
+        }
+        number = one_more(line.kind, b'H', number);
+        params = one_more(line.kind, b'P', params);
+        place = next;
+    }
+    NextCandidate::Nothing
+}
+
+// Is the line a D of this name?
+fn is_named(text: &[u8], line: Line, name: &[u8]) -> bool
+    requires { ⌜ Good (now text) line ⌝ }
+    ensures { λ r. ⌜ r ≡ named (now (name .entry)) (cells (now (text .entry)) line) ⌝ }
+{
+    if line.kind != b'D' {
+        return false;
+    }
+    text::is_same(line.field(text, 1), name)
+}
+
+// The place after the first D of a name.
+pub fn find_set(text: &[u8], name: &[u8]) -> Under
+    requires { ⌜ verdict (now text) ≡ Accepted ⌝ }
+    ensures { λ r. ⌜ FindsSet (now (text .entry)) (now (name .entry)) r ⌝ }
+{
+    let mut place = Place::start();
+    while place.at < text.len() {
+        let line = place.step(text);
+        let next = line.next;
+        if is_named(text, line, name) {
+            return Under::At(next);
+        }
+        place = next;
+    }
+    Under::Nothing
+}
+
+// The number, from 1, of the first E with a key under the D that owns what follows the place; 0 where there is none.
+pub fn find_entry(text: &[u8], start: Place, key: u64) -> usize
+    requires { ⌜ Readable rules (now text) start ⌝ }
+    ensures { λ r. ⌜ r ≡ firstEntry key 0 (entries (below (from (now (text .entry)) start))) ⌝ }
+{
+    let mut place = start;
+    let mut n: usize = 0;
+    loop {
+        let Under::At(at) = next_under(text, place, b'E') else {
+            return 0;
+        };
+        let line = at.step(text);
+        if line.value(text, 1, 65535) as u64 == key {
+            return n + 1;
+        }
+        n += 1;
+        place = line.next;
+    }
+}

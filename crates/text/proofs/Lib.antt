@@ -1,0 +1,4 @@
+pub mod Laws
+pub mod Judging
+pub mod Tests
+pub mod Reading

@@ -1,0 +1,6 @@
+pub mod Text
+pub mod Scan
+pub mod Place
+pub mod Judge
+pub mod Records
+pub mod Examples
