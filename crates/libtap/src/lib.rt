@@ -1,8 +1,13 @@
 // The tap's calls as a static library, for C and Rust to link.
+use command_class::check_command_text;
+use frame_definition::check_frame_text;
+use pti::parse_payload;
 use pti::payload::Frames;
-use pti::payload::parse_payload;
+use text::Verdict;
 ghost use mathlib.Core.Path.{_≡_};
-ghost use Rattle.libtap.specs.Answers.{told, Told};
+ghost use Rattle.libtap.specs.Answers.{told, Told, judged};
+ghost use Rattle.frame_definition.specs.Rules.{verdict as frameVerdict};
+ghost use Rattle.command_class.specs.Rules.{verdict as commandVerdict};
 
 // An answer as C has it: `refusal` is 0 and `value` the number that the call answers, or `refusal` is document 01's number and `value`
 // what it carries.
@@ -35,4 +40,37 @@ pub extern "C" fn tap_parse_payload(payload: &[u8], table: &mut [u64]) -> TapAns
 {
     let frames = parse_payload(payload, table);
     tell(frames)
+}
+
+fn tell_verdict(verdict: Verdict) -> TapAnswer
+    ensures { λ r. ⌜ r ≡ judged verdict ⌝ }
+{
+    match verdict {
+        Verdict::Accepted => TapAnswer {
+            refusal: 0,
+            value: 0,
+        },
+        Verdict::Refused(refusal) => TapAnswer {
+            refusal: refusal.number() as u64,
+            value: refusal.carried() as u64,
+        },
+    }
+}
+
+// Is this frame text accepted? Answers 0, or refusal 1, 2 or 3 with its line.
+#[no_mangle]
+pub extern "C" fn tap_check_frame_text(text: &[u8]) -> TapAnswer
+    ensures { λ r. ⌜ r ≡ judged (frameVerdict (now (text .entry))) ⌝ }
+{
+    let verdict = check_frame_text(text);
+    tell_verdict(verdict)
+}
+
+// Is this command text accepted? Answers 0, or refusal 1, 2 or 3 with its line.
+#[no_mangle]
+pub extern "C" fn tap_check_command_text(text: &[u8]) -> TapAnswer
+    ensures { λ r. ⌜ r ≡ judged (commandVerdict (now (text .entry))) ⌝ }
+{
+    let verdict = check_command_text(text);
+    tell_verdict(verdict)
 }

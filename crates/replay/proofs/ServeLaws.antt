@@ -30,6 +30,7 @@ use Rattle.replay.specs.Answer.{Room, Answers}
 use Rattle.replay.specs.Input.{In, Empty, Finds, Fills}
 use Rattle.replay.specs.Frames.{Asks, Stand}
 use Rattle.replay.specs.Serve.{Goes}
+use Rattle.replay.specs.Table.{Ample}
 
 -- ---- the input
 pub empty-in : (lines : List ℕ) (i : Input) → Empty i → In lines i
@@ -70,7 +71,7 @@ module _ (held : List ℕ) (r : Asked) (numbers n : ℕ) (told : Asks held r) (i
   pub asked-payload : n ≤ length held
   asked-payload = asked .1
 
-  pub asked-rows : (rows : List ℕ) → 131072 ≤ length rows → numbers ≤ length rows
+  pub asked-rows : (rows : List ℕ) → Ample rows → numbers ≤ length rows
   asked-rows rows h = omega (arith, asked .0)
 
 -- as many rows as are answered stand in the table

@@ -1,9 +1,13 @@
--- A table before a call: every number of it is the same.
-use Prim.Native.Nat.{ℕ}
+-- The tables that calls are lent.
+use Prim.Native.Nat.{ℕ, _≤_}
 use mathlib.Core.Bool.{Bool, true, _&&_}
 use mathlib.Core.List.{List, [], _∷_}
 use lib.Dec.{eqb}
-use lib.ListN.{replicate}
+use lib.ListN.{length, replicate}
+
+-- "`CAP` up to 16,384", rows of eight numbers
+abbrev pub Ample : List ℕ → Type 0
+Ample table = 131072 ≤ length table
 
 -- a table of n numbers that nothing has been written to: "fills the whole table with 0xA5A5A5A5A5A5A5A5"
 abbrev pub fresh : ℕ → List ℕ

@@ -3,7 +3,7 @@
 use libc::STDOUT_FILENO;
 use refusal::Refusal;
 ghost use mathlib.Core.Path.{_≡_};
-ghost use Prim.Native.Nat.{_<_, _≤_, _+_};
+ghost use Prim.Native.Nat.{_<_};
 ghost use lib.ListN.{length};
 ghost use Rattle.io.specs.Digits.{glyph as Digits·glyph};
 ghost use Rattle.replay.specs.Answer.{Room};
@@ -75,8 +75,8 @@ pub fn put_number(x: u64, out: &mut [u8], used: usize) -> usize
     put_decimal(x, out, n)
 }
 
-// A word and a number.
-pub fn put_count(word: &[u8], x: u64, out: &mut [u8], used: usize) -> usize
+// A number behind a word.
+pub fn put_named(word: &[u8], x: u64, out: &mut [u8], used: usize) -> usize
     requires { ⌜ Room (now out) used ⌝ }
     ensures { λ r. ⌜ Room (now (out .exit)) r ⌝ }
 {
@@ -134,6 +134,6 @@ pub fn put_refusal(refusal: Refusal, out: &mut [u8], used: usize) -> usize
     requires { ⌜ Room (now out) used ⌝ }
     ensures { λ r. ⌜ Room (now (out .exit)) r ⌝ }
 {
-    let n = put_count(b"refused", refusal.number() as u64, out, used);
+    let n = put_named(b"refused", refusal.number() as u64, out, used);
     put_number(refusal.carried() as u64, out, n)
 }

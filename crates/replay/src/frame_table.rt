@@ -20,10 +20,7 @@ fn fill_first(mut records: [FrameRecord; 16384], rows: &[u64], n: usize, cap: us
     ensures { λ r. ⌜ FilledFirst records (now (rows .entry)) n cap r ⌝ }
 {
     let filled = fill_frames(&mut records[..cap], rows, n);
-    FrameTable {
-        records: records,
-        filled: filled,
-    }
+    FrameTable { records, filled }
 }
 
 // A record that nothing has been written to.

@@ -1,7 +1,7 @@
 // Standard input, read in blocks and cut into lines. What is read and not yet answered lies in a lent buffer.
 use crate::request::find;
 use libc::STDIN_FILENO;
-ghost use Prim.Native.Nat.{_<_, _≤_};
+ghost use Prim.Native.Nat.{_≤_};
 ghost use lib.ListN.{length};
 ghost use Rattle.replay.specs.Input.{In, Empty, Finds, Fills};
 

@@ -1,6 +1,7 @@
 // Answers the requests of standard input, one a line, each with a line on standard output: the door by which vectors,
 // differential runs and outside checks reach the proved calls.
 mod answer;
+mod definitions;
 mod frame_table;
 mod frames;
 mod input;
@@ -9,8 +10,8 @@ mod serve;
 mod single;
 mod table;
 
-// All the memory of the program: a request of 524,288 bytes, the bytes that it says, a table of 16,384 rows, and the answers
-// that wait to be written.
+// All the memory of the program: a line of at most 524,288 bytes with its end, the bytes that it says, a table of 16,384 rows of
+// eight numbers, and the answers that wait to be written.
 fn main() {
     let mut lines = [0u8; 524288];
     let mut bytes = [0u8; 262144];

@@ -13,6 +13,8 @@ pub enum Word {
     Record,
     Frames,
     Frametable,
+    Frametext,
+    Commandtext,
     Unknown,
 }
 
@@ -66,6 +68,12 @@ pub fn word_of(word: &[u8]) -> Word {
     }
     if same(word, b"frametable") {
         return Word::Frametable;
+    }
+    if same(word, b"frametext") {
+        return Word::Frametext;
+    }
+    if same(word, b"commandtext") {
+        return Word::Commandtext;
     }
     Word::Unknown
 }

@@ -3,6 +3,8 @@ use crate::answer::Answer;
 use crate::answer::flush;
 use crate::answer::put;
 use crate::answer::put_byte;
+use crate::definitions::commandtext;
+use crate::definitions::frametext;
 use crate::frames::frames;
 use crate::frames::frametable;
 use crate::input::Filled;
@@ -15,14 +17,13 @@ use crate::single::body;
 use crate::single::count;
 use crate::single::rate;
 use crate::single::record;
-ghost use Prim.Native.Nat.{_≤_};
-ghost use lib.ListN.{length};
 ghost use Rattle.replay.specs.Answer.{Room, Answers};
 ghost use Rattle.replay.specs.Input.{In};
 ghost use Rattle.replay.specs.Serve.{Goes};
+ghost use Rattle.replay.specs.Table.{Ample};
 
-// A proved loop has to end, and nothing says that the input does. So the turns are counted down from a number that no
-// run uses up: at a thousand million a second it would take more than a hundred years.
+// A proved loop has to end, and nothing says that the input does. So the turns are counted down from 2^62, which no run
+// uses up: at a thousand million a second it would take more than a hundred years.
 const TURNS: u64 = 0x4000000000000000;
 
 // How it goes on: with what waits of the input and how much of the output, or not at all.
@@ -34,7 +35,7 @@ enum Turn {
 // Answers a request. Every one has two words or more.
 fn answer(line: &[u8], bytes: &mut [u8], rows: &mut [u64], out: &mut [u8], used: usize) -> Answer
     requires { ⌜ Room (now out) used ⌝ }
-    requires { ⌜ 131072 ≤ length (now rows) ⌝ }
+    requires { ⌜ Ample (now rows) ⌝ }
     ensures { λ r. ⌜ Answers (now (out .exit)) r ⌝ }
 {
     let e = find(line, b' ');
@@ -49,6 +50,8 @@ fn answer(line: &[u8], bytes: &mut [u8], rows: &mut [u64], out: &mut [u8], used:
         Word::Record => record(words, bytes, out, used),
         Word::Frames => frames(words, bytes, rows, out, used),
         Word::Frametable => frametable(words, bytes, rows, out, used),
+        Word::Frametext => frametext(words, bytes, out, used),
+        Word::Commandtext => commandtext(words, bytes, out, used),
         Word::Unknown => Answer::Bad,
     }
 }
@@ -68,7 +71,7 @@ fn answer_line(
     used: usize,
 ) -> usize
     requires { ⌜ Room (now out) used ⌝ }
-    requires { ⌜ 131072 ≤ length (now rows) ⌝ }
+    requires { ⌜ Ample (now rows) ⌝ }
     ensures { λ r. ⌜ Room (now (out .exit)) r ⌝ }
 {
     match answer(line, bytes, rows, out, used) {
@@ -106,7 +109,7 @@ fn step(
     used: usize,
 ) -> Turn
     requires { ⌜ In (now lines) input ⌝ }
-    requires { ⌜ 131072 ≤ length (now rows) ⌝ }
+    requires { ⌜ Ample (now rows) ⌝ }
     requires { ⌜ Room (now out) used ⌝ }
     ensures { λ r. ⌜ Goes (now (lines .exit)) (now (out .exit)) r ⌝ }
 {

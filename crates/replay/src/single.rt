@@ -1,8 +1,8 @@
 // The requests on rates and on single records.
 use crate::answer::Answer;
 use crate::answer::put;
-use crate::answer::put_count;
 use crate::answer::put_hex;
+use crate::answer::put_named;
 use crate::answer::put_refusal;
 use crate::frames::put_row;
 use crate::request::Bytes;
@@ -37,7 +37,7 @@ pub fn rate(words: &[u8], out: &mut [u8], used: usize) -> Answer
         return Answer::Bad;
     };
     let rate = speed_for(channel as usize, region as usize);
-    Answer::Put(put_count(b"rate", rate as u64, out, used))
+    Answer::Put(put_named(b"rate", rate as u64, out, used))
 }
 
 // `count PAYLOAD`
@@ -49,7 +49,7 @@ pub fn count(words: &[u8], bytes: &mut [u8], out: &mut [u8], used: usize) -> Ans
         return Answer::Bad;
     };
     match count_records(&bytes[..n]) {
-        Counted::Records(k) => Answer::Put(put_count(b"count", k as u64, out, used)),
+        Counted::Records(k) => Answer::Put(put_named(b"count", k as u64, out, used)),
         Counted::Refused(refusal) => Answer::Put(put_refusal(refusal, out, used)),
     }
 }

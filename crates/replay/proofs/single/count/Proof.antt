@@ -31,11 +31,11 @@ count-records-requires c κs = search (needs, laws)
 enum-known-k : tie.Need-enum-known-k
 enum-known-k c = search (needs, laws)
 
-slice-aggregate-put-count : tie.Need-slice-aggregate-put-count
-slice-aggregate-put-count c = search (needs, laws)
+slice-aggregate-put-named : tie.Need-slice-aggregate-put-named
+slice-aggregate-put-named c = search (needs, laws)
 
-put-count-requires : tie.Need-put-count-requires
-put-count-requires c κs = search (needs, laws)
+put-named-requires : tie.Need-put-named-requires
+put-named-requires c κs = search (needs, laws)
 
 enum-known-refusal : tie.Need-enum-known-refusal
 enum-known-refusal c = search (needs, laws)
@@ -74,8 +74,8 @@ count-spec =
     slice-aggregate-count-records
     count-records-requires
     enum-known-k
-    slice-aggregate-put-count
-    put-count-requires
+    slice-aggregate-put-named
+    put-named-requires
     enum-known-refusal
     put-refusal-requires
     same-length-2

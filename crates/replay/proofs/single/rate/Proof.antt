@@ -40,14 +40,14 @@ returns-2 c = search (needs, laws)
 speed-for-requires : tie.Need-speed-for-requires
 speed-for-requires c κs = search (needs, laws)
 
-slice-aggregate-put-count : tie.Need-slice-aggregate-put-count
-slice-aggregate-put-count c = search (needs, laws)
+slice-aggregate-put-named : tie.Need-slice-aggregate-put-named
+slice-aggregate-put-named c = search (needs, laws)
 
-cast-put-count : tie.Need-cast-put-count
-cast-put-count c = search (needs, laws)
+cast-put-named : tie.Need-cast-put-named
+cast-put-named c = search (needs, laws)
 
-put-count-requires : tie.Need-put-count-requires
-put-count-requires c κs = search (needs, laws)
+put-named-requires : tie.Need-put-named-requires
+put-named-requires c κs = search (needs, laws)
 
 same-length : tie.Need-same-length
 same-length c = search (needs, laws)
@@ -71,8 +71,8 @@ rate-spec =
     enum-told-2
     returns-2
     speed-for-requires
-    slice-aggregate-put-count
-    cast-put-count
-    put-count-requires
+    slice-aggregate-put-named
+    cast-put-named
+    put-named-requires
     same-length
     returns-3)

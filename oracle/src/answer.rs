@@ -1,0 +1,143 @@
+//! The answer to each request: what the Rust says, and document 01's refusals around it.
+
+use std::fmt::Write;
+
+use zniff_core::decoder::frame_definition::decode::oracle::{check_crc, read_bits};
+use zniff_core::pti::{self, Direction, PtiFrame};
+
+use crate::definition::command::CommandDefinition;
+use crate::definition::frame::FrameDefinition;
+use crate::definition::{self, Definition};
+use crate::limits;
+use crate::refusal::Refusal;
+use crate::request::{Request, push_hex};
+
+/// The answer to a line, without its 0x0A.
+pub fn answer(line: &[u8]) -> String {
+    let Some(request) = Request::read(line) else {
+        return "bad request".to_string();
+    };
+    let answer = match &request {
+        Request::Rate { channel, region } => Ok(rate(*channel, *region)),
+        Request::Count { payload } => count(payload),
+        Request::Body { k, payload } => Ok(body(*k, payload)),
+        Request::Record { body } => record(body),
+        Request::Frames { cap, payload } => frames("frames", *cap, payload),
+        Request::Frametable { cap, payload } => frames("frametable", *cap, payload),
+        Request::Frametext { text } => verdict::<FrameDefinition>(text),
+        Request::Commandtext { text } => verdict::<CommandDefinition>(text),
+        Request::Bits { place, width, bytes } => Ok(bits(*place, *width, bytes)),
+        Request::Checksum { speed, mpdu } => Ok(checksum(*speed, mpdu)),
+    };
+    answer.unwrap_or_else(|refusal| refusal.to_string())
+}
+
+/// Refusal 4: the bytes are more than the limit.
+fn within(limit: usize, bytes: &[u8]) -> Result<(), Refusal> {
+    let length = bytes.len();
+    if length <= limit { Ok(()) } else { Err(Refusal { number: 4, carried: length }) }
+}
+
+/// "Other arguments give 0": among them those that the Rust's `u8` cannot hold.
+fn rate(channel: u64, region: u64) -> String {
+    let rate = match (u8::try_from(channel), u8::try_from(region)) {
+        (Ok(channel), Ok(region)) => pti::speed_for(channel, region),
+        _ => 0,
+    };
+    format!("rate {rate}")
+}
+
+fn count(payload: &[u8]) -> Result<String, Refusal> {
+    within(limits::PAYLOAD, payload)?;
+    Ok(format!("count {}", pti::split_records(payload).len()))
+}
+
+/// An empty part where there is no such body or the payload is too long.
+fn body(k: u64, payload: &[u8]) -> String {
+    let bodies = match within(limits::PAYLOAD, payload) {
+        Ok(()) => pti::split_records(payload),
+        Err(_) => Vec::new(),
+    };
+    let body = usize::try_from(k).ok().and_then(|k| bodies.get(k).copied());
+    let mut answer = "body ".to_string();
+    push_hex(body.unwrap_or_default(), &mut answer);
+    answer
+}
+
+fn record(body: &[u8]) -> Result<String, Refusal> {
+    within(limits::BODY, body)?;
+    let frame = pti::parse_record(body).ok_or(Refusal { number: 9, carried: 0 })?;
+    let mut answer = "frame".to_string();
+    push_row(&frame, mpdu_start(body, &frame), &mut answer);
+    Ok(answer)
+}
+
+fn frames(word: &str, cap: u64, payload: &[u8]) -> Result<String, Refusal> {
+    within(limits::PAYLOAD, payload)?;
+    let frames = pti::parse_payload(payload);
+    if frames.len() as u64 > cap {
+        return Err(Refusal { number: 8, carried: frames.len() });
+    }
+    let mut answer = format!("{word} {}", frames.len());
+    for (frame, start) in frames.iter().zip(starts_in_payload(payload, &frames)) {
+        push_row(frame, start, &mut answer);
+    }
+    Ok(answer)
+}
+
+/// Where each frame's MPDU starts in the payload. The Rust copies the bytes and forgets the place,
+/// so the records are gone through once more; they must give the very frames.
+fn starts_in_payload(payload: &[u8], frames: &[PtiFrame]) -> Vec<usize> {
+    let mut expected = frames.iter();
+    let mut starts = Vec::with_capacity(frames.len());
+    for body in pti::split_records(payload) {
+        if let Some(frame) = pti::parse_record(body) {
+            assert_eq!(Some(&frame), expected.next(), "parse_payload and parse_record differ");
+            let place = body.as_ptr().addr() - payload.as_ptr().addr();
+            starts.push(place + mpdu_start(body, &frame));
+        }
+    }
+    assert_eq!(None, expected.next(), "parse_payload and parse_record differ");
+    starts
+}
+
+/// Where a frame's MPDU starts in its record's body; its bytes must stand there.
+fn mpdu_start(body: &[u8], frame: &PtiFrame) -> usize {
+    let start = pti::oracle::mpdu_start(body);
+    assert_eq!(body[start..start + frame.mpdu.len()], frame.mpdu, "the MPDU is not at {start}");
+    start
+}
+
+/// Writes ` DIR REGION CHANNEL RATE RSSI BEAMS START LENGTH`.
+fn push_row(frame: &PtiFrame, start: usize, answer: &mut String) {
+    let direction = match frame.direction {
+        Direction::Rx => 0,
+        Direction::Tx => 1,
+    };
+    let PtiFrame { region, channel, speed, rssi, .. } = frame;
+    let beams = frame.beam_count.map_or("-".to_string(), |count| count.to_string());
+    let length = frame.mpdu.len();
+    write!(answer, " {direction} {region} {channel} {speed} {rssi} {beams} {start} {length}")
+        .expect("a string takes all");
+}
+
+/// The check of a definition text, which the Rust does not have.
+fn verdict<D: Definition>(text: &[u8]) -> Result<String, Refusal> {
+    definition::read::<D>(text).map(|_| "accepted".to_string())
+}
+
+/// The Rust sums place and width in 64 bits. Where that would wrap no bits stand, so the reader
+/// declines.
+fn bits(place: u64, width: u64, bytes: &[u8]) -> String {
+    let value = match place.checked_add(width) {
+        Some(_) => read_bits(bytes, place as usize, width as usize),
+        None => None,
+    };
+    value.map_or("bits -".to_string(), |value| format!("bits {value}"))
+}
+
+/// `decode_header` takes a checksum of two bytes at a speed over 1, else of one.
+fn checksum(speed: u64, mpdu: &[u8]) -> String {
+    let right = check_crc(mpdu, if speed > 1 { 2 } else { 1 });
+    format!("checksum {}", u8::from(right))
+}

@@ -1,0 +1,72 @@
+//! Requests that follow from a seed: request `i` of a seed is always the same, whatever was drawn
+//! before it.
+
+mod bad;
+mod bits;
+mod pti;
+mod texts;
+
+use crate::random::Random;
+
+pub use pti::{FAULTS, spoil};
+pub use texts::{good_command_text, good_frame_text};
+
+/// A kind of request, and how it is drawn.
+pub struct Kind {
+    pub name: &'static str,
+    /// How often it comes, against the others.
+    weight: usize,
+    draw: fn(&mut Random) -> Vec<u8>,
+}
+
+/// Every kind: the request words, and lines that are no request.
+pub const KINDS: &[Kind] = &[
+    Kind { name: "rate", weight: 5, draw: pti::rate },
+    Kind { name: "count", weight: 15, draw: pti::count },
+    Kind { name: "body", weight: 15, draw: pti::body },
+    Kind { name: "record", weight: 30, draw: pti::record },
+    Kind { name: "frames", weight: 20, draw: pti::frames },
+    Kind { name: "frametable", weight: 10, draw: pti::frametable },
+    Kind { name: "frametext", weight: 30, draw: texts::frametext },
+    Kind { name: "commandtext", weight: 30, draw: texts::commandtext },
+    Kind { name: "bits", weight: 15, draw: bits::bits },
+    Kind { name: "checksum", weight: 15, draw: bits::checksum },
+    Kind { name: "bad", weight: 5, draw: bad::line },
+];
+
+/// What `today` stands for: what the replay program answers so far.
+pub const TODAY: &str = "rate,count,body,record,frames,frametable,frametext,commandtext,bad";
+
+/// Draws requests of some kinds under a seed.
+#[derive(Clone)]
+pub struct Generator {
+    seed: u64,
+    kinds: Vec<&'static Kind>,
+}
+
+impl Generator {
+    /// `names`: kinds parted by commas, or `today`.
+    pub fn new(seed: u64, names: &str) -> Result<Generator, String> {
+        let names = if names == "today" { TODAY } else { names };
+        let kind_of = |name: &str| {
+            KINDS.iter().find(|kind| kind.name == name).ok_or(format!("no kind of request: {name}"))
+        };
+        Ok(Generator { seed, kinds: names.split(',').map(kind_of).collect::<Result<_, _>>()? })
+    }
+
+    pub fn kinds(&self) -> &[&'static Kind] {
+        &self.kinds
+    }
+
+    /// Request `index`: the place of its kind in `kinds`, and its line without its 0x0A.
+    pub fn request(&self, index: u64) -> (usize, Vec<u8>) {
+        let mut random = Random::new(self.seed, index);
+        let mut left = random.below(self.kinds.iter().map(|kind| kind.weight).sum());
+        let mut place = 0;
+        while left >= self.kinds[place].weight {
+            left -= self.kinds[place].weight;
+            place += 1;
+        }
+        (place, (self.kinds[place].draw)(&mut random))
+    }
+}

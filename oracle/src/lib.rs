@@ -1,0 +1,16 @@
+//! The oracle: zniff-rs's own code behind the requests of the replay program, with a judge of
+//! definition texts, a generator of requests and a comparison of the two programs over them.
+//!
+//! A new request word has four places: [`request`] (its form), [`answer`] (what the Rust says),
+//! [`generate::KINDS`] (how it is drawn) and, where the document has examples, `examples.txt`.
+
+pub mod answer;
+pub mod compare;
+pub mod definition;
+pub mod generate;
+pub mod limits;
+pub mod random;
+pub mod refusal;
+pub mod request;
+pub mod sample;
+pub mod shape;

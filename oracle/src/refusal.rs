@@ -1,0 +1,16 @@
+//! Refusals by document 01's numbers.
+
+use std::fmt::{self, Display};
+
+/// A refusal's number, and what it carries.
+#[derive(Debug, Clone, Copy, PartialEq, Eq)]
+pub struct Refusal {
+    pub number: u8,
+    pub carried: usize,
+}
+
+impl Display for Refusal {
+    fn fmt(&self, f: &mut fmt::Formatter<'_>) -> fmt::Result {
+        write!(f, "refused {} {}", self.number, self.carried)
+    }
+}

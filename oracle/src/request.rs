@@ -1,0 +1,142 @@
+//! The form of a request: words parted by one space. Numbers are plain decimal up to 2^64 - 1,
+//! without leading zeros; bytes are pairs of lower-case hex digits, or `-` for none.
+
+use crate::limits;
+
+/// A request that has the form of one.
+#[derive(Debug, Clone, PartialEq, Eq)]
+pub enum Request {
+    Rate { channel: u64, region: u64 },
+    Count { payload: Vec<u8> },
+    Body { k: u64, payload: Vec<u8> },
+    Record { body: Vec<u8> },
+    Frames { cap: u64, payload: Vec<u8> },
+    Frametable { cap: u64, payload: Vec<u8> },
+    Frametext { text: Vec<u8> },
+    Commandtext { text: Vec<u8> },
+    Bits { place: u64, width: u64, bytes: Vec<u8> },
+    Checksum { speed: u64, mpdu: Vec<u8> },
+}
+
+impl Request {
+    /// Reads a line, without its 0x0A; `None` where it is no request.
+    pub fn read(line: &[u8]) -> Option<Request> {
+        let mut words = Words(line.split(|&b| b == b' '));
+        let request = match words.word()? {
+            b"rate" => Request::Rate { channel: words.number()?, region: words.number()? },
+            b"count" => Request::Count { payload: words.bytes()? },
+            b"body" => Request::Body { k: words.number()?, payload: words.bytes()? },
+            b"record" => Request::Record { body: words.bytes()? },
+            b"frames" => Request::Frames { cap: words.cap()?, payload: words.bytes()? },
+            b"frametable" => Request::Frametable { cap: words.cap()?, payload: words.bytes()? },
+            b"frametext" => Request::Frametext { text: words.bytes()? },
+            b"commandtext" => Request::Commandtext { text: words.bytes()? },
+            b"bits" => Request::Bits {
+                place: words.number()?,
+                width: words.number()?,
+                bytes: words.bytes()?,
+            },
+            b"checksum" => Request::Checksum { speed: words.number()?, mpdu: words.bytes()? },
+            _ => return None,
+        };
+        words.end()?;
+        Some(request)
+    }
+
+    /// Its word, its numbers and, where it has such, its bytes.
+    fn parts(&self) -> (&'static str, Vec<u64>, Option<&[u8]>) {
+        match self {
+            Request::Rate { channel, region } => ("rate", vec![*channel, *region], None),
+            Request::Count { payload } => ("count", vec![], Some(payload)),
+            Request::Body { k, payload } => ("body", vec![*k], Some(payload)),
+            Request::Record { body } => ("record", vec![], Some(body)),
+            Request::Frames { cap, payload } => ("frames", vec![*cap], Some(payload)),
+            Request::Frametable { cap, payload } => ("frametable", vec![*cap], Some(payload)),
+            Request::Frametext { text } => ("frametext", vec![], Some(text)),
+            Request::Commandtext { text } => ("commandtext", vec![], Some(text)),
+            Request::Bits { place, width, bytes } => ("bits", vec![*place, *width], Some(bytes)),
+            Request::Checksum { speed, mpdu } => ("checksum", vec![*speed], Some(mpdu)),
+        }
+    }
+
+    /// The word that this request starts with.
+    pub fn word(&self) -> &'static str {
+        self.parts().0
+    }
+
+    /// The line of this request, without its 0x0A.
+    pub fn line(&self) -> Vec<u8> {
+        let (word, numbers, bytes) = self.parts();
+        let mut line = word.to_string();
+        for number in numbers {
+            line.push(' ');
+            line.push_str(&number.to_string());
+        }
+        if let Some(bytes) = bytes {
+            line.push(' ');
+            push_hex(bytes, &mut line);
+        }
+        line.into_bytes()
+    }
+}
+
+/// Writes bytes as a request and an answer have them.
+pub fn push_hex(bytes: &[u8], out: &mut String) {
+    const DIGITS: &[u8; 16] = b"0123456789abcdef";
+    if bytes.is_empty() {
+        out.push('-');
+    }
+    for byte in bytes {
+        out.push(char::from(DIGITS[usize::from(byte >> 4)]));
+        out.push(char::from(DIGITS[usize::from(byte & 15)]));
+    }
+}
+
+/// The words of a line, taken one by one.
+struct Words<W>(W);
+
+impl<'a, W: Iterator<Item = &'a [u8]>> Words<W> {
+    fn word(&mut self) -> Option<&'a [u8]> {
+        self.0.next()
+    }
+
+    fn number(&mut self) -> Option<u64> {
+        let word = self.word()?;
+        if word.is_empty() || (word[0] == b'0' && word.len() > 1) {
+            return None;
+        }
+        word.iter().try_fold(0u64, |value, digit| match digit {
+            b'0'..=b'9' => value.checked_mul(10)?.checked_add(u64::from(digit - b'0')),
+            _ => None,
+        })
+    }
+
+    fn cap(&mut self) -> Option<u64> {
+        self.number().filter(|&cap| cap <= limits::CAP)
+    }
+
+    fn bytes(&mut self) -> Option<Vec<u8>> {
+        let word = self.word()?;
+        if word == b"-" {
+            return Some(Vec::new());
+        }
+        let (pairs, odd) = word.as_chunks::<2>();
+        if pairs.is_empty() || !odd.is_empty() {
+            return None;
+        }
+        pairs.iter().map(|&[high, low]| Some(digit(high)? << 4 | digit(low)?)).collect()
+    }
+
+    fn end(&mut self) -> Option<()> {
+        self.word().is_none().then_some(())
+    }
+}
+
+/// The value of a lower-case hex digit.
+fn digit(byte: u8) -> Option<u8> {
+    match byte {
+        b'0'..=b'9' => Some(byte - b'0'),
+        b'a'..=b'f' => Some(byte - b'a' + 10),
+        _ => None,
+    }
+}
