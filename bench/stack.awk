@@ -18,5 +18,5 @@ function say() {
 $2 == "push" { pushed += 8 }
 $2 == "add" && $3 ~ /^\$0x[0-9a-f]+,%rsp$/ && $3 !~ /ffffffff/ { n = number(substr($3, 4, length($3) - 8)); if (locals < n) locals = n }
 $2 == "sub" && $3 == "$0xffffffffffffff80,%rsp" { locals = 128 }
-$2 == "R_X86_64_PLT32" { sub(/-0x4$/, "", $3); if (index(calls " ", " " $3 " ") == 0) calls = calls " " $3 }
+$2 == "R_X86_64_PLT32" { sub(/-0x4$/, "", $3); sub(/^\.text\./, "", $3); if (index(calls " ", " " $3 " ") == 0) calls = calls " " $3 }
 END { say() }

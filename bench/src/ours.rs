@@ -1,4 +1,4 @@
-//! The static library's call, as Rust sees it.
+//! The static library's calls, as Rust sees them.
 
 use zniff_core::pti::{Direction, PtiFrame};
 
@@ -8,7 +8,8 @@ const WIDTH: usize = 8;
 /// More rows than a payload can need: a record with a frame has 22 bytes or more.
 const ROWS: usize = 3_000;
 
-/// `refusal` is 0 and `value` how many rows there are, or `refusal` is document 01's number.
+/// `refusal` is 0 and `value` how many rows there are, or `refusal` is document 01's number and
+/// `value` what it carries.
 #[repr(C)]
 pub struct TapAnswer {
     refusal: u64,
@@ -23,6 +24,19 @@ unsafe extern "C" {
         table: *mut u64,
         table_length: usize,
     ) -> TapAnswer;
+    pub fn tap_check_frame_text(text: *const u8, text_length: usize) -> TapAnswer;
+    pub fn tap_check_command_text(text: *const u8, text_length: usize) -> TapAnswer;
+}
+
+/// A check of definition texts.
+pub type Check = unsafe extern "C" fn(*const u8, usize) -> TapAnswer;
+
+/// What the check says of a text: 0 and 0, or document 01's number and the line.
+#[inline]
+pub fn verdict(check: Check, text: &[u8]) -> (u64, u64) {
+    // SAFETY: the slice is valid for the call, which only reads it.
+    let answer = unsafe { check(text.as_ptr(), text.len()) };
+    (answer.refusal, answer.value)
 }
 
 /// A table for any payload.

@@ -3,28 +3,31 @@
 
 use std::arch::asm;
 
-use crate::ours;
-
 const PAINT: u8 = 0xA5;
 const BLOCKS: usize = 1 << 16;
 
-/// The bytes of stack that `tap_parse_payload` takes here, its return address included.
-pub fn taken(payload: &[u8]) -> usize {
-    let mut table = ours::table();
+/// The bytes of stack that the call takes with these arguments, its return address included.
+///
+/// # Safety
+///
+/// `call` is a C function of at most four arguments, each of one register, and may be called with
+/// these.
+pub unsafe fn taken(call: *const (), arguments: [usize; 4]) -> usize {
     let mut stack = vec![u128::from_ne_bytes([PAINT; 16]); BLOCKS];
+    let [first, second, third, fourth] = arguments;
     // SAFETY: the top is aligned as the call wants it, and nothing else uses the painted stack.
     unsafe {
         asm!(
             "mov r12, rsp",
             "mov rsp, {top}",
-            "call {parse}",
+            "call {call}",
             "mov rsp, r12",
             top = in(reg) stack.as_mut_ptr_range().end,
-            parse = sym ours::tap_parse_payload,
-            in("rdi") payload.as_ptr(),
-            in("rsi") payload.len(),
-            in("rdx") table.as_mut_ptr(),
-            in("rcx") table.len(),
+            call = in(reg) call,
+            in("rdi") first,
+            in("rsi") second,
+            in("rdx") third,
+            in("rcx") fourth,
             out("r12") _,
             clobber_abi("C"),
         );

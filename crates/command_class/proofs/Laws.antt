@@ -60,19 +60,19 @@ module _ (t : List ℕ) (l : Line) (n : ℕ) (fields : Bool) (x : Option Record)
 
 -- what a line of a form says of its shift, its level and its type
 module _ (fs : List (List ℕ)) where
-  group-shift : groupFields fs ≡ true → upTo 255 (field 4 fs) ≡ true
+  pub group-shift : groupFields fs ≡ true → upTo 255 (field 4 fs) ≡ true
   group-shift e = and-right (upTo 255 (field 3 fs)) _ (and-right (upTo 255 (field 2 fs)) _ (and-right (name (field 1 fs)) _ e))
 
-  variant-shift : variantFields fs ≡ true → optionalUpTo 255 (field 3 fs) ≡ true
+  pub variant-shift : variantFields fs ≡ true → optionalUpTo 255 (field 3 fs) ≡ true
   variant-shift e = and-left (optionalUpTo 255 (field 3 fs)) (upTo 1 (field 4 fs)) (and-right (upTo 255 (field 2 fs)) _ (and-right (upTo 255 (field 1 fs)) _ e))
 
-  bits-shift : bitsFields fs ≡ true → optionalUpTo 255 (field 2 fs) ≡ true
+  pub bits-shift : bitsFields fs ≡ true → optionalUpTo 255 (field 2 fs) ≡ true
   bits-shift e = and-left (optionalUpTo 255 (field 2 fs)) (name (field 3 fs)) (and-right (upTo 255 (field 1 fs)) _ e)
 
-  param-level : paramFields fs ≡ true → upTo 1 (field 1 fs) ≡ true
+  pub param-level : paramFields fs ≡ true → upTo 1 (field 1 fs) ≡ true
   param-level e = and-left (upTo 1 (field 1 fs)) (known (typeOf (field 2 fs)) && name (field 3 fs)) (and-left (paramWords fs) (paramCondition fs) e)
 
-  param-type : paramFields fs ≡ true → known (typeOf (field 2 fs)) ≡ true
+  pub param-type : paramFields fs ≡ true → known (typeOf (field 2 fs)) ≡ true
   param-type e = and-left (known (typeOf (field 2 fs))) (name (field 3 fs)) (and-right (upTo 1 (field 1 fs)) _ (and-left (paramWords fs) (paramCondition fs) e))
 
 module _ (t : List ℕ) (l : Line) (b : Bool) (v : ℕ) where

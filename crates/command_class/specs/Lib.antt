@@ -1,3 +1,5 @@
 pub mod Form
 pub mod Rules
 pub mod Machine
+pub mod Definition
+pub mod Find

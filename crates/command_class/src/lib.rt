@@ -1,5 +1,7 @@
 // The command text: which texts are accepted, and which line of any other is refused by which number.
 // Counterpart of command_class/schema.rs.
+pub mod definition; // definition.rt: looking things up in an accepted text
+
 use refusal::Refusal;
 use text::Line;
 use text::Place;

@@ -3,4 +3,5 @@ pub mod Scan
 pub mod Place
 pub mod Judge
 pub mod Records
+pub mod Listing
 pub mod Examples

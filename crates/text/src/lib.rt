@@ -343,6 +343,12 @@ pub struct Place {
     pub line: usize,
 }
 
+// The place of a line that is looked for.
+pub enum Under {
+    At(Place),
+    Nothing,
+}
+
 // A line as it is read: its kind, its fields, and the place where the next line begins.
 pub struct Line {
     pub kind: u8,

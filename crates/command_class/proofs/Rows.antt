@@ -1,0 +1,374 @@
+-- Laws on reading the lines of an accepted command text as rows of numbers. Assumes nothing.
+use mathlib.Core.Path.{_≡_, refl, sym, ap, _∙_}
+use mathlib.Core.Bool.{Bool, true, false, cond, _&&_, _||_}
+use mathlib.Core.List.{List, [], _∷_}
+use mathlib.Core.Option.{Option, none, some}
+use Prim.Native.Nat.{ℕ, suc, _+_, _-_, _≤_, _<_}
+use native.Mathlib.Omega.{arith}
+use lib.Dec.{eqb, leb}
+use lib.ListN.{length}
+use borrow.Author.Tests.{eqb-true, eq-eqb, ne-eqb}
+use Rattle.text.specs.Text.{field, worth, decimal, upTo, value, missing, name, optionalUpTo, optionalValue, optional}
+use Rattle.text.specs.Text as text
+use Rattle.text.specs.Place.{kindOf, cells, In, Steps, Has}
+use Rattle.text.specs.Records.{isSome, Readable}
+use Rattle.text.specs.Listing.{listed, Stands, Next}
+use Rattle.text.specs.declared.Place.{Place}
+use Rattle.text.specs.declared.Line.{Line}
+use Rattle.text.specs.declared.Under.{Under}
+use Rattle.text.specs.declared.Under.the-variants.{At, Nothing}
+use Rattle.text.specs.declared.Number.the-variants.{Over}
+use Rattle.text.specs.declared.Number.the-variants as number
+use Rattle.text.specs.declared.Optional.{Optional}
+use Rattle.text.specs.declared.Optional.the-variants.{Given, Missing, Wrong}
+use Rattle.text.proofs.Laws.{cells-length}
+use Rattle.text.proofs.Tests.{and-left, and-right, value-of, optional-value-of}
+use Rattle.text.proofs.Listing.{found-at, found-in, found-inside}
+use Rattle.command_class.specs.Form.{Record, param, group, variant, array, bitFlag, bitField, fieldEnum, const, bitmask, typeOf, known, paramWords, paramCondition, paramFields, paramForm, paramOf, groupFields, groupForm, groupOf, variantFields, variantForm, sizeOf, arrayForm, asciiOf, namedForm, bitsFields, bitsForm, bitsOf, bitmaskForm, given, ofType, said, paramSaid, form}
+use Rattle.command_class.specs.Rules.{rules}
+use Rattle.command_class.specs.Definition.{Item, ends, under, letter, isConst, firstConst}
+use Rattle.command_class.specs.Find.{from, Good, ofKind, orMissing, optionalOr, Says, Tells, IsRead}
+use Rattle.command_class.specs.declared.definition.Row.{Row}
+use Rattle.command_class.specs.declared.ParamType.{ParamType}
+use Rattle.command_class.specs.declared.ParamType.the-variants.{Byte}
+use Rattle.command_class.specs.declared.Typed.{Typed}
+use Rattle.command_class.specs.declared.Typed.the-variants.{Is, Not}
+use Rattle.command_class.proofs.Laws.{group-shift, variant-shift, bits-shift, param-level, param-type}
+use Rattle.command_class.proofs.Finding.{Lined, lined, kind-letter}
+
+-- ---- what may be missing
+module _ (l : List ℕ) where
+  or-missing-given : (m d u : Bool) → (m || (d && u)) ≡ true → optionalOr (cond m Missing (text.given (cond d (cond u (number.Is (worth 0 l)) Over) number.Not))) ≡ orMissing (cond m none (some (worth 0 l)))
+  or-missing-given true d u e = refl
+  or-missing-given false true true e = refl
+  or-missing-given false true false e = absurd (let z : _≡_ {A = ℕ} 0 1 = cc in omega arith)
+  or-missing-given false false u e = absurd (let z : _≡_ {A = ℕ} 0 1 = cc in omega arith)
+
+  or-missing : optionalUpTo 255 l ≡ true → optionalOr (optional 255 l) ≡ orMissing (given l)
+  or-missing e = or-missing-given (missing l) (decimal l) (leb (worth 0 l) 255) e
+
+module _ (r o : Optional) (is : r ≡ o) where
+  pub optional-given : (n : ℕ) → r ≡ Given n → n ≡ optionalOr o
+  optional-given n e = rw (← is, e)
+
+  pub optional-missing : r ≡ Missing → 256 ≡ optionalOr o
+  optional-missing e = rw (← is, e)
+
+  pub optional-wrong : r ≡ Wrong → 256 ≡ optionalOr o
+  optional-wrong e = rw (← is, e)
+
+pub ruleset optional-laws = (optional-given, optional-missing, optional-wrong)
+
+-- ---- a line of a kind
+said-good : (fs : List (List ℕ)) (b : Bool) (y : Record) → form fs ≡ said b (some y) → isSome (form fs) ≡ true → (b ≡ true) × (form fs ≡ some y)
+said-good fs true y e f = (refl, e)
+said-good fs false y e f = absurd (let z : _≡_ {A = Bool} false true = rw e at f in let w : _≡_ {A = ℕ} 0 1 = cc in omega arith)
+
+param-good : (fs : List (List ℕ)) (b : Bool) (o : Typed) → form fs ≡ said b (ofType fs o) → isSome (form fs) ≡ true → (b ≡ true) × ((type : ParamType) × (o ≡ Is type) × (form fs ≡ some (param (paramOf fs type))))
+param-good fs true (Is type) e f = (refl, (type, refl, e))
+param-good fs true Not e f = absurd (let z : _≡_ {A = Bool} false true = rw e at f in let w : _≡_ {A = ℕ} 0 1 = cc in omega arith)
+param-good fs false o e f = absurd (let z : _≡_ {A = Bool} false true = rw e at f in let w : _≡_ {A = ℕ} 0 1 = cc in omega arith)
+
+module _ (t : List ℕ) (l : Line) (good : Good t l) where
+  abbrev fs : List (List ℕ)
+  fs = cells t l
+
+  has-of : (n : ℕ) (b : Bool) → (eqb (length fs) n && b) ≡ true → (k : ℕ) → k < n → Has t l k
+  has-of n b e k h = record { marked = good .marked; there = omega (arith, cells-length t (l .marks) (l .fields) 0, eqb-true (length fs) n (and-left (eqb (length fs) n) b e)) }
+
+  -- Q
+  module _ (is : l .kind ≡ 81) where
+    q-said : (paramForm fs ≡ true) × ((type : ParamType) × (typeOf (field 2 fs) ≡ Is type) × (form fs ≡ some (param (paramOf fs type))))
+    q-said = param-good fs (paramForm fs) (typeOf (field 2 fs)) (rw (sym (good .kind-is) ∙ is)) (good .formed)
+
+    pub param-has : (k : ℕ) → k < 6 → Has t l k
+    param-has k h = has-of 6 (paramFields fs) (q-said .0) k h
+
+    pub type-says : (s : List ℕ) (r : Typed) (type : ParamType) → s ≡ field 2 fs → r ≡ typeOf s → r ≡ Is type → typeOf (field 2 fs) ≡ Is type
+    type-says s r type part e q = rw (← part, ← e) q
+
+    pub type-never : (s : List ℕ) (r : Typed) → s ≡ field 2 fs → r ≡ typeOf s → r ≡ Not → typeOf (field 2 fs) ≡ Is Byte
+    type-never s r part e q = absurd (let z : Is (q-said .1 .0) ≡ Not = sym (q-said .1 .1) ∙ (rw part at (sym e ∙ q)) in let w : _≡_ {A = ℕ} 0 1 = cc in omega arith)
+
+    pub param-tells : (v o m : ℕ) (type : ParamType) → v ≡ value 1 (field 1 fs) → typeOf (field 2 fs) ≡ Is type → o ≡ optionalOr (optional 255 (field 4 fs)) → m ≡ optionalOr (optional 255 (field 5 fs))
+        → Tells t l (record { kind = 81; level = v; typed = type; offset = o; mask = m; shift = 0; value = 0; ascii = false })
+    param-tells v o m type ev et eo em =
+        let w : paramFields fs ≡ true = and-right (eqb (length fs) 6) (paramFields fs) (q-said .0) in
+        let c : paramCondition fs ≡ true = and-right (paramWords fs) (paramCondition fs) w in
+        let same : q-said .1 .0 ≡ type = let z : Is (q-said .1 .0) ≡ Is type = sym (q-said .1 .1) ∙ et in cc in
+        record {
+          said = param (paramOf fs type);
+          form-is = q-said .1 .2 ∙ ap (λ (x : ParamType). some (param (paramOf fs x))) same;
+          kind = refl;
+          says = (
+            ev ∙ value-of 1 (field 1 fs) (param-level fs w),
+            refl,
+            eo ∙ or-missing (field 4 fs) (and-left (optionalUpTo 255 (field 4 fs)) (optionalUpTo 255 (field 5 fs)) c),
+            em ∙ or-missing (field 5 fs) (and-right (optionalUpTo 255 (field 4 fs)) (optionalUpTo 255 (field 5 fs)) c),
+          );
+        }
+
+  -- G
+  module _ (is : l .kind ≡ 71) where
+    g-said : (groupForm fs ≡ true) × (form fs ≡ some (group (groupOf fs)))
+    g-said = said-good fs (groupForm fs) _ (rw (sym (good .kind-is) ∙ is)) (good .formed)
+
+    pub group-has : (k : ℕ) → k < 5 → Has t l k
+    group-has k h = has-of 5 (groupFields fs) (g-said .0) k h
+
+    pub group-tells : (o m s : ℕ) → o ≡ value 255 (field 2 fs) → m ≡ value 255 (field 3 fs) → s ≡ value 255 (field 4 fs)
+        → Tells t l (record { kind = 71; level = 0; typed = Byte; offset = o; mask = m; shift = s; value = 0; ascii = false })
+    group-tells o m s eo em es =
+        let w : groupFields fs ≡ true = and-right (eqb (length fs) 5) (groupFields fs) (g-said .0) in
+        let x : (upTo 255 (field 2 fs) && (upTo 255 (field 3 fs) && upTo 255 (field 4 fs))) ≡ true = and-right (name (field 1 fs)) _ w in
+        let y : (upTo 255 (field 3 fs) && upTo 255 (field 4 fs)) ≡ true = and-right (upTo 255 (field 2 fs)) _ x in
+        record {
+          said = group (groupOf fs);
+          form-is = g-said .1;
+          kind = refl;
+          says = (
+            eo ∙ value-of 255 (field 2 fs) (and-left (upTo 255 (field 2 fs)) (upTo 255 (field 3 fs) && upTo 255 (field 4 fs)) x),
+            em ∙ value-of 255 (field 3 fs) (and-left (upTo 255 (field 3 fs)) (upTo 255 (field 4 fs)) y),
+            es ∙ value-of 255 (field 4 fs) (group-shift fs w),
+          );
+        }
+
+  ascii-of : (f v : ℕ) → v ≡ value 1 (field f fs) → upTo 1 (field f fs) ≡ true → eqb v 1 ≡ asciiOf (field f fs)
+  ascii-of f v e u = ap (λ (n : ℕ). eqb n 1) (e ∙ value-of 1 (field f fs) u)
+
+  -- R
+  module _ (is : l .kind ≡ 82) where
+    r-said : (variantForm fs ≡ true) × (form fs ≡ some (variant (sizeOf fs)))
+    r-said = said-good fs (variantForm fs) _ (rw (sym (good .kind-is) ∙ is)) (good .formed)
+
+    pub variant-has : (k : ℕ) → k < 5 → Has t l k
+    variant-has k h = has-of 5 (variantFields fs) (r-said .0) k h
+
+    pub variant-tells : (o m s a : ℕ) → o ≡ value 255 (field 1 fs) → m ≡ value 255 (field 2 fs) → s ≡ optionalValue 255 (field 3 fs) → a ≡ value 1 (field 4 fs)
+        → Tells t l (record { kind = 82; level = 0; typed = Byte; offset = o; mask = m; shift = s; value = 0; ascii = eqb a 1 })
+    variant-tells o m s a eo em es ea =
+        let w : variantFields fs ≡ true = and-right (eqb (length fs) 5) (variantFields fs) (r-said .0) in
+        let x : (upTo 255 (field 2 fs) && (optionalUpTo 255 (field 3 fs) && upTo 1 (field 4 fs))) ≡ true = and-right (upTo 255 (field 1 fs)) _ w in
+        let y : (optionalUpTo 255 (field 3 fs) && upTo 1 (field 4 fs)) ≡ true = and-right (upTo 255 (field 2 fs)) _ x in
+        record {
+          said = variant (sizeOf fs);
+          form-is = r-said .1;
+          kind = refl;
+          says = (
+            eo ∙ value-of 255 (field 1 fs) (and-left (upTo 255 (field 1 fs)) _ w),
+            em ∙ value-of 255 (field 2 fs) (and-left (upTo 255 (field 2 fs)) _ x),
+            es ∙ optional-value-of 255 (field 3 fs) (variant-shift fs w),
+            ascii-of 4 a ea (and-right (optionalUpTo 255 (field 3 fs)) (upTo 1 (field 4 fs)) y),
+          );
+        }
+
+  -- A
+  module _ (is : l .kind ≡ 65) where
+    a-said : (arrayForm fs ≡ true) × (form fs ≡ some (array (worth 0 (field 1 fs)) (asciiOf (field 2 fs))))
+    a-said = said-good fs (arrayForm fs) _ (rw (sym (good .kind-is) ∙ is)) (good .formed)
+
+    pub array-has : (k : ℕ) → k < 3 → Has t l k
+    array-has k h = has-of 3 _ (a-said .0) k h
+
+    pub array-tells : (v a : ℕ) → v ≡ value 255 (field 1 fs) → a ≡ value 1 (field 2 fs)
+        → Tells t l (record { kind = 65; level = 0; typed = Byte; offset = 0; mask = 0; shift = 0; value = v; ascii = eqb a 1 })
+    array-tells v a ev ea =
+        let w : (upTo 255 (field 1 fs) && upTo 1 (field 2 fs)) ≡ true = and-right (eqb (length fs) 3) _ (a-said .0) in
+        record {
+          said = array (worth 0 (field 1 fs)) (asciiOf (field 2 fs));
+          form-is = a-said .1;
+          kind = refl;
+          says = (ev ∙ value-of 255 (field 1 fs) (and-left (upTo 255 (field 1 fs)) (upTo 1 (field 2 fs)) w), ascii-of 2 a ea (and-right (upTo 255 (field 1 fs)) (upTo 1 (field 2 fs)) w));
+        }
+
+  -- T and K
+  named-value : namedForm fs ≡ true → value 255 (field 1 fs) ≡ worth 0 (field 1 fs)
+  named-value e = value-of 255 (field 1 fs) (and-left (upTo 255 (field 1 fs)) (name (field 2 fs)) (and-right (eqb (length fs) 3) _ e))
+
+  module _ (is : l .kind ≡ 84) where
+    t-said : (namedForm fs ≡ true) × (form fs ≡ some (bitFlag (worth 0 (field 1 fs)) (field 2 fs)))
+    t-said = said-good fs (namedForm fs) _ (rw (sym (good .kind-is) ∙ is)) (good .formed)
+
+    pub bit-flag-has : (k : ℕ) → k < 3 → Has t l k
+    bit-flag-has k h = has-of 3 _ (t-said .0) k h
+
+    pub bit-flag-tells : (m : ℕ) → m ≡ value 255 (field 1 fs) → Tells t l (record { kind = 84; level = 0; typed = Byte; offset = 0; mask = m; shift = 0; value = 0; ascii = false })
+    bit-flag-tells m e = record { said = bitFlag (worth 0 (field 1 fs)) (field 2 fs); form-is = t-said .1; kind = refl; says = e ∙ named-value (t-said .0) }
+
+  module _ (is : l .kind ≡ 75) where
+    k-said : (namedForm fs ≡ true) × (form fs ≡ some (const (worth 0 (field 1 fs)) (field 2 fs)))
+    k-said = said-good fs (namedForm fs) _ (rw (sym (good .kind-is) ∙ is)) (good .formed)
+
+    pub const-has : (k : ℕ) → k < 3 → Has t l k
+    const-has k h = has-of 3 _ (k-said .0) k h
+
+    pub const-tells : (v : ℕ) → v ≡ value 255 (field 1 fs) → Tells t l (record { kind = 75; level = 0; typed = Byte; offset = 0; mask = 0; shift = 0; value = v; ascii = false })
+    const-tells v e = record { said = const (worth 0 (field 1 fs)) (field 2 fs); form-is = k-said .1; kind = refl; says = e ∙ named-value (k-said .0) }
+
+  -- S and U
+  bits-says : (m s : ℕ) → bitsForm fs ≡ true → m ≡ value 255 (field 1 fs) → s ≡ optionalValue 255 (field 2 fs) → (m ≡ bitsOf fs .mask) × (s ≡ bitsOf fs .shift)
+  bits-says m s h em es =
+      let w : bitsFields fs ≡ true = and-right (eqb (length fs) 4) (bitsFields fs) h in
+      (em ∙ value-of 255 (field 1 fs) (and-left (upTo 255 (field 1 fs)) _ w), es ∙ optional-value-of 255 (field 2 fs) (bits-shift fs w))
+
+  module _ (is : l .kind ≡ 83) where
+    s-said : (bitsForm fs ≡ true) × (form fs ≡ some (bitField (bitsOf fs)))
+    s-said = said-good fs (bitsForm fs) _ (rw (sym (good .kind-is) ∙ is)) (good .formed)
+
+    pub bit-field-has : (k : ℕ) → k < 4 → Has t l k
+    bit-field-has k h = has-of 4 (bitsFields fs) (s-said .0) k h
+
+    pub bit-field-tells : (m s : ℕ) → m ≡ value 255 (field 1 fs) → s ≡ optionalValue 255 (field 2 fs) → Tells t l (record { kind = 83; level = 0; typed = Byte; offset = 0; mask = m; shift = s; value = 0; ascii = false })
+    bit-field-tells m s em es = record { said = bitField (bitsOf fs); form-is = s-said .1; kind = refl; says = bits-says m s (s-said .0) em es }
+
+  module _ (is : l .kind ≡ 85) where
+    u-said : (bitsForm fs ≡ true) × (form fs ≡ some (fieldEnum (bitsOf fs)))
+    u-said = said-good fs (bitsForm fs) _ (rw (sym (good .kind-is) ∙ is)) (good .formed)
+
+    pub field-enum-has : (k : ℕ) → k < 4 → Has t l k
+    field-enum-has k h = has-of 4 (bitsFields fs) (u-said .0) k h
+
+    pub field-enum-tells : (m s : ℕ) → m ≡ value 255 (field 1 fs) → s ≡ optionalValue 255 (field 2 fs) → Tells t l (record { kind = 85; level = 0; typed = Byte; offset = 0; mask = m; shift = s; value = 0; ascii = false })
+    field-enum-tells m s em es = record { said = fieldEnum (bitsOf fs); form-is = u-said .1; kind = refl; says = bits-says m s (u-said .0) em es }
+
+  -- M
+  module _ (is : l .kind ≡ 77) where
+    m-said : (bitmaskForm fs ≡ true) × (form fs ≡ some (bitmask (given (field 1 fs))))
+    m-said = said-good fs (bitmaskForm fs) _ (rw (sym (good .kind-is) ∙ is)) (good .formed)
+
+    pub bitmask-has : (k : ℕ) → k < 2 → Has t l k
+    bitmask-has k h = has-of 2 _ (m-said .0) k h
+
+    pub bitmask-tells : (v : ℕ) → v ≡ optionalOr (optional 255 (field 1 fs)) → Tells t l (record { kind = 77; level = 0; typed = Byte; offset = 0; mask = 0; shift = 0; value = v; ascii = false })
+    bitmask-tells v e = record { said = bitmask (given (field 1 fs)); form-is = m-said .1; kind = refl; says = e ∙ or-missing (field 1 fs) (and-right (eqb (length fs) 2) (optionalUpTo 255 (field 1 fs)) (m-said .0)) }
+
+  -- no other kind
+  pub last-kind : (l .kind ≡ 81 → ⊥) → (l .kind ≡ 71 → ⊥) → (l .kind ≡ 82 → ⊥) → (l .kind ≡ 65 → ⊥) → (l .kind ≡ 84 → ⊥) → (l .kind ≡ 83 → ⊥) → (l .kind ≡ 85 → ⊥) → (l .kind ≡ 75 → ⊥) → l .kind ≡ 77
+  last-kind q g r a f s u k = go (form fs) refl (good .formed)
+    where
+      of-record : (x : Record) → l .kind ≡ letter x → l .kind ≡ 77
+      of-record (param y) e = absurd (q e)
+      of-record (group y) e = absurd (g e)
+      of-record (variant y) e = absurd (r e)
+      of-record (array n y) e = absurd (a e)
+      of-record (bitFlag m y) e = absurd (f e)
+      of-record (bitField y) e = absurd (s e)
+      of-record (fieldEnum y) e = absurd (u e)
+      of-record (const v y) e = absurd (k e)
+      of-record (bitmask y) e = e
+
+      go : (x : Option Record) → form fs ≡ x → isSome x ≡ true → l .kind ≡ 77
+      go none e h = absurd (let z : _≡_ {A = ℕ} 0 1 = cc in omega arith)
+      go (some x) e h = of-record x (good .kind-is ∙ kind-letter fs x e)
+
+pub ruleset param-laws = (param-has, type-says, type-never, param-tells)
+
+pub ruleset row-laws = (group-has, group-tells, variant-has, variant-tells, array-has, array-tells, bit-flag-has, bit-flag-tells, const-has, const-tells, bit-field-has, bit-field-tells, field-enum-has, field-enum-tells, bitmask-has, bitmask-tells)
+
+-- ---- the line at a place
+module _ (t : List ℕ) (p : Place) (l : Line) (readable : Readable rules t p) (inside : p .at < length t) (step : Steps t p l) where
+  abbrev line-here : Lined t p l
+  line-here = lined t p l readable inside step
+
+  pub read-good : Good t l
+  read-good = record { marked = step .marked; kind-is = step .kind-is; formed = rw (line-here .form-is) }
+
+  pub read-is : (r : Row) → Tells t l r → IsRead t p (record { row = r; next = l .next })
+  read-is r h =
+      let same : line-here .says ≡ h .said = let z : some (line-here .says) ≡ some (h .said) = sym (line-here .form-is) ∙ h .form-is in cc in
+      record {
+        said = h .said;
+        lines = line-here .lines ∙ ap (λ (x : Record). record { line = p .line; says = x } ∷ from t (l .next)) same;
+        kind = h .kind;
+        says = h .says;
+        next = line-here .next;
+        on = step .on;
+      }
+
+pub ruleset read-laws = (read-good, read-is)
+
+-- ---- the first K with a value
+consts-of : (v : ℕ) (is : List Item) → firstConst v (under is) ≡ firstConst v (listed ends (ofKind 75 75 75) is)
+consts-of v [] = refl
+consts-of v (i ∷ is) = go (ends i) (consts-of v is)
+  where
+    by-record : (x : Record) → i .says ≡ x → firstConst v (under is) ≡ firstConst v (listed ends (ofKind 75 75 75) is)
+        → firstConst v (i ∷ under is) ≡ firstConst v (cond (ofKind 75 75 75 i) (i ∷ listed ends (ofKind 75 75 75) is) (listed ends (ofKind 75 75 75) is))
+    by-record (param q) e ih = rw e ih
+    by-record (group g) e ih = rw e ih
+    by-record (variant s) e ih = rw e ih
+    by-record (array n a) e ih = rw e ih
+    by-record (bitFlag m n) e ih = rw e ih
+    by-record (bitField b) e ih = rw e ih
+    by-record (fieldEnum b) e ih = rw e ih
+    by-record (const w n) e ih = rw (e, ih)
+    by-record (bitmask n) e ih = rw e ih
+
+    go : (b : Bool) → firstConst v (under is) ≡ firstConst v (listed ends (ofKind 75 75 75) is)
+        → firstConst v (cond b [] (i ∷ under is)) ≡ firstConst v (cond b [] (cond (ofKind 75 75 75 i) (i ∷ listed ends (ofKind 75 75 75) is) (listed ends (ofKind 75 75 75) is)))
+    go true ih = refl
+    go false ih = by-record (i .says) refl ih
+
+pub record Naming (t : List ℕ) (p₀ : Place) (v : ℕ) (p : Place) : Type 0 where
+  pub readable : Readable rules t p
+  pub so : firstConst v (under (from t p₀)) ≡ firstConst v (under (from t p))
+
+pub const-start : (t : List ℕ) (p : Place) (v : ℕ) → Readable rules t p → Naming t p v p
+const-start t p v r = record { readable = r; so = refl }
+
+pub const-readable : (t : List ℕ) (p₀ : Place) (v : ℕ) (p : Place) → Naming t p₀ v p → Readable rules t p
+const-readable t p₀ v p k = k .readable
+
+module _ (t : List ℕ) (p₀ : Place) (v : ℕ) (p : Place) (r : Under) (k : Naming t p₀ v p) (found : Next ends (ofKind 75 75 75) rules from t p r) where
+  pub const-none : r ≡ Nothing → 0 ≡ firstConst v (under (from t p₀))
+  const-none e = sym (k .so ∙ consts-of v (from t p) ∙ ap (firstConst v) (rw e at found))
+
+  pub const-in : (q : Place) → r ≡ At q → In t q
+  const-in q e = found-in ends (ofKind 75 75 75) rules from t p q r found e
+
+  pub const-inside : (q : Place) → r ≡ At q → q .at < length t
+  const-inside q e = found-inside ends (ofKind 75 75 75) rules from t p q r found e
+
+  module _ (q : Place) (l : Line) (e : r ≡ At q) (step : Steps t q l) where
+    stands : Stands ends (ofKind 75 75 75) rules from t p q
+    stands = found-at ends (ofKind 75 75 75) rules from t p q r found e
+
+    abbrev const-here : Lined t q l
+    const-here = lined t q l (stands .readable) (stands .inside) step
+
+    const-good : Good t l
+    const-good = record { marked = step .marked; kind-is = step .kind-is; formed = rw (const-here .form-is) }
+
+    const-kind : l .kind ≡ 75
+    const-kind = const-here .kind-is ∙ same-letter (rw (const-here .lines) at (stands .there))
+      where
+        three : (b : Bool) → (b || (b || b)) ≡ true → b ≡ true
+        three true h = refl
+        three false h = h
+
+        same-letter : ofKind 75 75 75 (record { line = q .line; says = const-here .says }) ≡ true → letter (const-here .says) ≡ 75
+        same-letter h = eqb-true (letter (const-here .says)) 75 (three (eqb (letter (const-here .says)) 75) h)
+
+    pub const-field : Has t l 1
+    const-field = const-has t l const-good const-kind 1 (omega arith)
+
+    is-const : const-here .says ≡ const (worth 0 (field 1 (cells t l))) (field 2 (cells t l))
+    is-const = let z : some (const-here .says) ≡ some (const (worth 0 (field 1 (cells t l))) (field 2 (cells t l))) = sym (const-here .form-is) ∙ k-said t l const-good const-kind .1 in cc
+
+    told-const : firstConst v (under (from t p₀)) ≡ cond (eqb (value 255 (field 1 (cells t l))) v) (q .line) (firstConst v (under (from t (l .next))))
+    told-const =
+        k .so ∙ consts-of v (from t p) ∙ ap (firstConst v) (stands .alike) ∙ sym (consts-of v (from t q))
+        ∙ ap (λ (is : List Item). firstConst v (under is)) (const-here .lines ∙ ap (λ (x : Record). record { line = q .line; says = x } ∷ from t (l .next)) is-const)
+        ∙ rw (named-value t l const-good (k-said t l const-good const-kind .0))
+
+    module _ (n : ℕ) (says : n ≡ value 255 (field 1 (cells t l))) where
+      pub const-hit : n ≡ v → q .line ≡ firstConst v (under (from t p₀))
+      const-hit h = rw (told-const, eq-eqb (value 255 (field 1 (cells t l))) v (sym says ∙ h))
+
+      pub const-next : (n ≡ v → ⊥) → Naming t p₀ v (l .next)
+      const-next h = record { readable = const-here .next; so = rw (told-const, ne-eqb (value 255 (field 1 (cells t l))) v (λ z. h (says ∙ z))) }
+
+    pub const-less : length t - l .next .at < length t - p .at
+    const-less = omega (arith, stands .after, stands .inside, step .on)
+
+pub ruleset const-laws = (const-start, const-readable, const-none, const-in, const-inside, const-field, const-hit, const-next, const-less)

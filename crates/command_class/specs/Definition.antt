@@ -1,0 +1,100 @@
+-- The definition that an accepted command text stands for, as plain data; document 01, "Parameters of a command", says what is looked for in it.
+use Prim.Native.Nat.{ℕ, suc}
+use mathlib.Core.Bool.{Bool, true, false, cond}
+use mathlib.Core.List.{List, [], _∷_}
+use lib.Dec.{eqb}
+use Rattle.text.specs.Text.{lines}
+use Rattle.text.specs.Records.{records}
+use Rattle.text.specs.Listing.{listed}
+use Rattle.command_class.specs.Form.{Param, Group, Record, param, group, variant, array, bitFlag, bitField, fieldEnum, const, bitmask, form}
+use Rattle.command_class.specs.Rules.{begins}
+
+-- a line: its number in the text, from 1, and what it says
+pub record Item : Type 0 where
+  pub line : ℕ
+  pub says : Record
+
+-- a Q line, with the lines under it
+pub record Parameter : Type 0 where
+  pub line : ℕ
+  pub says : Param
+  pub items : List Item
+
+-- a Q of level 0, or a G with its members
+pub data Entry : Type 0 where
+  single : Parameter → Entry
+  repeated : ℕ → Group → List Parameter → Entry
+
+-- the lines, of which the first has the number n
+abbrev pub numbered : ℕ → List Record → List Item
+numbered n [] = []
+numbered n (r ∷ rs) = record { line = n; says = r } ∷ numbered (suc n) rs
+
+-- ends a line what stands under a Q
+abbrev pub ends : Item → Bool
+ends i = begins (i .says)
+
+-- "under a Q, before the next Q or G"
+abbrev pub under : List Item → List Item
+under is = listed ends (λ i. true) is
+
+-- "later level 1 Qs are its members, until a level 0 Q or a G"
+abbrev pub membersAt : ℕ → List Record → List Parameter
+membersAt n [] = []
+membersAt n (param q ∷ rs) = cond (eqb (q .level) 1) (record { line = n; says = q; items = under (numbered (suc n) rs) } ∷ membersAt (suc n) rs) []
+membersAt n (group g ∷ rs) = []
+membersAt n (variant s ∷ rs) = membersAt (suc n) rs
+membersAt n (array length ascii ∷ rs) = membersAt (suc n) rs
+membersAt n (bitFlag mask name ∷ rs) = membersAt (suc n) rs
+membersAt n (bitField b ∷ rs) = membersAt (suc n) rs
+membersAt n (fieldEnum b ∷ rs) = membersAt (suc n) rs
+membersAt n (const value name ∷ rs) = membersAt (suc n) rs
+membersAt n (bitmask length ∷ rs) = membersAt (suc n) rs
+
+-- a Q of level 0 stands by itself, one of level 1 in its group
+abbrev pub entriesAt : ℕ → List Record → List Entry
+entriesAt n [] = []
+entriesAt n (param q ∷ rs) = cond (eqb (q .level) 0) (single (record { line = n; says = q; items = under (numbered (suc n) rs) }) ∷ entriesAt (suc n) rs) (entriesAt (suc n) rs)
+entriesAt n (group g ∷ rs) = repeated n g (membersAt (suc n) rs) ∷ entriesAt (suc n) rs
+entriesAt n (variant s ∷ rs) = entriesAt (suc n) rs
+entriesAt n (array length ascii ∷ rs) = entriesAt (suc n) rs
+entriesAt n (bitFlag mask name ∷ rs) = entriesAt (suc n) rs
+entriesAt n (bitField b ∷ rs) = entriesAt (suc n) rs
+entriesAt n (fieldEnum b ∷ rs) = entriesAt (suc n) rs
+entriesAt n (const value name ∷ rs) = entriesAt (suc n) rs
+entriesAt n (bitmask length ∷ rs) = entriesAt (suc n) rs
+
+-- what a command text defines: its Qs and Gs, in text order
+abbrev pub definition : List ℕ → List Entry
+definition t = entriesAt 1 (records form (lines t))
+
+-- ---- what is looked for
+
+-- the letter of a line
+abbrev pub letter : Record → ℕ
+letter (param q) = 0x51
+letter (group g) = 0x47
+letter (variant s) = 0x52
+letter (array length ascii) = 0x41
+letter (bitFlag mask name) = 0x54
+letter (bitField b) = 0x53
+letter (fieldEnum b) = 0x55
+letter (const value name) = 0x4b
+letter (bitmask length) = 0x4d
+
+-- is a K of this value
+abbrev pub isConst : ℕ → Record → Bool
+isConst v (param q) = false
+isConst v (group g) = false
+isConst v (variant s) = false
+isConst v (array length ascii) = false
+isConst v (bitFlag mask name) = false
+isConst v (bitField b) = false
+isConst v (fieldEnum b) = false
+isConst v (const value name) = eqb value v
+isConst v (bitmask length) = false
+
+-- "line of the first K whose value is .. or 0"
+abbrev pub firstConst : ℕ → List Item → ℕ
+firstConst v [] = 0
+firstConst v (i ∷ is) = cond (isConst v (i .says)) (i .line) (firstConst v is)

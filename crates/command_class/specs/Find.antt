@@ -1,0 +1,88 @@
+-- How the answers of the code that looks things up in an accepted command text are read.
+use Prim.Native.Nat.{ℕ, suc, _≤_, _<_}
+use mathlib.Core.Bool.{Bool, true, false, _||_}
+use mathlib.Core.Path.{_≡_}
+use mathlib.Core.List.{List, [], _∷_}
+use mathlib.Core.Option.{Option, none, some}
+use lib.Dec.{eqb}
+use Rattle.text.specs.Place.{kindOf, cells, Marked}
+use Rattle.text.specs.Records.{isSome, rest, Readable}
+use Rattle.text.specs.Listing.{Next}
+use Rattle.text.specs.declared.Place.{Place}
+use Rattle.text.specs.declared.Line.{Line}
+use Rattle.text.specs.declared.Under.{Under}
+use Rattle.text.specs.declared.Optional.{Optional}
+use Rattle.text.specs.declared.Optional.the-variants.{Given, Missing, Wrong}
+use Rattle.command_class.specs.Form.{Record, param, group, variant, array, bitFlag, bitField, fieldEnum, const, bitmask, form}
+use Rattle.command_class.specs.Rules.{rules}
+use Rattle.command_class.specs.Definition.{Item, numbered, ends, letter}
+use Rattle.command_class.specs.declared.definition.Row.{Row}
+use Rattle.command_class.specs.declared.definition.Read.{Read}
+
+-- the lines of t from the place p on
+abbrev pub from : List ℕ → Place → List Item
+from t p = numbered (p .line) (rest rules t p)
+
+-- a line of a text that is accepted from there on
+pub record Good (t : List ℕ) (l : Line) : Type 0 where
+  pub marked : Marked t (l .marks) (l .fields)
+  pub kind-is : l .kind ≡ kindOf (cells t l)
+  pub formed : isSome (form (cells t l)) ≡ true
+
+-- is a letter one of three
+abbrev pub among : ℕ → ℕ → ℕ → ℕ → Bool
+among a b c k = eqb k a || (eqb k b || eqb k c)
+
+-- is a line of one of three kinds
+abbrev pub ofKind : ℕ → ℕ → ℕ → Item → Bool
+ofKind a b c i = among a b c (letter (i .says))
+
+-- never
+abbrev pub never : Item → Bool
+never i = false
+
+-- the next line of one of three kinds under a Q, and anywhere
+abbrev pub NextUnder : List ℕ → Place → ℕ → ℕ → ℕ → Under → Type 0
+NextUnder t p a b c r = Next ends (ofKind a b c) rules from t p r
+
+abbrev pub NextEntry : List ℕ → Place → Under → Type 0
+NextEntry t p r = Next never (ofKind 0x51 0x47 0x47) rules from t p r
+
+-- a number that may be missing: 256
+abbrev pub orMissing : Option ℕ → ℕ
+orMissing none = 256
+orMissing (some n) = n
+
+-- the same, of what a field says
+abbrev pub optionalOr : Optional → ℕ
+optionalOr (Given n) = n
+optionalOr Missing = 256
+optionalOr Wrong = 256
+
+-- the numbers of a row are what the line says
+abbrev pub Says : Record → Row → Type 0
+Says (param q) r = (r .level ≡ q .level) × (r .typed ≡ q .type) × (r .offset ≡ orMissing (q .offset)) × (r .mask ≡ orMissing (q .mask))
+Says (group g) r = (r .offset ≡ g .offset) × (r .mask ≡ g .mask) × (r .shift ≡ g .shift)
+Says (variant s) r = (r .offset ≡ s .offset) × (r .mask ≡ s .mask) × (r .shift ≡ s .shift) × (r .ascii ≡ s .ascii)
+Says (array length ascii) r = (r .value ≡ length) × (r .ascii ≡ ascii)
+Says (bitFlag mask name) r = r .mask ≡ mask
+Says (bitField b) r = (r .mask ≡ b .mask) × (r .shift ≡ b .shift)
+Says (fieldEnum b) r = (r .mask ≡ b .mask) × (r .shift ≡ b .shift)
+Says (const value name) r = r .value ≡ value
+Says (bitmask length) r = r .value ≡ orMissing length
+
+-- a row tells what a line says
+pub record Tells (t : List ℕ) (l : Line) (r : Row) : Type 0 where
+  pub said : Record
+  pub form-is : form (cells t l) ≡ some said
+  pub kind : r .kind ≡ letter said
+  pub says : Says said r
+
+-- the line at the place p, and the place after it
+pub record IsRead (t : List ℕ) (p : Place) (r : Read) : Type 0 where
+  pub said : Record
+  pub lines : from t p ≡ record { line = p .line; says = said } ∷ from t (r .next)
+  pub kind : r .row .kind ≡ letter said
+  pub says : Says said (r .row)
+  pub next : Readable rules t (r .next)
+  pub on : p .at < r .next .at

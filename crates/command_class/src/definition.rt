@@ -1,0 +1,309 @@
+// Looking things up in an accepted command text. Every loop reads on from a place where a line begins.
+use crate::ParamType;
+use crate::Typed;
+use text::Line;
+use text::Optional;
+use text::Place;
+use text::Under;
+ghost use mathlib.Core.Path.{_≡_};
+ghost use Prim.Native.Nat.{_<_};
+ghost use lib.ListN.{length};
+ghost use Rattle.text.specs.Text.{field, optional};
+ghost use Rattle.text.specs.Place.{cells, Has};
+ghost use Rattle.text.specs.Records.{Readable};
+ghost use Rattle.command_class.specs.Form.{typeOf};
+ghost use Rattle.command_class.specs.Rules.{rules};
+ghost use Rattle.command_class.specs.Definition.{under, firstConst};
+ghost use Rattle.command_class.specs.Find.{from, Good, among, NextUnder, NextEntry, optionalOr, Tells, IsRead};
+
+// What a line says, as numbers; 256 for a missing offset, mask or length, 0 where the line has no such number.
+pub struct Row {
+    pub kind: u8,
+    pub level: u16,
+    pub typed: ParamType,
+    pub offset: u16,
+    pub mask: u16,
+    pub shift: u16,
+    pub value: u16,
+    pub ascii: bool,
+}
+
+// A line, and the place after it.
+pub struct Read {
+    pub row: Row,
+    pub next: Place,
+}
+
+// Is the kind one of three?
+fn is_among(kind: u8, a: u8, b: u8, c: u8) -> bool
+    ensures { λ r. ⌜ r ≡ among a b c kind ⌝ }
+{
+    if kind == a {
+        return true;
+    }
+    if kind == b {
+        return true;
+    }
+    kind == c
+}
+
+// The next line of one of three kinds under the Q before the place.
+pub fn next_under(text: &[u8], start: Place, a: u8, b: u8, c: u8) -> Under
+    requires { ⌜ Readable rules (now text) start ⌝ }
+    ensures { λ r. ⌜ NextUnder (now (text .entry)) start a b c r ⌝ }
+{
+    let mut place = start;
+    while place.at < text.len() {
+        let line = place.step(text);
+        if is_among(line.kind, a, b, c) {
+            return Under::At(place);
+        }
+        if is_among(line.kind, b'Q', b'G', b'G') {
+            return Under::Nothing;
+        }
+        place = line.next;
+    }
+    Under::Nothing
+}
+
+// The next Q or G.
+pub fn next_entry(text: &[u8], start: Place) -> Under
+    requires { ⌜ Readable rules (now text) start ⌝ }
+    ensures { λ r. ⌜ NextEntry (now (text .entry)) start r ⌝ }
+{
+    let mut place = start;
+    while place.at < text.len() {
+        let line = place.step(text);
+        if is_among(line.kind, b'Q', b'G', b'G') {
+            return Under::At(place);
+        }
+        place = line.next;
+    }
+    Under::Nothing
+}
+
+// The number that field k says, or 256 where it is missing.
+fn or_missing(text: &[u8], line: Line, k: usize) -> u16
+    requires { ⌜ Has (now text) line k ⌝ }
+    ensures { λ r. ⌜ r ≡ optionalOr (optional 255 (field k (cells (now (text .entry)) line))) ⌝ }
+{
+    match line.optional(text, k, 255) {
+        Optional::Given(n) => n,
+        Optional::Missing => 256,
+        Optional::Wrong => 256,
+    }
+}
+
+// The type that field 2 of a Q names.
+fn type_of(text: &[u8], line: Line) -> ParamType
+    requires { ⌜ (Good (now text) line) × (line .kind ≡ 81) ⌝ }
+    ensures { λ r. ⌜ typeOf (field 2 (cells (now (text .entry)) line)) ≡ Typed.Is r ⌝ }
+{
+    match crate::read_type(line.field(text, 2)) {
+        Typed::Is(found) => found,
+        Typed::Not => ParamType::Byte,
+    }
+}
+
+// What a Q line says.
+fn read_param(text: &[u8], line: Line) -> Row
+    requires { ⌜ (Good (now text) line) × (line .kind ≡ 81) ⌝ }
+    ensures { λ r. ⌜ Tells (now (text .entry)) line r ⌝ }
+{
+    Row {
+        kind: b'Q',
+        level: line.value(text, 1, 1),
+        typed: type_of(text, line),
+        offset: or_missing(text, line, 4),
+        mask: or_missing(text, line, 5),
+        shift: 0,
+        value: 0,
+        ascii: false,
+    }
+}
+
+// What a G line says.
+fn read_group(text: &[u8], line: Line) -> Row
+    requires { ⌜ (Good (now text) line) × (line .kind ≡ 71) ⌝ }
+    ensures { λ r. ⌜ Tells (now (text .entry)) line r ⌝ }
+{
+    Row {
+        kind: b'G',
+        level: 0,
+        typed: ParamType::Byte,
+        offset: line.value(text, 2, 255),
+        mask: line.value(text, 3, 255),
+        shift: line.value(text, 4, 255),
+        value: 0,
+        ascii: false,
+    }
+}
+
+// What an R line says.
+fn read_variant(text: &[u8], line: Line) -> Row
+    requires { ⌜ (Good (now text) line) × (line .kind ≡ 82) ⌝ }
+    ensures { λ r. ⌜ Tells (now (text .entry)) line r ⌝ }
+{
+    Row {
+        kind: b'R',
+        level: 0,
+        typed: ParamType::Byte,
+        offset: line.value(text, 1, 255),
+        mask: line.value(text, 2, 255),
+        shift: line.optional_value(text, 3, 255),
+        value: 0,
+        ascii: line.value(text, 4, 1) == 1,
+    }
+}
+
+// What an A line says.
+fn read_array(text: &[u8], line: Line) -> Row
+    requires { ⌜ (Good (now text) line) × (line .kind ≡ 65) ⌝ }
+    ensures { λ r. ⌜ Tells (now (text .entry)) line r ⌝ }
+{
+    Row {
+        kind: b'A',
+        level: 0,
+        typed: ParamType::Byte,
+        offset: 0,
+        mask: 0,
+        shift: 0,
+        value: line.value(text, 1, 255),
+        ascii: line.value(text, 2, 1) == 1,
+    }
+}
+
+// What a T line says.
+fn read_bit_flag(text: &[u8], line: Line) -> Row
+    requires { ⌜ (Good (now text) line) × (line .kind ≡ 84) ⌝ }
+    ensures { λ r. ⌜ Tells (now (text .entry)) line r ⌝ }
+{
+    Row {
+        kind: b'T',
+        level: 0,
+        typed: ParamType::Byte,
+        offset: 0,
+        mask: line.value(text, 1, 255),
+        shift: 0,
+        value: 0,
+        ascii: false,
+    }
+}
+
+// What an S line says.
+fn read_bit_field(text: &[u8], line: Line) -> Row
+    requires { ⌜ (Good (now text) line) × (line .kind ≡ 83) ⌝ }
+    ensures { λ r. ⌜ Tells (now (text .entry)) line r ⌝ }
+{
+    Row {
+        kind: b'S',
+        level: 0,
+        typed: ParamType::Byte,
+        offset: 0,
+        mask: line.value(text, 1, 255),
+        shift: line.optional_value(text, 2, 255),
+        value: 0,
+        ascii: false,
+    }
+}
+
+// What a U line says.
+fn read_field_enum(text: &[u8], line: Line) -> Row
+    requires { ⌜ (Good (now text) line) × (line .kind ≡ 85) ⌝ }
+    ensures { λ r. ⌜ Tells (now (text .entry)) line r ⌝ }
+{
+    Row {
+        kind: b'U',
+        level: 0,
+        typed: ParamType::Byte,
+        offset: 0,
+        mask: line.value(text, 1, 255),
+        shift: line.optional_value(text, 2, 255),
+        value: 0,
+        ascii: false,
+    }
+}
+
+// What a K line says.
+fn read_const(text: &[u8], line: Line) -> Row
+    requires { ⌜ (Good (now text) line) × (line .kind ≡ 75) ⌝ }
+    ensures { λ r. ⌜ Tells (now (text .entry)) line r ⌝ }
+{
+    Row {
+        kind: b'K',
+        level: 0,
+        typed: ParamType::Byte,
+        offset: 0,
+        mask: 0,
+        shift: 0,
+        value: line.value(text, 1, 255),
+        ascii: false,
+    }
+}
+
+// What an M line says.
+fn read_bitmask(text: &[u8], line: Line) -> Row
+    requires { ⌜ (Good (now text) line) × (line .kind ≡ 77) ⌝ }
+    ensures { λ r. ⌜ Tells (now (text .entry)) line r ⌝ }
+{
+    Row {
+        kind: b'M',
+        level: 0,
+        typed: ParamType::Byte,
+        offset: 0,
+        mask: 0,
+        shift: 0,
+        value: or_missing(text, line, 1),
+        ascii: false,
+    }
+}
+
+// What a line says.
+fn read_row(text: &[u8], line: Line) -> Row
+    requires { ⌜ Good (now text) line ⌝ }
+    ensures { λ r. ⌜ Tells (now (text .entry)) line r ⌝ }
+{
+    let kind = line.kind;
+    match kind {
+        b'Q' => read_param(text, line),
+        b'G' => read_group(text, line),
+        b'R' => read_variant(text, line),
+        b'A' => read_array(text, line),
+        b'T' => read_bit_flag(text, line),
+        b'S' => read_bit_field(text, line),
+        b'U' => read_field_enum(text, line),
+        b'K' => read_const(text, line),
+        _ => read_bitmask(text, line),
+    }
+}
+
+// The line at a place, and the place after it.
+pub fn read_at(text: &[u8], place: Place) -> Read
+    requires { ⌜ (Readable rules (now text) place) × (place .at < length (now text)) ⌝ }
+    ensures { λ r. ⌜ IsRead (now (text .entry)) place r ⌝ }
+{
+    let line = place.step(text);
+    let next = line.next;
+    Read {
+        row: read_row(text, line),
+        next,
+    }
+}
+
+// The line of the first K with a value under the Q before the place, or 0.
+pub fn find_const(text: &[u8], start: Place, value: u16) -> usize
+    requires { ⌜ Readable rules (now text) start ⌝ }
+    ensures { λ r. ⌜ r ≡ firstConst value (under (from (now (text .entry)) start)) ⌝ }
+{
+    let mut place = start;
+    loop {
+        let Under::At(at) = next_under(text, place, b'K', b'K', b'K') else {
+            return 0;
+        };
+        let line = at.step(text);
+        if line.value(text, 1, 255) == value {
+            return at.line;
+        }
+        place = line.next;
+    }
+}
