@@ -1,21 +1,20 @@
 -- Laws on looking things up in an accepted command text, line by line. Assumes nothing.
 use mathlib.Core.Path.{_≡_, refl, sym, ap, _∙_}
-use mathlib.Core.Bool.{Bool, true, false, cond, _&&_, _||_}
-use mathlib.Core.List.{List, [], _∷_}
-use mathlib.Core.Option.{Option, none, some}
-use Prim.Native.Nat.{ℕ, suc, _+_, _-_, _≤_, _<_}
+use mathlib.Core.Bool.{Bool, true, false, cond}
+use mathlib.Core.List.{List, _∷_}
+use mathlib.Core.Option.{none, some}
+use Prim.Native.Nat.{ℕ, _-_, _≤_, _<_}
 use native.Mathlib.Omega.{arith}
 use native.Mathlib.Numerals.{add-one}
 use lib.Dec.{eqb}
 use lib.ListN.{length}
 use borrow.Author.Tests.{eqb-true, eq-eqb, ne-eqb}
 use Rattle.text.specs.Text.{field}
-use Rattle.text.specs.Place.{kindOf, cells, In, Steps, Has}
-use Rattle.text.specs.Records.{isSome, rest, Readable}
-use Rattle.text.specs.Listing.{listed, Next}
+use Rattle.text.specs.Place.{kindOf, cells, Steps}
+use Rattle.text.specs.Records.{rest, Readable}
+use Rattle.text.specs.Listing.{Next}
 use Rattle.text.specs.declared.Place.{Place}
 use Rattle.text.specs.declared.Line.{Line}
-use Rattle.text.specs.declared.Under.{Under}
 use Rattle.text.specs.declared.Under.the-variants.{At, Nothing}
 use Rattle.text.proofs.Reading.{Said, said-step, rest-end}
 use Rattle.text.proofs.Listing.{Step-on, Seeking, seek-start, seek-end, seek-hit, seek-stop, seek-next}
@@ -23,7 +22,7 @@ use Rattle.command_class.specs.Form.{Record, param, group, variant, arra
 use Rattle.command_class.specs.Form as form
 use Rattle.command_class.specs.Rules.{begins, rules}
 use Rattle.command_class.specs.Definition.{Item, numbered, ends, letter}
-use Rattle.command_class.specs.Find.{from, Good, among, ofKind, never, NextUnder, NextEntry}
+use Rattle.command_class.specs.Find.{from, among, ofKind, never}
 use Rattle.command_class.specs.declared.Typed.{Typed}
 use Rattle.command_class.specs.declared.Typed.the-variants.{Is, Not}
 use Rattle.command_class.proofs.Keeping.{brief}

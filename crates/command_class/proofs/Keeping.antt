@@ -1,6 +1,6 @@
 -- What the code keeps of the lines before tells all that the rules of the command text ask of them. Assumes nothing.
 use mathlib.Core.Path.{_≡_, refl, sym, ap, _∙_}
-use mathlib.Core.Bool.{Bool, true, false, cond, not, _&&_, _||_}
+use mathlib.Core.Bool.{Bool, true, false, cond}
 use mathlib.Core.List.{List, [], _∷_}
 use mathlib.Core.Option.{Option, none, some}
 use Prim.Native.Nat.{ℕ, suc, _+_, _-_, _≤_, _<_}
@@ -13,12 +13,12 @@ use Rattle.text.specs.Place.{cells, Steps}
 use Rattle.text.specs.declared.Place.{Place}
 use Rattle.text.specs.declared.Line.{Line}
 use Rattle.text.specs.declared.Verdict.the-variants.{Accepted, Refused}
+use Rattle.text.proofs.Tests.{alike}
 use Rattle.text.proofs.Judging.{Brief, Outcome, on, passed, astray, wrong, Meets, Checked, checked-long, checked-start, checked-end, checked-on, checked-passed, checked-lost, checked-wrong}
 use Rattle.command_class.specs.Form.{Record, Param, Group, param, group, variant, array, bitFlag, bitField, fieldEnum, const, bitmask, form}
 use Rattle.command_class.specs.Rules.{begins, count, items, owned, grouped, shift, rules, verdict}
 use Rattle.command_class.specs.Machine.{shape, nothing, judged, judgedItem}
 use Rattle.command_class.specs.declared.Form.{Form}
-use Rattle.command_class.specs.declared.Form.the-variants.{Item}
 use Rattle.command_class.specs.declared.Kept.{Kept}
 use Rattle.command_class.specs.declared.Judged.{Judged}
 use Rattle.command_class.specs.declared.Judged.the-variants.{On, Passed, Lost, Wrong}
@@ -107,10 +107,6 @@ module _ (before : List Record) (k : Kept) (tells : Tells before k) where
 pub brief : Brief rules
 brief = record { empty = refl; long = long }
   where
-    alike : {A : Type 0} (b : Bool) (x : A) → cond b x x ≡ x
-    alike true x = refl
-    alike false x = refl
-
     long : (fs : List (List ℕ)) → 9 < length fs → form fs ≡ none
     long fs h =
         let not2 : eqb (length fs) 2 ≡ false = ne-eqb (length fs) 2 (λ e. omega arith) in

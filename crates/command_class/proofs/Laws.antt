@@ -1,8 +1,8 @@
 -- Laws of the command text: how a line is read. Assumes nothing.
 use mathlib.Core.Path.{_≡_, refl, sym, ap, _∙_}
-use mathlib.Core.Bool.{Bool, true, false, cond, _&&_}
-use mathlib.Core.List.{List, [], _∷_}
-use mathlib.Core.Option.{Option, none, some}
+use mathlib.Core.Bool.{Bool, true, false, _&&_}
+use mathlib.Core.List.{List}
+use mathlib.Core.Option.{Option, some}
 use Prim.Native.Nat.{ℕ}
 use native.Mathlib.Omega.{arith}
 use lib.Dec.{eqb}
@@ -14,7 +14,7 @@ use Rattle.text.specs.Place.{kindOf, cells}
 use Rattle.text.specs.declared.Line.{Line}
 use Rattle.text.proofs.Laws.{cells-length}
 use Rattle.text.proofs.Tests.{and-left, and-right, count-of, value-of, optional-value-of}
-use Rattle.command_class.specs.Form.{Record, param, group, variant, bitField, fieldEnum, either, typeOf, known, paramWords, paramCondition, paramFields, paramForm, groupFields, groupForm, variantFields, variantForm, arrayForm, namedForm, bitsFields, bitsForm, bitmaskForm, groupOf, sizeOf, bitsOf, ofType, said, paramSaid, form}
+use Rattle.command_class.specs.Form.{Record, group, variant, bitField, fieldEnum, either, typeOf, known, paramWords, paramCondition, paramFields, groupFields, groupForm, variantFields, variantForm, arrayForm, namedForm, bitsFields, bitsForm, bitmaskForm, groupOf, sizeOf, bitsOf, ofType, said, paramSaid, form}
 use Rattle.command_class.specs.Machine.{tagged, shape, judgedParam, judgedGroup, judgedItem, judged}
 use Rattle.command_class.specs.declared.ParamType.{ParamType}
 use Rattle.command_class.specs.declared.Typed.{Typed}

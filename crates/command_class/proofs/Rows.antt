@@ -3,14 +3,14 @@ use mathlib.Core.Path.{_≡_, refl, sym, ap, _∙_}
 use mathlib.Core.Bool.{Bool, true, false, cond, _&&_, _||_}
 use mathlib.Core.List.{List, [], _∷_}
 use mathlib.Core.Option.{Option, none, some}
-use Prim.Native.Nat.{ℕ, suc, _+_, _-_, _≤_, _<_}
+use Prim.Native.Nat.{ℕ, _-_, _<_}
 use native.Mathlib.Omega.{arith}
 use lib.Dec.{eqb, leb}
 use lib.ListN.{length}
 use borrow.Author.Tests.{eqb-true, eq-eqb, ne-eqb}
 use Rattle.text.specs.Text.{field, worth, decimal, upTo, value, missing, name, optionalUpTo, optionalValue, optional}
 use Rattle.text.specs.Text as text
-use Rattle.text.specs.Place.{kindOf, cells, In, Steps, Has}
+use Rattle.text.specs.Place.{cells, In, Steps, Has}
 use Rattle.text.specs.Records.{isSome, Readable}
 use Rattle.text.specs.Listing.{listed, Stands, Next}
 use Rattle.text.specs.declared.Place.{Place}
@@ -24,16 +24,16 @@ use Rattle.text.specs.declared.Optional.the-variants.{Given, Missing, Wrong}
 use Rattle.text.proofs.Laws.{cells-length}
 use Rattle.text.proofs.Tests.{and-left, and-right, value-of, optional-value-of}
 use Rattle.text.proofs.Listing.{found-at, found-in, found-inside}
-use Rattle.command_class.specs.Form.{Record, param, group, variant, array, bitFlag, bitField, fieldEnum, const, bitmask, typeOf, known, paramWords, paramCondition, paramFields, paramForm, paramOf, groupFields, groupForm, groupOf, variantFields, variantForm, sizeOf, arrayForm, asciiOf, namedForm, bitsFields, bitsForm, bitsOf, bitmaskForm, given, ofType, said, paramSaid, form}
+use Rattle.command_class.specs.Form.{Record, param, group, variant, array, bitFlag, bitField, fieldEnum, const, bitmask, typeOf, paramWords, paramCondition, paramFields, paramForm, paramOf, groupFields, groupForm, groupOf, variantFields, variantForm, sizeOf, arrayForm, asciiOf, namedForm, bitsFields, bitsForm, bitsOf, bitmaskForm, given, ofType, said, form}
 use Rattle.command_class.specs.Rules.{rules}
-use Rattle.command_class.specs.Definition.{Item, ends, under, letter, isConst, firstConst}
-use Rattle.command_class.specs.Find.{from, Good, ofKind, orMissing, optionalOr, Says, Tells, IsRead}
+use Rattle.command_class.specs.Definition.{Item, ends, under, letter, firstConst}
+use Rattle.command_class.specs.Find.{from, Good, ofKind, orMissing, optionalOr, Tells, IsRead}
 use Rattle.command_class.specs.declared.definition.Row.{Row}
 use Rattle.command_class.specs.declared.ParamType.{ParamType}
 use Rattle.command_class.specs.declared.ParamType.the-variants.{Byte}
 use Rattle.command_class.specs.declared.Typed.{Typed}
 use Rattle.command_class.specs.declared.Typed.the-variants.{Is, Not}
-use Rattle.command_class.proofs.Laws.{group-shift, variant-shift, bits-shift, param-level, param-type}
+use Rattle.command_class.proofs.Laws.{group-shift, variant-shift, bits-shift, param-level}
 use Rattle.command_class.proofs.Finding.{Lined, lined, kind-letter}
 
 -- ---- what may be missing

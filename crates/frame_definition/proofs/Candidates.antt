@@ -3,7 +3,7 @@ use mathlib.Core.Path.{_≡_, refl, sym, ap, _∙_}
 use mathlib.Core.Bool.{Bool, true, false, cond, _&&_, _||_}
 use mathlib.Core.List.{List, [], _∷_}
 use mathlib.Core.Option.{Option, none, some}
-use Prim.Native.Nat.{ℕ, suc, _+_, _-_, _≤_, _<_}
+use Prim.Native.Nat.{ℕ, suc, _-_, _≤_, _<_}
 use native.Mathlib.Omega.{arith}
 use native.Mathlib.Numerals.{add-one}
 use lib.Dec.{eqb, leb}
@@ -11,21 +11,20 @@ use lib.ListN.{length, getD}
 use borrow.Author.Tests.{eqb-true, eq-eqb, ne-eqb}
 use Rattle.text.specs.Text.{field, within, upTo, value, worth, missing, name, optionalUpTo, optional}
 use Rattle.text.specs.Text as text
-use Rattle.text.specs.Place.{kindOf, cells, Steps, Has, partOf, IsPart}
+use Rattle.text.specs.Place.{kindOf, cells, Steps, Has}
 use Rattle.text.specs.Records.{Readable}
 use Rattle.text.specs.declared.Place.{Place}
 use Rattle.text.specs.declared.Line.{Line}
 use Rattle.text.specs.declared.Part.{Part}
-use Rattle.text.specs.declared.Number.{Number}
 use Rattle.text.specs.declared.Number.the-variants.{Is, Over, Not}
 use Rattle.text.specs.declared.Optional.{Optional}
 use Rattle.text.specs.declared.Optional.the-variants.{Given, Missing, Wrong}
 use Rattle.text.proofs.Tests.{and-left, and-right, value-of}
 use Rattle.text.proofs.Reading.{rest-end}
-use Rattle.frame_definition.specs.Form.{Header, Record, frequency, base, header, param, validation, set, entry, given, flags, flag, headerForm, headerOf, form}
-use Rattle.frame_definition.specs.Rules.{letter, rules}
-use Rattle.frame_definition.specs.Definition.{Frame, Validation, below, params, validations, frames, isKey, some?, candidates}
-use Rattle.frame_definition.specs.Find.{from, Good, oneMore, FindsValidation, IsValidation, candidate, HasFlags, IsRead, Counted, frameOf, IsCandidate, FindsCandidate}
+use Rattle.frame_definition.specs.Form.{Record, frequency, base, header, param, validation, set, entry, given, flags, headerForm, headerOf, form}
+use Rattle.frame_definition.specs.Rules.{rules}
+use Rattle.frame_definition.specs.Definition.{Frame, below, params, validations, frames, isKey, some?, candidates}
+use Rattle.frame_definition.specs.Find.{from, Good, oneMore, FindsValidation, IsValidation, candidate, HasFlags, IsRead, Counted, frameOf, FindsCandidate}
 use Rattle.frame_definition.specs.declared.definition.NextValidation.{NextValidation}
 use Rattle.frame_definition.specs.declared.definition.NextValidation.the-variants as nextValidation
 use Rattle.frame_definition.specs.declared.definition.Candidate.{Candidate}

@@ -8,7 +8,7 @@ use native.Mathlib.Omega.{arith}
 use native.Mathlib.Numerals.{add-one}
 use lib.Dec.{eqb, leb, ltb}
 use lib.ListN.{length}
-use borrow.Author.Tests.{eqb-true, eqb-false, eq-eqb, ne-eqb, le-leb, leb-true, ltb-false}
+use borrow.Author.Tests.{eqb-true, eq-eqb, ne-eqb, le-leb, leb-true, ltb-false}
 use Rattle.text.specs.Text.{field, decimal, upTo, value, worth, missing, name, plain, path, optionalName, optionalPath}
 use Rattle.text.specs.Place.{kindOf, cells, In, Steps, Has, partOf, IsPart, IsOptionalPart}
 use Rattle.text.specs.Records.{Readable}
@@ -21,14 +21,16 @@ use Rattle.text.proofs.Tests.{and-left, and-right, value-of}
 use Rattle.text.proofs.Reading.{Said, said-step, readable-start, rest-end, accepted-short}
 use Rattle.frame_definition.specs.Form.{Param, Record, frequency, base, header, param, validation, set, entry, names, given, known, typeOf, paramNumbers, paramWords, paramPaths, paramForm, paramOf, validationForm, said, form}
 use Rattle.frame_definition.specs.Rules.{letter, count, owns, under, holdsParams, over, rules, verdict}
-use Rattle.frame_definition.specs.Definition.{Numbered, Validation, Base, below, params, validations, frequencies, bases, definition, keyFor, baseKey, firstBase}
-use Rattle.frame_definition.specs.Find.{from, fits, Good, keyed, oneMore, FindsBase, ofKind, starts, ownerKind, Stands, NextOf, HasNumbers, HasPaths, heard, meant, IsParam, FindsParam, IsValidation, FindsValidation}
-use Rattle.frame_definition.specs.declared.definition.Under.{Under}
-use Rattle.frame_definition.specs.declared.definition.Under.the-variants as stand
+use Rattle.frame_definition.specs.Definition.{Numbered, Validation, below, params, validations, frequencies, bases, definition, keyFor, baseKey, firstBase}
+use Rattle.frame_definition.specs.Find.{from, fits, Good, keyed, oneMore, FindsBase, ofKind, ownerKind, NextOf, HasNumbers, HasPaths, heard, meant, FindsParam, FindsValidation}
+use Rattle.text.specs.Listing.{listed, Stands}
+use Rattle.text.proofs.Listing.{Step-on, Seeking, seek-start, seek-end, seek-hit, seek-stop, seek-next}
+use Rattle.text.proofs.Listing as listing
+use Rattle.text.specs.declared.Under.{Under}
+use Rattle.text.specs.declared.Under.the-variants as stand
 use Rattle.frame_definition.specs.declared.definition.Field.{Field}
 use Rattle.frame_definition.specs.declared.definition.NextParam.the-variants as nextParam
 use Rattle.frame_definition.specs.declared.definition.NextValidation.the-variants as nextValidation
-use Rattle.frame_definition.specs.declared.definition.Found.{Found}
 use Rattle.frame_definition.specs.declared.definition.Found.the-variants.{At, Nothing}
 use Rattle.frame_definition.specs.declared.definition.Numbers.{Numbers}
 use Rattle.frame_definition.specs.declared.definition.Paths.{Paths}
@@ -245,7 +247,7 @@ module _ (t : List ℕ) (key n : ℕ) (p : Place) (l : Line) (k : Basing t key p
 pub ruleset base-laws = (base-start, base-end, base-good, base-less, base-few, base-hit, base-next)
 
 -- ---- the next line of a kind under an owner
-owner-kind : (r : Record) → owns r ≡ ownerKind (letter r)
+pub owner-kind : (r : Record) → owns r ≡ ownerKind (letter r)
 owner-kind (frequency code key) = refl
 owner-kind (base key) = refl
 owner-kind (header h) = refl
@@ -254,51 +256,37 @@ owner-kind (validation path x) = refl
 owner-kind (set name) = refl
 owner-kind (entry key text) = refl
 
-under-step : (r : Record) (rs : List Record) (kind : ℕ) → (letter r ≡ kind → ⊥) → ofKind kind (below (r ∷ rs)) ≡ cond (ownerKind (letter r)) [] (ofKind kind (below rs))
-under-step r rs kind h = go (owns r) (owner-kind r)
-  where
-    go : (b : Bool) → b ≡ ownerKind (letter r) → ofKind kind (cond b [] (r ∷ below rs)) ≡ cond (ownerKind (letter r)) [] (ofKind kind (below rs))
-    go true q = rw (← q)
-    go false q = rw (← q, ne-eqb (letter r) kind h)
+pub under-start : (t : List ℕ) (p : Place) (kind : ℕ) → Readable rules t p → Seeking owns (ofKind kind) rules from t p p
+under-start t p kind r = seek-start owns (ofKind kind) rules from t p r
 
-pub record Under-so-far (t : List ℕ) (p q : Place) (kind : ℕ) : Type 0 where
-  pub readable : Readable rules t q
-  pub after : p .at ≤ q .at
-  pub same : ofKind kind (below (from t p)) ≡ ofKind kind (below (from t q))
+pub under-end : (t : List ℕ) (p q : Place) (kind : ℕ) → Seeking owns (ofKind kind) rules from t p q → length t ≤ q .at → NextOf t p kind stand.Nothing
+under-end t p q kind k h = seek-end owns (ofKind kind) rules from t p q k (rest-end rules t q h)
 
-pub under-start : (t : List ℕ) (p : Place) (kind : ℕ) → Readable rules t p → Under-so-far t p p kind
-under-start t p kind r = record { readable = r; after = omega arith; same = refl }
-
-pub under-end : (t : List ℕ) (p q : Place) (kind : ℕ) → Under-so-far t p q kind → length t ≤ q .at → NextOf t p kind stand.Nothing
-under-end t p q kind k e = let z : from t q ≡ [] = rest-end rules t q e in k .same ∙ rw z
-
-module _ (t : List ℕ) (p q : Place) (kind : ℕ) (l : Line) (k : Under-so-far t p q kind) (inside : q .at < length t) (step : Steps t q l) where
+module _ (t : List ℕ) (p q : Place) (kind : ℕ) (l : Line) (k : Seeking owns (ofKind kind) rules from t p q) (inside : q .at < length t) (step : Steps t q l) where
   abbrev found-under : Lined t q l
   found-under = lined t q l (k .readable) inside step
+
+  abbrev onward : Step-on owns (ofKind kind) rules from t q l
+  onward = record { first = found-under .said; list-is = found-under .rest-is; next = found-under .next }
 
   letter-is : l .kind ≡ letter (found-under .said)
   letter-is = step .kind-is ∙ found-under .view .kind
 
   pub under-hit : l .kind ≡ kind → NextOf t p kind (stand.At q)
-  under-hit e = record {
-    readable = k .readable;
-    inside = inside;
-    after = k .after;
-    there = rw (found-under .rest-is) (eq-eqb (letter (found-under .said)) kind (sym letter-is ∙ e));
-    alike = k .same;
-  }
+  under-hit e = seek-hit owns (ofKind kind) rules from t p q l k inside step onward (eq-eqb (letter (found-under .said)) kind (sym letter-is ∙ e))
 
   module _ (b : Bool) (is : b ≡ ownerKind (l .kind)) (other : l .kind ≡ kind → ⊥) where
-    told-under : ofKind kind (below (from t p)) ≡ cond b [] (ofKind kind (below (from t (l .next))))
-    told-under =
-        let c : ownerKind (letter (found-under .said)) ≡ b = sym (is ∙ ap ownerKind letter-is) in
-        k .same ∙ ap (λ (rs : List Record). ofKind kind (below rs)) (found-under .rest-is) ∙ under-step (found-under .said) (from t (l .next)) kind (λ z. other (letter-is ∙ z)) ∙ ap (λ (x : Bool). cond x [] (ofKind kind (below (from t (l .next))))) c
+    stops : b ≡ owns (found-under .said)
+    stops = is ∙ ap ownerKind letter-is ∙ sym (owner-kind (found-under .said))
+
+    unwanted : ofKind kind (found-under .said) ≡ false
+    unwanted = ne-eqb (letter (found-under .said)) kind (λ z. other (letter-is ∙ z))
 
     pub under-stop : b ≡ true → NextOf t p kind stand.Nothing
-    under-stop e = rw e at told-under
+    under-stop e = seek-stop owns (ofKind kind) rules from t p q l k inside step onward unwanted (sym stops ∙ e)
 
-    pub under-next : b ≡ false → Under-so-far t p (l .next) kind
-    under-next e = record { readable = found-under .next; after = omega (arith, k .after, step .on); same = rw e at told-under }
+    pub under-next : b ≡ false → Seeking owns (ofKind kind) rules from t p (l .next)
+    under-next e = seek-next owns (ofKind kind) rules from t p q l k inside step onward unwanted (sym stops ∙ e)
 
   pub under-less : length t - l .next .at < length t - q .at
   under-less = omega (arith, step .on)
@@ -440,29 +428,29 @@ module _ (t : List ℕ) (l : Line) (good : Good t l) (is : l .kind ≡ 80) where
 pub ruleset param-line-laws = (field-says, param-has, kind-says, kind-never)
 
 -- ---- the next P, the next V
-params-of : (n : ℕ) (rs : List Record) → params n rs ≡ params n (ofKind 80 rs)
+params-of : (n : ℕ) (rs : List Record) → params n (below rs) ≡ params n (listed owns (ofKind 80) rs)
 params-of n [] = refl
-params-of n (frequency code key ∷ rs) = params-of n rs
-params-of n (base key ∷ rs) = params-of n rs
-params-of n (header h ∷ rs) = params-of n rs
+params-of n (frequency code key ∷ rs) = refl
+params-of n (base key ∷ rs) = refl
+params-of n (header h ∷ rs) = refl
 params-of n (param p ∷ rs) = ap (λ (l : List Numbered). record { number = n; says = p } ∷ l) (params-of (suc n) rs)
 params-of n (validation path v ∷ rs) = params-of n rs
-params-of n (set name ∷ rs) = params-of n rs
+params-of n (set name ∷ rs) = refl
 params-of n (entry key text ∷ rs) = params-of n rs
 
-validations-of : (rs : List Record) → validations rs ≡ validations (ofKind 86 rs)
+validations-of : (rs : List Record) → validations (below rs) ≡ validations (listed owns (ofKind 86) rs)
 validations-of [] = refl
-validations-of (frequency code key ∷ rs) = validations-of rs
-validations-of (base key ∷ rs) = validations-of rs
-validations-of (header h ∷ rs) = validations-of rs
+validations-of (frequency code key ∷ rs) = refl
+validations-of (base key ∷ rs) = refl
+validations-of (header h ∷ rs) = refl
 validations-of (param p ∷ rs) = validations-of rs
 validations-of (validation path v ∷ rs) = ap (λ (l : List Validation). record { path = path; value = v } ∷ l) (validations-of rs)
-validations-of (set name ∷ rs) = validations-of rs
+validations-of (set name ∷ rs) = refl
 validations-of (entry key text ∷ rs) = validations-of rs
 
 module _ (t : List ℕ) (p q : Place) (r : Under) (kind : ℕ) (found-at : NextOf t p kind r) (e : r ≡ stand.At q) where
-  pub stands : Stands t p q kind
-  stands = rw e at found-at
+  abbrev pub stands : Stands owns (ofKind kind) rules from t p q
+  stands = listing.found-at owns (ofKind kind) rules from t p q r found-at e
 
   pub at-readable : Readable rules t q
   at-readable = stands .readable
@@ -491,27 +479,23 @@ module _ (t : List ℕ) (p q : Place) (r : Under) (kind : ℕ) (found-at : NextO
     pub at-on : p .at < l .next .at
     at-on = omega (arith, stands .after, step .on)
 
-    -- what is listed under the owner, from that line on
-    listed : below (from t q) ≡ below (line-at .said ∷ from t (l .next))
-    listed = ap below (line-at .rest-is)
-
 pub param-none : (t : List ℕ) (p : Place) (n : ℕ) (r : Under) → NextOf t p 80 r → r ≡ stand.Nothing → FindsParam t p n nextParam.Nothing
-param-none t p n r f e = params-of n (below (from t p)) ∙ ap (params n) (rw e at f)
+param-none t p n r f e = params-of n (from t p) ∙ ap (params n) (rw e at f)
 
 pub param-next : (t : List ℕ) (p q : Place) (n : ℕ) (r : Under) (l : Line) (f : Field) → NextOf t p 80 r → r ≡ stand.At q → Steps t q l
     → form (cells t l) ≡ some (param (meant t f)) → FindsParam t p n (nextParam.At f (l .next))
 param-next t p q n r l f found-at e step says =
-    let s : Stands t p q 80 = stands t p q r 80 found-at e in
+    let s : Stands owns (ofKind 80) rules from t p q = stands t p q r 80 found-at e in
     let h : Said rules t q l = said-step rules brief t q l (s .readable) (s .inside) step in
     let is : h .said ≡ param (meant t f) = let z : some (h .said) ≡ some (param (meant t f)) = sym (h .form-is) ∙ says in cc in
     record {
-      first = params-of n (below (from t p)) ∙ ap (params n) (s .alike) ∙ sym (params-of n (below (from t q))) ∙ ap (λ (rs : List Record). params n (below rs)) (h .rest-is ∙ ap (λ (x : Record). x ∷ from t (l .next)) is);
+      first = params-of n (from t p) ∙ ap (params n) (s .alike) ∙ sym (params-of n (from t q)) ∙ ap (λ (rs : List Record). params n (below rs)) (h .rest-is ∙ ap (λ (x : Record). x ∷ from t (l .next)) is);
       readable = h .next;
       on = omega (arith, s .after, step .on);
     }
 
 pub validation-none : (t : List ℕ) (p : Place) (r : Under) → NextOf t p 86 r → r ≡ stand.Nothing → FindsValidation t p nextValidation.Nothing
-validation-none t p r f e = validations-of (below (from t p)) ∙ ap validations (rw e at f)
+validation-none t p r f e = validations-of (from t p) ∙ ap validations (rw e at f)
 
 -- ---- a line of a kind
 pub said-good : (fs : List (List ℕ)) (b : Bool) (y : Record) → form fs ≡ said b (some y) → fits (form fs) ≡ true → (b ≡ true) × (form fs ≡ some y)
@@ -535,7 +519,7 @@ module _ (t : List ℕ) (l : Line) (good : Good t l) (is : l .kind ≡ 86) where
 pub validation-next : (t : List ℕ) (p q : Place) (r : Under) (l : Line) (part : Part) (v : ℕ) → NextOf t p 86 r → r ≡ stand.At q → Steps t q l
     → IsPart t (field 1 (cells t l)) part → v ≡ value 65535 (field 2 (cells t l)) → FindsValidation t p (nextValidation.At part v (l .next))
 validation-next t p q r l part v found-at e step says at-v =
-    let s : Stands t p q 86 = stands t p q r 86 found-at e in
+    let s : Stands owns (ofKind 86) rules from t p q = stands t p q r 86 found-at e in
     let h : Said rules t q l = said-step rules brief t q l (s .readable) (s .inside) step in
     let g : Good t l = at-good t p q r 86 found-at e l step in
     let k : l .kind ≡ 86 = at-kind t p q r 86 found-at e l step in
@@ -544,7 +528,7 @@ validation-next t p q r l part v found-at e step says at-v =
     let y : h .said ≡ validation (names (field 1 (cells t l))) (worth 0 (field 2 (cells t l))) = cc in
     rw (at-v, validation-value t l g k, says .says) y in
     record {
-      first = validations-of (below (from t p)) ∙ ap validations (s .alike) ∙ sym (validations-of (below (from t q))) ∙ ap (λ (rs : List Record). validations (below rs)) (h .rest-is ∙ ap (λ (x : Record). x ∷ from t (l .next)) is);
+      first = validations-of (from t p) ∙ ap validations (s .alike) ∙ sym (validations-of (from t q)) ∙ ap (λ (rs : List Record). validations (below rs)) (h .rest-is ∙ ap (λ (x : Record). x ∷ from t (l .next)) is);
       readable = h .next;
       on = omega (arith, s .after, step .on);
     }

@@ -1,6 +1,6 @@
 -- What the code keeps of the lines before tells all that the rules of the frame text ask of them. Assumes nothing.
 use mathlib.Core.Path.{_≡_, refl, sym, ap, _∙_}
-use mathlib.Core.Bool.{Bool, true, false, cond, not, _&&_, _||_}
+use mathlib.Core.Bool.{Bool, true, false, cond, _&&_}
 use mathlib.Core.List.{List, [], _∷_}
 use mathlib.Core.Option.{Option, none, some}
 use Prim.Native.Nat.{ℕ, zero, suc, _+_, _-_, _≤_, _<_, zero-le}
@@ -13,10 +13,11 @@ use Rattle.text.specs.Place.{cells, Steps}
 use Rattle.text.specs.declared.Place.{Place}
 use Rattle.text.specs.declared.Line.{Line}
 use Rattle.text.specs.declared.Verdict.the-variants.{Accepted, Refused}
+use Rattle.text.proofs.Tests.{alike}
 use Rattle.text.proofs.Judging.{Brief, Outcome, on, passed, astray, wrong, Meets, Checked, checked-long, checked-start, checked-end, checked-on, checked-passed, checked-lost, checked-wrong}
 use Rattle.frame_definition.specs.Form.{Path, Header, Param, Record, frequency, base, header, param, validation, set, entry, form}
 use Rattle.frame_definition.specs.Rules.{letter, count, owns, owner, under, holdsParams, parent, inside, isGiven, over, lost, rules, verdict}
-use Rattle.frame_definition.specs.Machine.{least, shape, opened, nothing, holds, deepSize, judgedParam, judged}
+use Rattle.frame_definition.specs.Machine.{shape, opened, nothing, holds, deepSize, judgedParam, judged}
 use Rattle.frame_definition.specs.declared.Form.{Form}
 use Rattle.frame_definition.specs.declared.Counts.{Counts}
 use Rattle.frame_definition.specs.declared.Kept.{Kept}
@@ -230,10 +231,6 @@ module _ (before : List Record) (k : Kept) (tells : Tells before k) where
 pub brief : Brief rules
 brief = record { empty = refl; long = long }
   where
-    alike : {A : Type 0} (b : Bool) (x : A) → cond b x x ≡ x
-    alike true x = refl
-    alike false x = refl
-
     long : (fs : List (List ℕ)) → 9 < length fs → form fs ≡ none
     long fs h =
         let not2 : eqb (length fs) 2 ≡ false = ne-eqb (length fs) 2 (λ e. omega arith) in

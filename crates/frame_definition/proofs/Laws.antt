@@ -1,12 +1,11 @@
 -- Laws of the frame text: how a line is read, and how it is judged. Assumes nothing.
 use mathlib.Core.Path.{_≡_, refl, sym, ap, _∙_}
 use mathlib.Core.Bool.{Bool, true, false, cond, not, _&&_, _||_}
-use mathlib.Core.List.{List, [], _∷_}
-use mathlib.Core.Option.{Option, none, some}
+use mathlib.Core.List.{List}
+use mathlib.Core.Option.{none, some}
 use Prim.Native.Nat.{ℕ, _≤_, _<_}
 use native.Mathlib.Omega.{arith}
 use lib.Dec.{eqb, leb}
-use lib.ListN.{length}
 use mir.Syntax.{w8}
 use mir.Val.{Fits}
 use borrow.Author.Tests.{le-leb, lt-leb, eq-eqb, ne-eqb}
@@ -16,8 +15,8 @@ use Rattle.text.specs.declared.Line.{Line}
 use Rattle.text.specs.declared.Number.{Number}
 use Rattle.text.specs.declared.Number.the-variants as number
 use Rattle.text.proofs.Laws.{cells-length, number-most}
-use Rattle.text.proofs.Tests.{and-left, and-right, count-of, tests, picks}
-use Rattle.frame_definition.specs.Form.{Record, either, known, typeOf, flags, names, given, value, frequencyForm, baseForm, headerForm, paramNumbers, paramPaths, paramWords, paramForm, validationForm, setForm, entryForm, ofType, said, paramSaid, form}
+use Rattle.text.proofs.Tests.{and-left, and-right, count-of}
+use Rattle.frame_definition.specs.Form.{Record, either, known, typeOf, flags, names, value, frequencyForm, baseForm, headerForm, paramNumbers, paramWords, paramForm, validationForm, setForm, entryForm, ofType, said, paramSaid, form}
 use Rattle.frame_definition.specs.Rules.{isGiven}
 use Rattle.frame_definition.specs.Machine.{least, levelOf, tagged, shape, holds, deepSize, judgedFrequency, judgedBase, judgedHeader, judgedParam, judgedValidation, judgedSet, judgedEntry, judged}
 use Rattle.frame_definition.specs.declared.Kept.{Kept}

@@ -4,3 +4,5 @@ pub mod Views
 pub mod Finding
 pub mod Candidates
 pub mod Symbols
+pub mod Printing
+pub mod Limits

@@ -1,8 +1,8 @@
 -- Laws on looking for a D and an E in an accepted frame text. Assumes nothing.
 use mathlib.Core.Path.{_≡_, refl, sym, ap, _∙_}
-use mathlib.Core.Bool.{Bool, true, false, cond, _&&_}
+use mathlib.Core.Bool.{Bool, true, false, cond}
 use mathlib.Core.List.{List, [], _∷_}
-use mathlib.Core.Option.{Option, none, some}
+use mathlib.Core.Option.{some}
 use Prim.Native.Nat.{ℕ, suc, _+_, _-_, _≤_, _<_, _^_}
 use native.Mathlib.Omega.{arith}
 use native.Mathlib.Numerals.{add-one}
@@ -12,22 +12,22 @@ use mir.Syntax.{w64}
 use mir.Val.{Fits}
 use borrow.Author.Tests.{eqb-true, eq-eqb, ne-eqb}
 use Rattle.text.specs.Text.{field, same, upTo, value, worth, name}
-use Rattle.text.specs.Place.{kindOf, cells, In, Steps, Has}
+use Rattle.text.specs.Place.{cells, Steps, Has}
 use Rattle.text.specs.Records.{Readable}
 use Rattle.text.specs.declared.Place.{Place}
 use Rattle.text.specs.declared.Line.{Line}
 use Rattle.text.specs.declared.Verdict.the-variants.{Accepted}
 use Rattle.text.proofs.Tests.{and-left, and-right, value-of}
-use Rattle.text.proofs.Reading.{Said, said-step, readable-start, rest-end}
+use Rattle.text.proofs.Reading.{readable-start, rest-end}
 use Rattle.frame_definition.specs.Form.{Record, frequency, base, header, param, validation, set, entry, entryForm, form}
-use Rattle.frame_definition.specs.Rules.{rules, verdict}
-use Rattle.frame_definition.specs.Definition.{Entry, Set, below, entries, sets, definition, firstSet, firstEntry}
-use Rattle.frame_definition.specs.Find.{from, Good, ofKind, Stands, NextOf, named, FindsSet}
-use Rattle.frame_definition.specs.declared.definition.Under.{Under}
-use Rattle.frame_definition.specs.declared.definition.Under.the-variants as stand
-use Rattle.frame_definition.proofs.Keeping.{brief}
+use Rattle.frame_definition.specs.Rules.{owns, rules, verdict}
+use Rattle.frame_definition.specs.Definition.{Entry, below, entries, sets, definition, firstSet, firstEntry}
+use Rattle.frame_definition.specs.Find.{from, Good, ofKind, NextOf, named, FindsSet}
+use Rattle.text.specs.Listing.{listed, Stands}
+use Rattle.text.specs.declared.Under.{Under}
+use Rattle.text.specs.declared.Under.the-variants as stand
 use Rattle.frame_definition.proofs.Views.{View}
-use Rattle.frame_definition.proofs.Finding.{Lined, lined, good-line, good-has, said-good, counted, stands, at-good, at-kind, at-in, at-inside}
+use Rattle.frame_definition.proofs.Finding.{Lined, lined, good-line, good-has, said-good, stands, at-good, at-kind, at-in, at-inside}
 
 -- ---- the first D of a name
 same-lists : (a b : List ℕ) → same a b ≡ true → a ≡ b
@@ -95,14 +95,14 @@ module _ (t wanted : List ℕ) (p : Place) (l : Line) (k : Setting t wanted p) (
 pub ruleset set-laws = (set-start, set-end, set-good, set-less, set-hit, set-next)
 
 -- ---- the first E with a key
-entries-of : (rs : List Record) → entries rs ≡ entries (ofKind 69 rs)
+entries-of : (rs : List Record) → entries (below rs) ≡ entries (listed owns (ofKind 69) rs)
 entries-of [] = refl
-entries-of (frequency code key ∷ rs) = entries-of rs
-entries-of (base key ∷ rs) = entries-of rs
-entries-of (header h ∷ rs) = entries-of rs
+entries-of (frequency code key ∷ rs) = refl
+entries-of (base key ∷ rs) = refl
+entries-of (header h ∷ rs) = refl
 entries-of (param p ∷ rs) = entries-of rs
 entries-of (validation path v ∷ rs) = entries-of rs
-entries-of (set name ∷ rs) = entries-of rs
+entries-of (set name ∷ rs) = refl
 entries-of (entry key text ∷ rs) = ap (λ (l : List Entry). record { key = key; text = text } ∷ l) (entries-of rs)
 
 module _ (t : List ℕ) (l : Line) (good : Good t l) (is : l .kind ≡ 69) where
@@ -125,10 +125,10 @@ entry-readable t p₀ key p n k = k .readable
 
 module _ (t : List ℕ) (p₀ : Place) (key : ℕ) (p : Place) (n : ℕ) (r : Under) (k : Entering t p₀ key p n) (found : NextOf t p 69 r) where
   pub entry-none : r ≡ stand.Nothing → 0 ≡ firstEntry key 0 (entries (below (from t p₀)))
-  entry-none e = sym (k .so ∙ ap (firstEntry key n) (entries-of (below (from t p)) ∙ ap entries (rw e at found)))
+  entry-none e = sym (k .so ∙ ap (firstEntry key n) (entries-of (from t p) ∙ ap entries (rw e at found)))
 
   module _ (q : Place) (l : Line) (e : r ≡ stand.At q) (step : Steps t q l) where
-    s : Stands t p q 69
+    s : Stands owns (ofKind 69) rules from t p q
     s = stands t p q r 69 found e
 
     g : Good t l
@@ -148,7 +148,7 @@ module _ (t : List ℕ) (p₀ : Place) (key : ℕ) (p : Place) (n : ℕ) (r : Un
 
     told-entry : firstEntry key 0 (entries (below (from t p₀))) ≡ cond (eqb (value 65535 (field 1 (cells t l))) key) (suc n) (firstEntry key (suc n) (entries (below (from t (l .next)))))
     told-entry =
-        k .so ∙ ap (firstEntry key n) (entries-of (below (from t p)) ∙ ap entries (s .alike) ∙ sym (entries-of (below (from t q)))
+        k .so ∙ ap (firstEntry key n) (entries-of (from t p) ∙ ap entries (s .alike) ∙ sym (entries-of (from t q))
         ∙ ap (λ (rs : List Record). entries (below rs)) (entry-here .rest-is ∙ ap (λ (x : Record). x ∷ from t (l .next)) is-entry)) ∙ rw (entry-key t l g is-e)
 
     module _ (v : ℕ) (says : v ≡ value 65535 (field 1 (cells t l))) where

@@ -1,8 +1,8 @@
 -- What a record tells of the fields of its line. Assumes nothing.
-use mathlib.Core.Path.{_≡_, refl, sym, ap, _∙_}
-use mathlib.Core.Bool.{Bool, true, false, cond, _&&_}
-use mathlib.Core.List.{List, [], _∷_}
-use mathlib.Core.Option.{Option, none, some}
+use mathlib.Core.Path.{_≡_, refl}
+use mathlib.Core.Bool.{Bool, true, false, cond}
+use mathlib.Core.List.{List}
+use mathlib.Core.Option.{none, some}
 use Prim.Native.Nat.{ℕ, _<_}
 use native.Mathlib.Omega.{arith}
 use lib.Dec.{eqb}
@@ -11,7 +11,7 @@ use borrow.Author.Tests.{eqb-true}
 use Rattle.text.specs.Text.{field}
 use Rattle.text.specs.Place.{kindOf}
 use Rattle.text.proofs.Tests.{and-left}
-use Rattle.frame_definition.specs.Form.{Param, Record, frequency, base, header, param, validation, set, entry, value, names, typeOf, frequencyForm, baseForm, headerForm, headerOf, paramForm, paramOf, ofType, validationForm, setForm, entryForm, said, paramSaid, form}
+use Rattle.frame_definition.specs.Form.{Record, frequency, base, header, param, validation, set, entry, value, names, typeOf, frequencyForm, baseForm, headerForm, headerOf, paramForm, paramOf, ofType, validationForm, setForm, entryForm, said, paramSaid, form}
 use Rattle.frame_definition.specs.Rules.{letter}
 use Rattle.frame_definition.specs.declared.ParamType.{ParamType}
 use Rattle.frame_definition.specs.declared.Typed.{Typed}

@@ -1,5 +1,5 @@
 -- The definition that an accepted frame text stands for, as plain data; document 01, "Lawful reading of a header", says what is looked for in it.
-use Prim.Native.Nat.{ℕ, zero, suc, _+_}
+use Prim.Native.Nat.{ℕ, suc}
 use mathlib.Core.Bool.{Bool, true, false, cond, _&&_}
 use mathlib.Core.List.{List, [], _∷_}
 use mathlib.Core.Option.{Option, none, some}
@@ -7,7 +7,7 @@ use lib.Dec.{eqb}
 use Rattle.text.specs.Text.{lines, same}
 use Rattle.text.specs.Records.{records}
 use Rattle.frame_definition.specs.Form.{Path, Header, Param, Record, frequency, base, header, param, validation, set, entry, form}
-use Rattle.frame_definition.specs.Rules.{owns}
+use Rattle.frame_definition.specs.Rules.{under}
 
 -- an F line
 pub record Frequency : Type 0 where
@@ -57,8 +57,7 @@ pub record Definition : Type 0 where
 
 -- "The last F, B, H or D line owns what follows": the records up to the next such line
 abbrev pub below : List Record → List Record
-below [] = []
-below (r ∷ rs) = cond (owns r) [] (r ∷ below rs)
+below rs = under rs
 
 -- the P lines among these, of which the first has the number n
 abbrev pub params : ℕ → List Record → List Numbered

@@ -12,14 +12,15 @@ use Rattle.text.specs.Records.{rest, Readable}
 use Rattle.text.specs.declared.Place.{Place}
 use Rattle.text.specs.declared.Line.{Line}
 use Rattle.text.specs.declared.Part.{Part}
-use Rattle.frame_definition.specs.Form.{Path, Header, Param, Record, frequency, base, header, param, validation, set, entry, names, given, flag, form}
+use Rattle.text.specs.declared.Under.{Under}
+use Rattle.text.specs.declared.Under.the-variants as under
+use Rattle.text.specs.Listing.{Next}
+use Rattle.frame_definition.specs.Form.{Param, Record, frequency, base, header, param, validation, set, entry, names, given, flag, form}
 use Rattle.frame_definition.specs.Form as form
-use Rattle.frame_definition.specs.Rules.{letter, rules}
-use Rattle.frame_definition.specs.Definition.{Numbered, Validation, Frame, below, params, validations, entries, frames, sets, definition, firstBase, isKey, some?, candidates, firstSet}
+use Rattle.frame_definition.specs.Rules.{letter, owns, rules}
+use Rattle.frame_definition.specs.Definition.{Frame, below, params, validations, entries, frames, sets, definition, firstBase, isKey, some?, candidates, firstSet}
 use Rattle.frame_definition.specs.declared.definition.Found.{Found}
 use Rattle.frame_definition.specs.declared.definition.Found.the-variants as found
-use Rattle.frame_definition.specs.declared.definition.Under.{Under}
-use Rattle.frame_definition.specs.declared.definition.Under.the-variants as under
 use Rattle.frame_definition.specs.declared.definition.Numbers.{Numbers}
 use Rattle.frame_definition.specs.declared.definition.Paths.{Paths}
 use Rattle.frame_definition.specs.declared.definition.Field.{Field}
@@ -69,31 +70,17 @@ FindsBase t key found.Nothing = firstBase key (definition t .bases) ≡ none
 
 -- ---- the lines under an owner
 
--- those of a kind
-abbrev pub ofKind : ℕ → List Record → List Record
-ofKind kind [] = []
-ofKind kind (r ∷ rs) = cond (eqb (letter r) kind) (r ∷ ofKind kind rs) (ofKind kind rs)
-
--- is the first of a kind
-abbrev pub starts : ℕ → List Record → Bool
-starts kind [] = false
-starts kind (r ∷ rs) = eqb (letter r) kind
+-- is it of a kind
+abbrev pub ofKind : ℕ → Record → Bool
+ofKind kind r = eqb (letter r) kind
 
 -- is the kind that of an F, B, H or D line
 abbrev pub ownerKind : ℕ → Bool
 ownerKind kind = eqb kind 0x46 || (eqb kind 0x42 || (eqb kind 0x48 || eqb kind 0x44))
 
--- at q stands the next line of this kind under the owner of what follows p
-pub record Stands (t : List ℕ) (p q : Place) (kind : ℕ) : Type 0 where
-  pub readable : Readable rules t q
-  pub inside : q .at < length t
-  pub after : p .at ≤ q .at
-  pub there : starts kind (from t q) ≡ true
-  pub alike : ofKind kind (below (from t p)) ≡ ofKind kind (below (from t q))
-
+-- the next line of a kind under the owner of what follows p
 abbrev pub NextOf : List ℕ → Place → ℕ → Under → Type 0
-NextOf t p kind (under.At q) = Stands t p q kind
-NextOf t p kind under.Nothing = ofKind kind (below (from t p)) ≡ []
+NextOf t p kind r = Next owns (ofKind kind) rules from t p r
 
 -- the numbers of a P line
 pub record HasNumbers (fs : List (List ℕ)) (r : Numbers) : Type 0 where

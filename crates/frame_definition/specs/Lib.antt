@@ -3,3 +3,6 @@ pub mod Rules
 pub mod Machine
 pub mod Definition
 pub mod Find
+pub mod Print
+pub mod Limits
+pub mod Examples

@@ -1,6 +1,6 @@
 -- What the code keeps of the lines before, and how it judges a line by that.
 use Prim.Native.Nat.{ℕ, _+_}
-use mathlib.Core.Bool.{Bool, true, false, cond, _&&_, _||_}
+use mathlib.Core.Bool.{Bool, cond, _&&_, _||_}
 use mathlib.Core.Option.{Option, none, some}
 use lib.Dec.{leb, ltb, eqb}
 use Rattle.frame_definition.specs.Form.{Record, frequency, base, header, param, validation, set, entry}

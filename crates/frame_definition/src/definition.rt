@@ -5,6 +5,7 @@ use text::Line;
 use text::Optional;
 use text::Part;
 use text::Place;
+use text::Under;
 ghost use mathlib.Core.Path.{_≡_};
 ghost use mathlib.Core.Option.{some};
 ghost use Prim.Native.Nat.{_≤_, _<_};
@@ -21,12 +22,6 @@ ghost use Rattle.frame_definition.specs.Find.{Good, keyed, oneMore, Find
 // Where the P lines of a B begin, and how many P lines come before.
 pub enum Found {
     At { place: Place, params: usize },
-    Nothing,
-}
-
-// The place of a line under an owner.
-pub enum Under {
-    At(Place),
     Nothing,
 }
 

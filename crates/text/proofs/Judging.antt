@@ -3,11 +3,11 @@ use mathlib.Core.Path.{_≡_, refl, sym, ap, _∙_}
 use mathlib.Core.Bool.{Bool, true, false, cond}
 use mathlib.Core.List.{List, [], _∷_}
 use mathlib.Core.Option.{Option, none, some}
-use Prim.Native.Nat.{ℕ, suc, _+_, _-_, _≤_, _<_}
+use Prim.Native.Nat.{ℕ, suc, _≤_, _<_}
 use native.Mathlib.Omega.{arith}
 use native.Mathlib.Numerals.{add-one}
 use lib.Dec.{eqb, leb}
-use lib.ListN.{length, drop, length-drop, drop-of-length-le}
+use lib.ListN.{length, length-drop, drop-of-length-le}
 use borrow.Author.Tests.{eqb-true, leb-false, le-ltb, lt-ltb}
 use Rattle.refusal.specs.declared.Refusal.the-variants.{Form, Limit, Owner}
 use Rattle.text.specs.Text.{onto, split, lines, fields}
@@ -52,7 +52,7 @@ module _ {R : Type 0} (rules : Rules R) where
     pub long : (fs : List (List ℕ)) → 9 < length fs → rules .form fs ≡ none
 
   -- the verdict on lines that aren't the last
-  judge-line : (before : List R) (n : ℕ) (l : List ℕ) (ms : List (List ℕ)) → (ms ≡ [] → ⊥)
+  pub judge-line : (before : List R) (n : ℕ) (l : List ℕ) (ms : List (List ℕ)) → (ms ≡ [] → ⊥)
       → judge rules before n (l ∷ ms) ≡ sentence rules before n (rules .form (fields l)) (λ x. judge rules (x ∷ before) (suc n) ms)
   judge-line before n l [] h = absurd (h refl)
   judge-line before n [] (m ∷ ms) h = refl

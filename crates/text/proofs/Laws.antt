@@ -13,9 +13,9 @@ use lib.Dec.{eqb, leb}
 use mir.Syntax.{w64}
 use mir.Val.{Fits}
 use borrow.Author.Tests.{le-leb, lt-leb, eq-eqb, ne-eqb, eqb-true, leb-true}
-use Rattle.text.specs.Text.{onto, split, field, within, without, same, worth, decimal, upTo, value, number, missing, given, optionalUpTo, optionalValue, optional, name, plain, names, path, optionalName, optionalPath}
+use Rattle.text.specs.Text.{onto, split, field, within, without, same, worth, decimal, upTo, value, number, missing, optionalUpTo, optionalValue, optional, name, plain, names, path, optionalName, optionalPath}
 use Rattle.text.specs.Scan.{cut, halt, digits}
-use Rattle.text.specs.Place.{First, unended, ended, after, longer, first, short, kindOf, left, In, cell, cellsFrom, cells, Marked, told, Cuts, heard, Has, Steps, partOf, IsPart, IsOptionalPart}
+use Rattle.text.specs.Place.{First, unended, ended, after, longer, first, short, kindOf, In, cell, cellsFrom, cells, Marked, Cuts, Has, Steps, IsPart, IsOptionalPart}
 use Rattle.text.specs.declared.Place.{Place}
 use Rattle.text.specs.declared.Line.{Line}
 use Rattle.text.specs.declared.Fields.{Fields}

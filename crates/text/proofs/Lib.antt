@@ -3,3 +3,5 @@ pub mod Judging
 pub mod Tests
 pub mod Reading
 pub mod Listing
+pub mod Honest
+pub mod Printing

@@ -1,14 +1,14 @@
 -- Laws on looking for the next line of a kind under an owner. Assumes nothing.
-use mathlib.Core.Path.{_≡_, refl, sym, ap, _∙_}
+use mathlib.Core.Path.{_≡_, refl, ap, _∙_}
 use mathlib.Core.Bool.{Bool, true, false, cond}
 use mathlib.Core.List.{List, [], _∷_}
-use Prim.Native.Nat.{ℕ, _-_, _≤_, _<_}
+use Prim.Native.Nat.{ℕ, _≤_, _<_}
 use native.Mathlib.Omega.{arith}
 use lib.ListN.{length}
 use Rattle.text.specs.Place.{In, Steps}
 use Rattle.text.specs.Judge.{Rules}
 use Rattle.text.specs.Records.{Readable}
-use Rattle.text.specs.Listing.{listed, starts, Stands, Next}
+use Rattle.text.specs.Listing.{listed, Stands, Next}
 use Rattle.text.specs.declared.Place.{Place}
 use Rattle.text.specs.declared.Line.{Line}
 use Rattle.text.specs.declared.Under.{Under}

@@ -1,17 +1,17 @@
 -- Laws on reading a text whose lines are all of the forms, line by line. Assumes nothing.
 use mathlib.Core.Path.{_≡_, refl, sym, ap, _∙_}
-use mathlib.Core.Bool.{Bool, true, false, cond, _&&_}
+use mathlib.Core.Bool.{Bool, true, false, cond}
 use mathlib.Core.List.{List, [], _∷_}
 use mathlib.Core.Option.{Option, none, some}
-use Prim.Native.Nat.{ℕ, suc, _+_, _-_, _≤_, _<_}
+use Prim.Native.Nat.{ℕ, suc, _≤_, _<_}
 use native.Mathlib.Omega.{arith}
 use native.Mathlib.Numerals.{add-one}
 use lib.Dec.{eqb, leb, ltb}
-use lib.ListN.{length, drop, length-drop, drop-of-length-le}
+use lib.ListN.{length, drop-of-length-le}
 use borrow.Author.Tests.{eqb-true, ltb-false}
-use Rattle.refusal.specs.declared.Refusal.the-variants.{Form, Limit, Owner}
-use Rattle.text.specs.Text.{split, lines, fields}
-use Rattle.text.specs.Place.{First, unended, ended, first, short, left, In, cellsFrom, cells, heard, Steps}
+use Rattle.refusal.specs.declared.Refusal.the-variants.{Limit, Owner}
+use Rattle.text.specs.Text.{lines, fields}
+use Rattle.text.specs.Place.{First, unended, ended, first, short, left, cellsFrom, cells, heard, Steps}
 use Rattle.text.specs.Judge.{Rules, sentence, judge, verdict}
 use Rattle.text.specs.Records.{onto, records, rest, Readable}
 use Rattle.text.specs.declared.Place.{Place}
@@ -68,7 +68,7 @@ module _ {R : Type 0} (rules : Rules R) where
     pub rest-is : rest rules t p ≡ said ∷ rest rules t (l .next)
     pub next : Readable rules t (l .next)
 
-  records-line : (l : List ℕ) (ms : List (List ℕ)) → (ms ≡ [] → ⊥) → records (rules .form) (l ∷ ms) ≡ onto (rules .form (fields l)) (records (rules .form) ms)
+  pub records-line : (l : List ℕ) (ms : List (List ℕ)) → (ms ≡ [] → ⊥) → records (rules .form) (l ∷ ms) ≡ onto (rules .form (fields l)) (records (rules .form) ms)
   records-line l [] h = absurd (h refl)
   records-line l (m ∷ ms) h = refl
 

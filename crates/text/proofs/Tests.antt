@@ -1,6 +1,6 @@
 -- Laws on tests: a chain `a && (b && c)`, a test that a line has n fields, a choice. Assumes nothing.
 use mathlib.Core.Path.{_≡_, refl, sym, ap, _∙_}
-use mathlib.Core.Bool.{Bool, true, false, cond, _&&_, _||_}
+use mathlib.Core.Bool.{Bool, true, false, cond, not, _&&_, _||_}
 use mathlib.Core.List.{List}
 use Prim.Native.Nat.{ℕ, _≤_, _<_}
 use native.Mathlib.Omega.{arith}
@@ -81,6 +81,11 @@ module _ {A : Type 0} (z x y : A) where
 
 pub ruleset picks = (pick-lt, pick-ge, pick-le, pick-gt, pick-eq, pick-ne, pick-true, pick-false)
 
+-- a choice between alike things
+pub alike : {A : Type 0} (b : Bool) (x : A) → cond b x x ≡ x
+alike true x = refl
+alike false x = refl
+
 -- both of two tests that hold together
 pub and-left : (a b : Bool) → (a && b) ≡ true → a ≡ true
 and-left true b e = refl
@@ -89,6 +94,19 @@ and-left false b e = e
 pub and-right : (a b : Bool) → (a && b) ≡ true → b ≡ true
 and-right true b e = e
 and-right false b e = absurd (let z : _≡_ {A = ℕ} 0 1 = cc in omega arith)
+
+-- a test that holds where its owner is there
+pub held : (a b : Bool) → (a && b) ≡ false → not a ≡ false → b ≡ false
+held true b e h = e
+held false b e h = absurd (let z : _≡_ {A = ℕ} 0 1 = cc in omega arith)
+
+pub or-left : (a b : Bool) → (a || b) ≡ false → a ≡ false
+or-left true b e = e
+or-left false b e = refl
+
+pub or-right : (a b : Bool) → (a || b) ≡ false → b ≡ false
+or-right true b e = absurd (let z : _≡_ {A = ℕ} 0 1 = cc in omega arith)
+or-right false b e = e
 
 -- the fields that a line has
 pub count-of : (t : List ℕ) (l : Line) (n : ℕ) → l .fields ≡ n → eqb (length (cells t l)) n ≡ true

@@ -1,11 +1,10 @@
 -- Document 01, "Refusal numbers", 1 to 3: the verdict on a text, by the rules of its kind of text.
 use Prim.Native.Nat.{ℕ, suc}
-use mathlib.Core.Bool.{Bool, true, false, cond}
+use mathlib.Core.Bool.{Bool, cond}
 use mathlib.Core.List.{List, [], _∷_}
 use mathlib.Core.Option.{Option, none, some}
 use lib.ListN.{length}
 use lib.Dec.{ltb}
-use Rattle.refusal.specs.declared.Refusal.{Refusal}
 use Rattle.refusal.specs.declared.Refusal.the-variants.{Form, Limit, Owner}
 use Rattle.text.specs.Text.{lines, fields}
 use Rattle.text.specs.declared.Verdict.{Verdict}

@@ -4,4 +4,6 @@ pub mod Place
 pub mod Judge
 pub mod Records
 pub mod Listing
+pub mod Honest
+pub mod Print
 pub mod Examples

@@ -1,6 +1,6 @@
 -- Document 01, "Definition text": the lines of a text, the fields of a line, and what a field can say.
 -- A text, a line and a field are lists of bytes.
-use Prim.Native.Nat.{ℕ, suc, _+_, _-_, _*_}
+use Prim.Native.Nat.{ℕ, _+_, _-_, _*_}
 use mathlib.Core.Bool.{Bool, true, false, cond, not, _&&_, _||_}
 use mathlib.Core.List.{List, [], _∷_}
 use lib.ListN.{length, getD}

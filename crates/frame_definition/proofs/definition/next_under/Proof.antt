@@ -2,12 +2,15 @@
 use Prim.Native.Nat.{_-_}
 use lib.ListN.{length}
 use borrow.Author.Needs.{needs}
-use Rattle.frame_definition.proofs.Finding.{Under-so-far, under-laws}
+use Rattle.text.proofs.Listing.{Seeking}
+use Rattle.frame_definition.specs.Rules.{owns, rules}
+use Rattle.frame_definition.specs.Find.{from, ofKind}
+use Rattle.frame_definition.proofs.Finding.{under-laws}
 use Rattle.frame_definition.proofs.definition.next_under.Statement.{statement}
 use Rattle.frame_definition.proofs.definition.next_under.Tie as tie
 
 abbrev Inv-loop : tie.InvT-loop
-Inv-loop text kind place₀ place = Under-so-far text place₀ place kind
+Inv-loop text kind place₀ place = Seeking owns (ofKind kind) rules from text place₀ place
 
 abbrev μ-loop : tie.MeasureT-loop
 μ-loop text kind place₀ place = length text - place .at
