@@ -18,14 +18,14 @@ use Rattle.text.specs.declared.Line.{Line}
 use Rattle.text.specs.declared.Under.the-variants.{At, Nothing}
 use Rattle.text.proofs.Reading.{Said, said-step, rest-end}
 use Rattle.text.proofs.Listing.{Step-on, Seeking, seek-start, seek-end, seek-hit, seek-stop, seek-next}
-use Rattle.command_class.specs.Form.{Record, param, group, variant, array, bitFlag, bitField, fieldEnum, const, bitmask, typeOf, paramForm, groupForm, variantForm, arrayForm, namedForm, bitsForm, bitmaskForm, ofType, said, paramSaid, form}
-use Rattle.command_class.specs.Form as form
-use Rattle.command_class.specs.Rules.{begins, rules}
+use Rattle.command_text.specs.Form.{Record, param, group, variant, array, bitFlag, bitField, fieldEnum, const, bitmask, typeOf, paramForm, groupForm, variantForm, arrayForm, namedForm, bitsForm, bitmaskForm, ofType, said, paramSaid, form}
+use Rattle.command_text.specs.Form as form
+use Rattle.command_text.specs.Rules.{begins, rules}
 use Rattle.command_class.specs.Definition.{Item, numbered, ends, letter}
 use Rattle.command_class.specs.Find.{from, among, ofKind, never}
-use Rattle.command_class.specs.declared.Typed.{Typed}
-use Rattle.command_class.specs.declared.Typed.the-variants.{Is, Not}
-use Rattle.command_class.proofs.Keeping.{brief}
+use Rattle.command_text.specs.declared.Typed.{Typed}
+use Rattle.command_text.specs.declared.Typed.the-variants.{Is, Not}
+use Rattle.command_text.proofs.Keeping.{brief}
 
 -- ---- the kind of a line whose record this is
 module _ (fs : List (List ℕ)) (x : Record) where

@@ -13,8 +13,8 @@ use Rattle.text.specs.Honest.{Keeps}
 use Rattle.text.specs.declared.Verdict.the-variants.{Accepted}
 use Rattle.text.proofs.Tests.{held, or-left}
 use Rattle.text.proofs.Honest.{accepted-keeps}
-use Rattle.command_class.specs.Form.{Record, form}
-use Rattle.command_class.specs.Rules.{begins, count, items, owned, grouped, shift, member, rules, verdict}
+use Rattle.command_text.specs.Form.{Record, form}
+use Rattle.command_text.specs.Rules.{begins, count, items, owned, grouped, shift, member, rules, verdict}
 use Rattle.command_class.specs.Limits.{FewUnderEach, WithinLimits}
 
 few-lines : (before rs : List Record) → Keeps rules before rs → count before ≤ 256 → count rs + count before ≤ 256

@@ -12,13 +12,13 @@ use Rattle.text.specs.Honest.{Keeps}
 use Rattle.text.specs.Print.{shown, orDash, Every, Clean, Prints}
 use Rattle.text.specs.declared.Verdict.the-variants.{Accepted}
 use Rattle.text.proofs.Printing.{clean-shown, clean-name, letter-clean, number-test, number-clean, shown-up-to, shown-worth, shown-given, printed-accepted}
-use Rattle.command_class.specs.Form.{Param, Bits, Record, param, group, variant, array, bitFlag, bitField, fieldEnum, const, bitmask, given, shiftOf, asciiOf, typeOf, form}
-use Rattle.command_class.specs.Rules.{rules, verdict}
+use Rattle.command_text.specs.Form.{Param, Bits, Record, param, group, variant, array, bitFlag, bitField, fieldEnum, const, bitmask, given, shiftOf, asciiOf, typeOf, form}
+use Rattle.command_text.specs.Rules.{rules, verdict}
 use Rattle.command_class.specs.Definition.{entriesAt, definition}
 use Rattle.command_class.specs.Print.{typeName, digit, print, ParamFits, BitsFit, Fits, commandText}
-use Rattle.command_class.specs.declared.ParamType.{ParamType}
-use Rattle.command_class.specs.declared.ParamType.the-variants.{Byte, StructByte, Const, Marker, Word, Bit24, Dword, Array, Variant, Bitmask, MultiArray}
-use Rattle.command_class.specs.declared.Typed.the-variants.{Is}
+use Rattle.command_text.specs.declared.ParamType.{ParamType}
+use Rattle.command_text.specs.declared.ParamType.the-variants.{Byte, StructByte, Const, Marker, Word, Bit24, Dword, Array, Variant, Bitmask, MultiArray}
+use Rattle.command_text.specs.declared.Typed.the-variants.{Is}
 
 -- ---- what is written, and read back
 number-back : (o : Option ℕ) → given (orDash shown o) ≡ o

@@ -24,16 +24,16 @@ use Rattle.text.specs.declared.Optional.the-variants.{Given, Missing, Wrong}
 use Rattle.text.proofs.Laws.{cells-length}
 use Rattle.text.proofs.Tests.{and-left, and-right, value-of, optional-value-of}
 use Rattle.text.proofs.Listing.{found-at, found-in, found-inside}
-use Rattle.command_class.specs.Form.{Record, param, group, variant, array, bitFlag, bitField, fieldEnum, const, bitmask, typeOf, paramWords, paramCondition, paramFields, paramForm, paramOf, groupFields, groupForm, groupOf, variantFields, variantForm, sizeOf, arrayForm, asciiOf, namedForm, bitsFields, bitsForm, bitsOf, bitmaskForm, given, ofType, said, form}
-use Rattle.command_class.specs.Rules.{rules}
+use Rattle.command_text.specs.Form.{Record, param, group, variant, array, bitFlag, bitField, fieldEnum, const, bitmask, typeOf, paramWords, paramCondition, paramFields, paramForm, paramOf, groupFields, groupForm, groupOf, variantFields, variantForm, sizeOf, arrayForm, asciiOf, namedForm, bitsFields, bitsForm, bitsOf, bitmaskForm, given, ofType, said, form}
+use Rattle.command_text.specs.Rules.{rules}
 use Rattle.command_class.specs.Definition.{Item, ends, under, letter, firstConst}
 use Rattle.command_class.specs.Find.{from, Good, ofKind, orMissing, optionalOr, Tells, IsRead}
-use Rattle.command_class.specs.declared.definition.Row.{Row}
-use Rattle.command_class.specs.declared.ParamType.{ParamType}
-use Rattle.command_class.specs.declared.ParamType.the-variants.{Byte}
-use Rattle.command_class.specs.declared.Typed.{Typed}
-use Rattle.command_class.specs.declared.Typed.the-variants.{Is, Not}
-use Rattle.command_class.proofs.Laws.{group-shift, variant-shift, bits-shift, param-level}
+use Rattle.command_class.specs.declared.Row.{Row}
+use Rattle.command_text.specs.declared.ParamType.{ParamType}
+use Rattle.command_text.specs.declared.ParamType.the-variants.{Byte}
+use Rattle.command_text.specs.declared.Typed.{Typed}
+use Rattle.command_text.specs.declared.Typed.the-variants.{Is, Not}
+use Rattle.command_text.proofs.Laws.{group-shift, variant-shift, bits-shift, param-level}
 use Rattle.command_class.proofs.Finding.{Lined, lined, kind-letter}
 
 -- ---- what may be missing

@@ -6,8 +6,8 @@ use lib.Dec.{eqb}
 use Rattle.text.specs.Text.{lines}
 use Rattle.text.specs.Records.{records}
 use Rattle.text.specs.Listing.{listed}
-use Rattle.command_class.specs.Form.{Param, Group, Record, param, group, variant, array, bitFlag, bitField, fieldEnum, const, bitmask, form}
-use Rattle.command_class.specs.Rules.{begins}
+use Rattle.command_text.specs.Form.{Param, Group, Record, param, group, variant, array, bitFlag, bitField, fieldEnum, const, bitmask, form}
+use Rattle.command_text.specs.Rules.{begins}
 
 -- a line: its number in the text, from 1, and what it says
 pub record Item : Type 0 where

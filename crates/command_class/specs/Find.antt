@@ -13,11 +13,11 @@ use Rattle.text.specs.declared.Line.{Line}
 use Rattle.text.specs.declared.Under.{Under}
 use Rattle.text.specs.declared.Optional.{Optional}
 use Rattle.text.specs.declared.Optional.the-variants.{Given, Missing, Wrong}
-use Rattle.command_class.specs.Form.{Record, param, group, variant, array, bitFlag, bitField, fieldEnum, const, bitmask, form}
-use Rattle.command_class.specs.Rules.{rules}
+use Rattle.command_text.specs.Form.{Record, param, group, variant, array, bitFlag, bitField, fieldEnum, const, bitmask, form}
+use Rattle.command_text.specs.Rules.{rules}
 use Rattle.command_class.specs.Definition.{Item, numbered, ends, letter}
-use Rattle.command_class.specs.declared.definition.Row.{Row}
-use Rattle.command_class.specs.declared.definition.Read.{Read}
+use Rattle.command_class.specs.declared.Row.{Row}
+use Rattle.command_class.specs.declared.Read.{Read}
 
 -- the lines of t from the place p on
 abbrev pub from : List ℕ → Place → List Item

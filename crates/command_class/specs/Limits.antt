@@ -3,8 +3,8 @@ use Prim.Native.Nat.{_≤_}
 use mathlib.Core.List.{List, [], _∷_}
 use mathlib.Core.Bool.{true}
 use mathlib.Core.Path.{_≡_}
-use Rattle.command_class.specs.Form.{Record}
-use Rattle.command_class.specs.Rules.{begins, count, items}
+use Rattle.command_text.specs.Form.{Record}
+use Rattle.command_text.specs.Rules.{begins, count, items}
 
 -- "32 lines under a Q": so for each Q, and for each G, which owns none
 abbrev pub FewUnderEach : List Record → Type 0

@@ -21,14 +21,14 @@ use Rattle.text.specs.declared.Optional.{Optional}
 use Rattle.text.specs.declared.Optional.the-variants.{Given, Missing, Wrong}
 use Rattle.text.proofs.Tests.{and-left, and-right, value-of}
 use Rattle.text.proofs.Reading.{rest-end}
-use Rattle.frame_definition.specs.Form.{Record, frequency, base, header, param, validation, set, entry, given, flags, headerForm, headerOf, form}
-use Rattle.frame_definition.specs.Rules.{rules}
+use Rattle.frame_text.specs.Form.{Record, frequency, base, header, param, validation, set, entry, given, flags, headerForm, headerOf, form}
+use Rattle.frame_text.specs.Rules.{rules}
 use Rattle.frame_definition.specs.Definition.{Frame, below, params, validations, frames, isKey, some?, candidates}
 use Rattle.frame_definition.specs.Find.{from, Good, oneMore, FindsValidation, IsValidation, candidate, HasFlags, IsRead, Counted, frameOf, FindsCandidate}
-use Rattle.frame_definition.specs.declared.definition.NextValidation.{NextValidation}
-use Rattle.frame_definition.specs.declared.definition.NextValidation.the-variants as nextValidation
-use Rattle.frame_definition.specs.declared.definition.Candidate.{Candidate}
-use Rattle.frame_definition.specs.declared.definition.NextCandidate.the-variants as nextCandidate
+use Rattle.frame_definition.specs.declared.NextValidation.{NextValidation}
+use Rattle.frame_definition.specs.declared.NextValidation.the-variants as nextValidation
+use Rattle.frame_definition.specs.declared.Candidate.{Candidate}
+use Rattle.frame_definition.specs.declared.NextCandidate.the-variants as nextCandidate
 use Rattle.frame_definition.proofs.Views.{View}
 use Rattle.frame_definition.proofs.Finding.{Lined, lined, good-line, said-good, counted, more-bound}
 

@@ -19,8 +19,8 @@ use Rattle.text.specs.declared.Verdict.the-variants.{Accepted}
 use Rattle.text.proofs.Laws.{cells-length}
 use Rattle.text.proofs.Tests.{and-left, and-right, value-of}
 use Rattle.text.proofs.Reading.{Said, said-step, readable-start, rest-end, accepted-short}
-use Rattle.frame_definition.specs.Form.{Param, Record, frequency, base, header, param, validation, set, entry, names, given, known, typeOf, paramNumbers, paramWords, paramPaths, paramForm, paramOf, validationForm, said, form}
-use Rattle.frame_definition.specs.Rules.{letter, count, owns, under, holdsParams, over, rules, verdict}
+use Rattle.frame_text.specs.Form.{Param, Record, frequency, base, header, param, validation, set, entry, names, given, known, typeOf, paramNumbers, paramWords, paramPaths, paramForm, paramOf, validationForm, said, form}
+use Rattle.frame_text.specs.Rules.{letter, count, owns, under, holdsParams, over, rules, verdict}
 use Rattle.frame_definition.specs.Definition.{Numbered, Validation, below, params, validations, frequencies, bases, definition, keyFor, baseKey, firstBase}
 use Rattle.frame_definition.specs.Find.{from, fits, Good, keyed, oneMore, FindsBase, ofKind, ownerKind, NextOf, HasNumbers, HasPaths, heard, meant, FindsParam, FindsValidation}
 use Rattle.text.specs.Listing.{listed, Stands}
@@ -28,17 +28,17 @@ use Rattle.text.proofs.Listing.{Step-on, Seeking, seek-start, seek-end, seek-hi
 use Rattle.text.proofs.Listing as listing
 use Rattle.text.specs.declared.Under.{Under}
 use Rattle.text.specs.declared.Under.the-variants as stand
-use Rattle.frame_definition.specs.declared.definition.Field.{Field}
-use Rattle.frame_definition.specs.declared.definition.NextParam.the-variants as nextParam
-use Rattle.frame_definition.specs.declared.definition.NextValidation.the-variants as nextValidation
-use Rattle.frame_definition.specs.declared.definition.Found.the-variants.{At, Nothing}
-use Rattle.frame_definition.specs.declared.definition.Numbers.{Numbers}
-use Rattle.frame_definition.specs.declared.definition.Paths.{Paths}
-use Rattle.frame_definition.specs.declared.ParamType.{ParamType}
-use Rattle.frame_definition.specs.declared.ParamType.the-variants.{Hex}
-use Rattle.frame_definition.specs.declared.Typed.{Typed}
-use Rattle.frame_definition.specs.declared.Typed.the-variants.{Is, Not}
-use Rattle.frame_definition.proofs.Keeping.{brief}
+use Rattle.frame_definition.specs.declared.Field.{Field}
+use Rattle.frame_definition.specs.declared.NextParam.the-variants as nextParam
+use Rattle.frame_definition.specs.declared.NextValidation.the-variants as nextValidation
+use Rattle.frame_definition.specs.declared.Found.the-variants.{At, Nothing}
+use Rattle.frame_definition.specs.declared.Numbers.{Numbers}
+use Rattle.frame_definition.specs.declared.Paths.{Paths}
+use Rattle.frame_text.specs.declared.ParamType.{ParamType}
+use Rattle.frame_text.specs.declared.ParamType.the-variants.{Hex}
+use Rattle.frame_text.specs.declared.Typed.{Typed}
+use Rattle.frame_text.specs.declared.Typed.the-variants.{Is, Not}
+use Rattle.frame_text.proofs.Keeping.{brief}
 use Rattle.frame_definition.proofs.Views.{View, view, fieldsOf, view-count, some-field}
 
 -- ---- a line of a text that is read

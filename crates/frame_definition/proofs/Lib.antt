@@ -1,5 +1,3 @@
-pub mod Laws
-pub mod Keeping
 pub mod Views
 pub mod Finding
 pub mod Candidates

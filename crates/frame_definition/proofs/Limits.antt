@@ -13,8 +13,8 @@ use Rattle.text.specs.Honest.{Keeps}
 use Rattle.text.specs.declared.Verdict.the-variants.{Accepted}
 use Rattle.text.proofs.Tests.{held, or-left, or-right}
 use Rattle.text.proofs.Honest.{accepted-keeps}
-use Rattle.frame_definition.specs.Form.{Record, frequency, base, header, param, validation, set, entry, form}
-use Rattle.frame_definition.specs.Rules.{letter, count, owns, under, holdsParams, holdsValidations, holdsEntries, over, lost, rules, verdict}
+use Rattle.frame_text.specs.Form.{Record, frequency, base, header, param, validation, set, entry, form}
+use Rattle.frame_text.specs.Rules.{letter, count, owns, under, holdsParams, holdsValidations, holdsEntries, over, lost, rules, verdict}
 use Rattle.frame_definition.specs.Definition.{below}
 use Rattle.frame_definition.specs.Find.{ownerKind}
 use Rattle.frame_definition.proofs.Finding.{owner-kind}

@@ -15,14 +15,14 @@ use Rattle.text.specs.Print.{shown, orDash, Every, Optionally, Clean, Prints}
 use Rattle.text.specs.declared.Verdict.the-variants.{Accepted}
 use Rattle.text.proofs.Tests.{and-left, and-right}
 use Rattle.text.proofs.Printing.{shown-shows, letter-clean, dash-clean, number-test, number-clean, clean-within, clean-shown, clean-name, shown-up-to, shown-worth, shown-given, name-given, split-joined, path-given, clean-joined, printed-accepted}
-use Rattle.frame_definition.specs.Form.{Path, Header, Param, Record, frequency, base, header, param, validation, set, entry, given, typeOf, flags, form}
-use Rattle.frame_definition.specs.Form as form
-use Rattle.frame_definition.specs.Rules.{rules, verdict}
+use Rattle.frame_text.specs.Form.{Path, Header, Param, Record, frequency, base, header, param, validation, set, entry, given, typeOf, flags, form}
+use Rattle.frame_text.specs.Form as form
+use Rattle.frame_text.specs.Rules.{rules, verdict}
 use Rattle.frame_definition.specs.Definition.{defined, definition}
 use Rattle.frame_definition.specs.Print.{typeName, digit, dotted, print, IsPath, HeaderFits, ParamFits, Fits, frameText}
-use Rattle.frame_definition.specs.declared.ParamType.{ParamType}
-use Rattle.frame_definition.specs.declared.ParamType.the-variants.{Hex, Number, NumberSigned, NodeNumber, Boolean, Bitmask}
-use Rattle.frame_definition.specs.declared.Typed.the-variants.{Is}
+use Rattle.frame_text.specs.declared.ParamType.{ParamType}
+use Rattle.frame_text.specs.declared.ParamType.the-variants.{Hex, Number, NumberSigned, NodeNumber, Boolean, Bitmask}
+use Rattle.frame_text.specs.declared.Typed.the-variants.{Is}
 
 -- ---- paths
 module _ (ps : Path) (is : IsPath ps) where

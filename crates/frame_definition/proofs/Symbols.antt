@@ -19,8 +19,8 @@ use Rattle.text.specs.declared.Line.{Line}
 use Rattle.text.specs.declared.Verdict.the-variants.{Accepted}
 use Rattle.text.proofs.Tests.{and-left, and-right, value-of}
 use Rattle.text.proofs.Reading.{readable-start, rest-end}
-use Rattle.frame_definition.specs.Form.{Record, frequency, base, header, param, validation, set, entry, entryForm, form}
-use Rattle.frame_definition.specs.Rules.{owns, rules, verdict}
+use Rattle.frame_text.specs.Form.{Record, frequency, base, header, param, validation, set, entry, entryForm, form}
+use Rattle.frame_text.specs.Rules.{owns, rules, verdict}
 use Rattle.frame_definition.specs.Definition.{Entry, below, entries, sets, definition, firstSet, firstEntry}
 use Rattle.frame_definition.specs.Find.{from, Good, ofKind, NextOf, named, FindsSet}
 use Rattle.text.specs.Listing.{listed, Stands}

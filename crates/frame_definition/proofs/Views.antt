@@ -11,11 +11,11 @@ use borrow.Author.Tests.{eqb-true}
 use Rattle.text.specs.Text.{field}
 use Rattle.text.specs.Place.{kindOf}
 use Rattle.text.proofs.Tests.{and-left}
-use Rattle.frame_definition.specs.Form.{Record, frequency, base, header, param, validation, set, entry, value, names, typeOf, frequencyForm, baseForm, headerForm, headerOf, paramForm, paramOf, ofType, validationForm, setForm, entryForm, said, paramSaid, form}
-use Rattle.frame_definition.specs.Rules.{letter}
-use Rattle.frame_definition.specs.declared.ParamType.{ParamType}
-use Rattle.frame_definition.specs.declared.Typed.{Typed}
-use Rattle.frame_definition.specs.declared.Typed.the-variants.{Is, Not}
+use Rattle.frame_text.specs.Form.{Record, frequency, base, header, param, validation, set, entry, value, names, typeOf, frequencyForm, baseForm, headerForm, headerOf, paramForm, paramOf, ofType, validationForm, setForm, entryForm, said, paramSaid, form}
+use Rattle.frame_text.specs.Rules.{letter}
+use Rattle.frame_text.specs.declared.ParamType.{ParamType}
+use Rattle.frame_text.specs.declared.Typed.{Typed}
+use Rattle.frame_text.specs.declared.Typed.the-variants.{Is, Not}
 
 -- the form that the fields of a record's line have
 abbrev pub formOf : Record → List (List ℕ) → Bool

@@ -6,8 +6,8 @@ use mathlib.Core.Option.{Option, none, some}
 use lib.Dec.{eqb}
 use Rattle.text.specs.Text.{lines, same}
 use Rattle.text.specs.Records.{records}
-use Rattle.frame_definition.specs.Form.{Path, Header, Param, Record, frequency, base, header, param, validation, set, entry, form}
-use Rattle.frame_definition.specs.Rules.{under}
+use Rattle.frame_text.specs.Form.{Path, Header, Param, Record, frequency, base, header, param, validation, set, entry, form}
+use Rattle.frame_text.specs.Rules.{under}
 
 -- an F line
 pub record Frequency : Type 0 where

@@ -15,23 +15,23 @@ use Rattle.text.specs.declared.Part.{Part}
 use Rattle.text.specs.declared.Under.{Under}
 use Rattle.text.specs.declared.Under.the-variants as under
 use Rattle.text.specs.Listing.{Next}
-use Rattle.frame_definition.specs.Form.{Param, Record, frequency, base, header, param, validation, set, entry, names, given, flag, form}
-use Rattle.frame_definition.specs.Form as form
-use Rattle.frame_definition.specs.Rules.{letter, owns, rules}
+use Rattle.frame_text.specs.Form.{Param, Record, frequency, base, header, param, validation, set, entry, names, given, flag, form}
+use Rattle.frame_text.specs.Form as form
+use Rattle.frame_text.specs.Rules.{letter, owns, rules}
 use Rattle.frame_definition.specs.Definition.{Frame, below, params, validations, entries, frames, sets, definition, firstBase, isKey, some?, candidates, firstSet}
-use Rattle.frame_definition.specs.declared.definition.Found.{Found}
-use Rattle.frame_definition.specs.declared.definition.Found.the-variants as found
-use Rattle.frame_definition.specs.declared.definition.Numbers.{Numbers}
-use Rattle.frame_definition.specs.declared.definition.Paths.{Paths}
-use Rattle.frame_definition.specs.declared.definition.Field.{Field}
-use Rattle.frame_definition.specs.declared.definition.NextParam.{NextParam}
-use Rattle.frame_definition.specs.declared.definition.NextParam.the-variants as nextParam
-use Rattle.frame_definition.specs.declared.definition.NextValidation.{NextValidation}
-use Rattle.frame_definition.specs.declared.definition.NextValidation.the-variants as nextValidation
-use Rattle.frame_definition.specs.declared.definition.Flags.{Flags}
-use Rattle.frame_definition.specs.declared.definition.Candidate.{Candidate}
-use Rattle.frame_definition.specs.declared.definition.NextCandidate.{NextCandidate}
-use Rattle.frame_definition.specs.declared.definition.NextCandidate.the-variants as nextCandidate
+use Rattle.frame_definition.specs.declared.Found.{Found}
+use Rattle.frame_definition.specs.declared.Found.the-variants as found
+use Rattle.frame_definition.specs.declared.Numbers.{Numbers}
+use Rattle.frame_definition.specs.declared.Paths.{Paths}
+use Rattle.frame_definition.specs.declared.Field.{Field}
+use Rattle.frame_definition.specs.declared.NextParam.{NextParam}
+use Rattle.frame_definition.specs.declared.NextParam.the-variants as nextParam
+use Rattle.frame_definition.specs.declared.NextValidation.{NextValidation}
+use Rattle.frame_definition.specs.declared.NextValidation.the-variants as nextValidation
+use Rattle.frame_definition.specs.declared.Flags.{Flags}
+use Rattle.frame_definition.specs.declared.Candidate.{Candidate}
+use Rattle.frame_definition.specs.declared.NextCandidate.{NextCandidate}
+use Rattle.frame_definition.specs.declared.NextCandidate.the-variants as nextCandidate
 
 -- the records of t from the place p on
 abbrev pub from : List ℕ → Place → List Record

@@ -1,8 +1,4 @@
-pub mod Form
-pub mod Rules
-pub mod Machine
 pub mod Definition
 pub mod Find
 pub mod Print
 pub mod Limits
-pub mod Examples

@@ -3,8 +3,8 @@ use Prim.Native.Nat.{_≤_}
 use mathlib.Core.List.{List, [], _∷_}
 use mathlib.Core.Bool.{true}
 use mathlib.Core.Path.{_≡_}
-use Rattle.frame_definition.specs.Form.{Record, frequency, base, header, param, validation, set, entry}
-use Rattle.frame_definition.specs.Rules.{count, owns}
+use Rattle.frame_text.specs.Form.{Record, frequency, base, header, param, validation, set, entry}
+use Rattle.frame_text.specs.Rules.{count, owns}
 use Rattle.frame_definition.specs.Definition.{below}
 
 -- "64 P under one B or H, .. 16 V under one H, .. 64 E each": what stands under an owner that these records follow

@@ -1,536 +1,419 @@
-// The frame text: which texts are accepted, and which line of any other is refused by which number.
-// Counterpart of frame_definition/schema.rs.
-pub mod definition; // definition.rt: looking things up in an accepted text
-
-use refusal::Refusal;
+// The definition that an accepted frame text stands for. Counterpart of frame_definition/schema.rs.
+// Looking things up in an accepted frame text. Every loop reads on from a place where a line begins.
+use frame_text::ParamType;
+use frame_text::Typed;
 use text::Line;
-use text::Number;
+use text::Optional;
+use text::Part;
 use text::Place;
-use text::Verdict;
+use text::Under;
 ghost use mathlib.Core.Path.{_≡_};
-ghost use mathlib.Core.Bool.{_&&_};
-ghost use Prim.Native.Nat.{_≤_};
-ghost use Rattle.text.specs.Text.{field, number};
-ghost use Rattle.text.specs.Place.{kindOf, cells, Marked, Has};
-ghost use Rattle.frame_definition.specs.Form.{numberType, otherType, typeOf, known, flags, frequencyForm, baseForm, headerForm, paramNumbers, paramPaths, paramWords, paramSaid, validationForm, setForm, entryForm, form};
-ghost use Rattle.frame_definition.specs.Rules.{verdict};
-ghost use Rattle.frame_definition.specs.Machine.{levelOf, shape, tagged, opened, nothing, holds, deepSize, judgedInner, judgedParam, judgedValidation, judgedEntry, judgedFrequency, judgedBase, judgedHeader, judgedSet, judged};
+ghost use mathlib.Core.Option.{some};
+ghost use Prim.Native.Nat.{_≤_, _<_};
+ghost use lib.ListN.{length};
+ghost use Rattle.text.specs.Text.{field};
+ghost use Rattle.text.specs.Place.{kindOf, cells, IsOptionalPart};
+ghost use Rattle.text.specs.Records.{Readable};
+ghost use Rattle.text.specs.declared.Verdict.the-variants.{Accepted};
+ghost use Rattle.frame_text.specs.Form.{given, value, flag, param, typeOf, form};
+ghost use Rattle.frame_text.specs.Rules.{rules, verdict};
+ghost use Rattle.frame_definition.specs.Definition.{below, validations, entries, definition, baseKey, isKey, some?, firstEntry};
+ghost use Rattle.frame_definition.specs.Find.{Good, keyed, oneMore, FindsBase, ownerKind, NextOf, HasNumbers, HasPaths, meant, FindsParam, FindsValidation, from, HasFlags, candidate, IsRead, Counted, FindsCandidate, named, FindsSet};
 
-// The type of a field, by the XML names of the source.
-pub enum ParamType {
-    Hex,
-    Number,
-    NumberSigned,
-    NodeNumber,
-    Boolean,
-    Bitmask,
+// Where the P lines of a B begin, and how many P lines come before.
+pub enum Found {
+    At { place: Place, params: usize },
+    Nothing,
 }
 
-// What a field says as a type.
-pub enum Typed {
-    Is(ParamType),
-    Not,
+// A P line: its numbers, and where its names and paths stand. A missing one has no bytes.
+pub struct Field {
+    pub level: u16,
+    pub order: u16,
+    pub bits: u16,
+    pub kind: ParamType,
+    pub name: Part,
+    pub set: Part,
+    pub optional: Part,
+    pub size: Part,
 }
 
-// What limits and owners look at in a line. A level over 7 is told as 8.
-pub enum Form {
-    Frequency,
-    Base,
-    Header,
-    Param { level: u8, sized: bool },
-    Validation,
-    Set,
-    Entry,
-    Bad,
+// The next P line, and the place after it.
+pub enum NextParam {
+    At { field: Field, place: Place },
+    Nothing,
 }
 
-// The types that show a number.
-fn number_type(s: &[u8]) -> Typed
-    ensures { λ r. ⌜ r ≡ numberType (now (s .entry)) ⌝ }
+// The next V line, and the place after it.
+pub enum NextValidation {
+    At {
+        path: Part,
+        value: u16,
+        place: Place,
+    },
+    Nothing,
+}
+
+// The flags of an H, as they stand in the text.
+pub struct Flags {
+    pub ack: bool,
+    pub routed: bool,
+    pub multicast: bool,
+    pub error: bool,
+}
+
+// An H that is a candidate: its number among the H lines, its key and flags, where its name stands, the place after it,
+// and how many P lines come before.
+pub struct Candidate {
+    pub number: usize,
+    pub key: u16,
+    pub flags: Flags,
+    pub name: Part,
+    pub place: Place,
+    pub params: usize,
+}
+
+pub enum NextCandidate {
+    At(Candidate),
+    Nothing,
+}
+
+// Is the line of this kind, with this key?
+fn is_keyed(text: &[u8], line: Line, kind: u8, limit: u16, key: u64) -> bool
+    requires { ⌜ Good (now text) line ⌝ }
+    ensures { λ r. ⌜ r ≡ keyed kind limit key (cells (now (text .entry)) line) ⌝ }
 {
-    if text::is_same(s, b"NUMBER") {
-        return Typed::Is(ParamType::Number);
-    }
-    if text::is_same(s, b"NUMBER_SIGNED") {
-        return Typed::Is(ParamType::NumberSigned);
-    }
-    if text::is_same(s, b"NODE_NUMBER") {
-        return Typed::Is(ParamType::NodeNumber);
-    }
-    Typed::Not
-}
-
-// The other types.
-fn other_type(s: &[u8]) -> Typed
-    ensures { λ r. ⌜ r ≡ otherType (now (s .entry)) ⌝ }
-{
-    if text::is_same(s, b"HEX") {
-        return Typed::Is(ParamType::Hex);
-    }
-    if text::is_same(s, b"BOOLEAN") {
-        return Typed::Is(ParamType::Boolean);
-    }
-    if text::is_same(s, b"BITMASK") {
-        return Typed::Is(ParamType::Bitmask);
-    }
-    Typed::Not
-}
-
-// The type that s names.
-pub fn read_type(s: &[u8]) -> Typed
-    ensures { λ r. ⌜ r ≡ typeOf (now (s .entry)) ⌝ }
-{
-    match number_type(s) {
-        Typed::Is(found) => Typed::Is(found),
-        Typed::Not => other_type(s),
-    }
-}
-
-fn is_type(s: &[u8]) -> bool
-    ensures { λ r. ⌜ r ≡ known (typeOf (now (s .entry))) ⌝ }
-{
-    match read_type(s) {
-        Typed::Is(_) => true,
-        Typed::Not => false,
-    }
-}
-
-// Is s four digits 0 or 1?
-fn is_flags(s: &[u8]) -> bool
-    ensures { λ r. ⌜ r ≡ flags (now (s .entry)) ⌝ }
-{
-    if s.len() != 4 {
+    if line.kind != kind {
         return false;
     }
-    text::all_within(s, b'0', b'1')
+    line.value(text, 1, limit) as u64 == key
 }
 
-fn flags_at(text: &[u8], line: Line, k: usize) -> bool
-    requires { ⌜ Has (now text) line k ⌝ }
-    ensures { λ r. ⌜ r ≡ flags (field k (cells (now (text .entry)) line)) ⌝ }
+// One more after a line of this kind.
+fn one_more(kind: u8, is: u8, n: usize) -> usize
+    requires { ⌜ n < 65536 ⌝ }
+    ensures { λ r. ⌜ r ≡ oneMore kind is n ⌝ }
 {
-    is_flags(line.field(text, k))
+    if kind == is { n + 1 } else { n }
 }
 
-fn type_at(text: &[u8], line: Line, k: usize) -> bool
-    requires { ⌜ Has (now text) line k ⌝ }
-    ensures { λ r. ⌜ r ≡ known (typeOf (field k (cells (now (text .entry)) line))) ⌝ }
+// The base key for a region and speed.
+pub fn base_key(text: &[u8], region: u64, speed: u64) -> u16
+    requires { ⌜ verdict (now text) ≡ Accepted ⌝ }
+    ensures { λ r. ⌜ r ≡ baseKey region speed (definition (now (text .entry))) ⌝ }
 {
-    is_type(line.field(text, k))
-}
-
-fn is_frequency(text: &[u8], line: Line) -> bool
-    requires { ⌜ Marked (now text) (line .marks) (line .fields) ⌝ }
-    ensures { λ r. ⌜ r ≡ frequencyForm (cells (now (text .entry)) line) ⌝ }
-{
-    if line.fields != 3 {
-        return false;
-    }
-    line.is_number(text, 1, 255) && line.is_number(text, 2, 255)
-}
-
-fn is_base(text: &[u8], line: Line) -> bool
-    requires { ⌜ Marked (now text) (line .marks) (line .fields) ⌝ }
-    ensures { λ r. ⌜ r ≡ baseForm (cells (now (text .entry)) line) ⌝ }
-{
-    if line.fields != 2 {
-        return false;
-    }
-    line.is_number(text, 1, 255)
-}
-
-fn is_header(text: &[u8], line: Line) -> bool
-    requires { ⌜ Marked (now text) (line .marks) (line .fields) ⌝ }
-    ensures { λ r. ⌜ r ≡ headerForm (cells (now (text .entry)) line) ⌝ }
-{
-    if line.fields != 5 {
-        return false;
-    }
-    line.is_number(text, 1, 255)
-        && (line.is_optional_number(text, 2, 255)
-            && (flags_at(text, line, 3) && line.is_name(text, 4)))
-}
-
-fn has_numbers(text: &[u8], line: Line) -> bool
-    requires { ⌜ (Marked (now text) (line .marks) (line .fields)) × (line .fields ≡ 9) ⌝ }
-    ensures { λ r. ⌜ r ≡ paramNumbers (cells (now (text .entry)) line) ⌝ }
-{
-    line.is_decimal(text, 1) && (line.is_number(text, 2, 65535) && line.is_number(text, 3, 255))
-}
-
-fn has_words(text: &[u8], line: Line) -> bool
-    requires { ⌜ (Marked (now text) (line .marks) (line .fields)) × (line .fields ≡ 9) ⌝ }
-    ensures { λ r. ⌜ r ≡ paramWords (cells (now (text .entry)) line) ⌝ }
-{
-    type_at(text, line, 4) && (line.is_plain(text, 5) && has_paths(text, line))
-}
-
-fn has_paths(text: &[u8], line: Line) -> bool
-    requires { ⌜ (Marked (now text) (line .marks) (line .fields)) × (line .fields ≡ 9) ⌝ }
-    ensures { λ r. ⌜ r ≡ paramPaths (cells (now (text .entry)) line) ⌝ }
-{
-    line.is_optional_name(text, 6)
-        && (line.is_optional_path(text, 7) && line.is_optional_path(text, 8))
-}
-
-fn is_param(text: &[u8], line: Line) -> bool
-    requires { ⌜ (Marked (now text) (line .marks) (line .fields)) × (line .fields ≡ 9) ⌝ }
-    ensures { λ r. ⌜ r ≡ (paramNumbers (cells (now (text .entry)) line) && paramWords (cells (now (text .entry)) line)) ⌝ }
-{
-    has_numbers(text, line) && has_words(text, line)
-}
-
-fn is_validation(text: &[u8], line: Line) -> bool
-    requires { ⌜ Marked (now text) (line .marks) (line .fields) ⌝ }
-    ensures { λ r. ⌜ r ≡ validationForm (cells (now (text .entry)) line) ⌝ }
-{
-    if line.fields != 3 {
-        return false;
-    }
-    line.is_path(text, 1) && line.is_number(text, 2, 65535)
-}
-
-fn is_set(text: &[u8], line: Line) -> bool
-    requires { ⌜ Marked (now text) (line .marks) (line .fields) ⌝ }
-    ensures { λ r. ⌜ r ≡ setForm (cells (now (text .entry)) line) ⌝ }
-{
-    if line.fields != 2 {
-        return false;
-    }
-    line.is_name(text, 1)
-}
-
-fn is_entry(text: &[u8], line: Line) -> bool
-    requires { ⌜ Marked (now text) (line .marks) (line .fields) ⌝ }
-    ensures { λ r. ⌜ r ≡ entryForm (cells (now (text .entry)) line) ⌝ }
-{
-    if line.fields != 3 {
-        return false;
-    }
-    line.is_number(text, 1, 65535) && line.is_name(text, 2)
-}
-
-// The level that field 1 says, or 8 for one over 7.
-fn read_level(text: &[u8], line: Line) -> u8
-    requires { ⌜ (Marked (now text) (line .marks) (line .fields)) × (line .fields ≡ 9) ⌝ }
-    ensures { λ r. ⌜ r ≡ levelOf (number 7 (field 1 (cells (now (text .entry)) line))) ⌝ }
-{
-    match line.number(text, 1, 7) {
-        Number::Is(n) => n as u8,
-        Number::Over => 8,
-        Number::Not => 8,
-    }
-}
-
-// The form if the line has it.
-fn said(good: bool, form: Form) -> Form
-    ensures { λ r. ⌜ r ≡ tagged good form ⌝ }
-{
-    if good { form } else { Form::Bad }
-}
-
-fn read_param(text: &[u8], line: Line) -> Form
-    requires { ⌜ Marked (now text) (line .marks) (line .fields) ⌝ }
-    ensures { λ r. ⌜ r ≡ shape (paramSaid (cells (now (text .entry)) line)) ⌝ }
-{
-    if line.fields != 9 {
-        return Form::Bad;
-    }
-    if is_param(text, line) {
-        return Form::Param {
-            level: read_level(text, line),
-            sized: line.is_given(text, 8),
-        };
-    }
-    Form::Bad
-}
-
-// Which form the line has, and what limits and owners look at in it.
-fn read_form(text: &[u8], line: Line) -> Form
-    requires { ⌜ (Marked (now text) (line .marks) (line .fields)) × (line .kind ≡ kindOf (cells (now text) line)) ⌝ }
-    ensures { λ r. ⌜ r ≡ shape (form (cells (now (text .entry)) line)) ⌝ }
-{
-    let kind = line.kind;
-    match kind {
-        b'F' => said(is_frequency(text, line), Form::Frequency),
-        b'B' => said(is_base(text, line), Form::Base),
-        b'H' => said(is_header(text, line), Form::Header),
-        b'P' => read_param(text, line),
-        b'V' => said(is_validation(text, line), Form::Validation),
-        b'D' => said(is_set(text, line), Form::Set),
-        b'E' => said(is_entry(text, line), Form::Entry),
-        _ => Form::Bad,
-    }
-}
-
-// How many F, B, H and D lines there were.
-pub struct Counts {
-    pub frequencies: u8,
-    pub bases: u8,
-    pub headers: u8,
-    pub sets: u8,
-}
-
-// What is kept of the lines before: counts, the letter of the line that owns what follows or 0, how many P, V and E lines
-// stand under it, and how deep the next P may stand.
-pub struct Kept {
-    pub counts: Counts,
-    pub owner: u8,
-    pub params: u8,
-    pub validations: u8,
-    pub entries: u8,
-    pub levels: u8,
-}
-
-// The judgement on a line: nothing is wrong, and what is kept after it; a limit is passed; no owner or parent; not a form.
-pub enum Judged {
-    On(Kept),
-    Passed,
-    Lost,
-    Wrong,
-}
-
-// Before the first line.
-fn start() -> Kept
-    ensures { λ r. ⌜ r ≡ nothing ⌝ }
-{
-    open(
-        Counts {
-            frequencies: 0,
-            bases: 0,
-            headers: 0,
-            sets: 0,
-        },
-        0,
-    )
-}
-
-// After a line that owns what follows.
-fn open(counts: Counts, owner: u8) -> Kept
-    ensures { λ r. ⌜ r ≡ opened counts owner ⌝ }
-{
-    Kept {
-        counts,
-        owner,
-        params: 0,
-        validations: 0,
-        entries: 0,
-        levels: 0,
-    }
-}
-
-impl Kept {
-    fn frequency(self) -> Judged
-        ensures { λ r. ⌜ r ≡ judgedFrequency self ⌝ }
-    {
-        let c = self.counts;
-        if 16 <= c.frequencies {
-            return Judged::Passed;
-        }
-        Judged::On(open(
-            Counts {
-                frequencies: c.frequencies + 1,
-                bases: c.bases,
-                headers: c.headers,
-                sets: c.sets,
-            },
-            b'F',
-        ))
-    }
-
-    fn base(self) -> Judged
-        ensures { λ r. ⌜ r ≡ judgedBase self ⌝ }
-    {
-        let c = self.counts;
-        if 16 <= c.bases {
-            return Judged::Passed;
-        }
-        Judged::On(open(
-            Counts {
-                frequencies: c.frequencies,
-                bases: c.bases + 1,
-                headers: c.headers,
-                sets: c.sets,
-            },
-            b'B',
-        ))
-    }
-
-    fn header(self) -> Judged
-        ensures { λ r. ⌜ r ≡ judgedHeader self ⌝ }
-    {
-        let c = self.counts;
-        if 64 <= c.headers {
-            return Judged::Passed;
-        }
-        Judged::On(open(
-            Counts {
-                frequencies: c.frequencies,
-                bases: c.bases,
-                headers: c.headers + 1,
-                sets: c.sets,
-            },
-            b'H',
-        ))
-    }
-
-    fn set(self) -> Judged
-        ensures { λ r. ⌜ r ≡ judgedSet self ⌝ }
-    {
-        let c = self.counts;
-        if 16 <= c.sets {
-            return Judged::Passed;
-        }
-        Judged::On(open(
-            Counts {
-                frequencies: c.frequencies,
-                bases: c.bases,
-                headers: c.headers,
-                sets: c.sets + 1,
-            },
-            b'D',
-        ))
-    }
-
-    // Does a B or H own what follows?
-    fn holds_params(self) -> bool
-        ensures { λ r. ⌜ r ≡ holds self ⌝ }
-    {
-        if self.owner == b'B' {
-            return true;
-        }
-        self.owner == b'H'
-    }
-
-    fn param(self, level: u8, sized: bool) -> Judged
-        ensures { λ r. ⌜ r ≡ judgedParam self level sized ⌝ }
-    {
-        if 7 < level {
-            return Judged::Passed;
-        }
-        if self.holds_params() {
-            return self.inner(level, sized);
-        }
-        Judged::Lost
-    }
-
-    // A P under a B or H.
-    fn inner(self, level: u8, sized: bool) -> Judged
-        requires { ⌜ level ≤ 7 ⌝ }
-        ensures { λ r. ⌜ r ≡ judgedInner self level sized ⌝ }
-    {
-        if 64 <= self.params {
-            return Judged::Passed;
-        }
-        if self.levels < level {
-            return Judged::Lost;
-        }
-        if is_deep(level, sized) {
-            return Judged::Lost;
-        }
-        let counts = self.counts;
-        Judged::On(Kept {
-            counts,
-            owner: self.owner,
-            params: self.params + 1,
-            validations: self.validations,
-            entries: self.entries,
-            levels: level + 1,
-        })
-    }
-
-    fn validation(self) -> Judged
-        ensures { λ r. ⌜ r ≡ judgedValidation self ⌝ }
-    {
-        if self.owner != b'H' {
-            return Judged::Lost;
-        }
-        if 16 <= self.validations {
-            return Judged::Passed;
-        }
-        let counts = self.counts;
-        Judged::On(Kept {
-            counts,
-            owner: self.owner,
-            params: self.params,
-            validations: self.validations + 1,
-            entries: self.entries,
-            levels: self.levels,
-        })
-    }
-
-    fn entry(self) -> Judged
-        ensures { λ r. ⌜ r ≡ judgedEntry self ⌝ }
-    {
-        if self.owner != b'D' {
-            return Judged::Lost;
-        }
-        if 64 <= self.entries {
-            return Judged::Passed;
-        }
-        let counts = self.counts;
-        Judged::On(Kept {
-            counts,
-            owner: self.owner,
-            params: self.params,
-            validations: self.validations,
-            entries: self.entries + 1,
-            levels: self.levels,
-        })
-    }
-
-    fn judge(self, form: Form) -> Judged
-        ensures { λ r. ⌜ r ≡ judged self form ⌝ }
-    {
-        match form {
-            Form::Frequency => self.frequency(),
-            Form::Base => self.base(),
-            Form::Header => self.header(),
-            Form::Param { level, sized } => self.param(level, sized),
-            Form::Validation => self.validation(),
-            Form::Set => self.set(),
-            Form::Entry => self.entry(),
-            Form::Bad => Judged::Wrong,
-        }
-    }
-}
-
-// Has a P at level 1 or deeper a size path?
-fn is_deep(level: u8, sized: bool) -> bool
-    ensures { λ r. ⌜ r ≡ deepSize level sized ⌝ }
-{
-    if level < 1 {
-        return false;
-    }
-    sized
-}
-
-// The verdict on a frame text.
-pub fn check_frame_text(text: &[u8]) -> Verdict
-    ensures { λ r. ⌜ r ≡ verdict (now (text .entry)) ⌝ }
-{
-    if 60000 < text.len() {
-        return Verdict::Refused(Refusal::Limit(0));
+    if speed == 3 {
+        return 2;
     }
     let mut place = Place::start();
-    let mut kept = start();
     while place.at < text.len() {
         let line = place.step(text);
-        match kept.judge(read_form(text, line)) {
-            Judged::On(next) => {
-                kept = next;
-                place = line.next;
-            }
-            Judged::Passed => {
-                return Verdict::Refused(Refusal::Limit(place.line));
-            }
-            Judged::Lost => {
-                return Verdict::Refused(Refusal::Owner(place.line));
-            }
-            Judged::Wrong => {
-                return Verdict::Refused(Refusal::Form(place.line));
-            }
+        if is_keyed(text, line, b'F', 255, region) {
+            return line.value(text, 2, 255);
         }
+        place = line.next;
     }
-    Verdict::Accepted
+    0
+}
+
+// The first B with a key.
+pub fn find_base(text: &[u8], key: u64) -> Found
+    requires { ⌜ verdict (now text) ≡ Accepted ⌝ }
+    ensures { λ r. ⌜ FindsBase (now (text .entry)) key r ⌝ }
+{
+    let mut place = Place::start();
+    let mut params: usize = 0;
+    while place.at < text.len() {
+        let line = place.step(text);
+        let next = line.next;
+        if is_keyed(text, line, b'B', 255, key) {
+            return Found::At {
+                place: next,
+                params,
+            };
+        }
+        params = one_more(line.kind, b'P', params);
+        place = next;
+    }
+    Found::Nothing
+}
+
+// Does a line of this kind own what follows?
+fn is_owner(kind: u8) -> bool
+    ensures { λ r. ⌜ r ≡ ownerKind kind ⌝ }
+{
+    if kind == b'F' {
+        return true;
+    }
+    if kind == b'B' {
+        return true;
+    }
+    if kind == b'H' {
+        return true;
+    }
+    kind == b'D'
+}
+
+// The next line of this kind under the owner of what follows the place.
+fn next_under(text: &[u8], from: Place, kind: u8) -> Under
+    requires { ⌜ Readable rules (now text) from ⌝ }
+    ensures { λ r. ⌜ NextOf (now (text .entry)) from kind r ⌝ }
+{
+    let mut place = from;
+    while place.at < text.len() {
+        let line = place.step(text);
+        if line.kind == kind {
+            return Under::At(place);
+        }
+        if is_owner(line.kind) {
+            return Under::Nothing;
+        }
+        place = line.next;
+    }
+    Under::Nothing
+}
+
+// The numbers of a P line.
+struct Numbers {
+    level: u16,
+    order: u16,
+    bits: u16,
+}
+
+// Where the names and paths of a P line stand.
+struct Paths {
+    name: Part,
+    set: Part,
+    optional: Part,
+    size: Part,
+}
+
+fn read_numbers(text: &[u8], line: Line) -> Numbers
+    requires { ⌜ (Good (now text) line) × (line .kind ≡ 80) ⌝ }
+    ensures { λ r. ⌜ HasNumbers (cells (now (text .entry)) line) r ⌝ }
+{
+    Numbers {
+        level: line.value(text, 1, 7),
+        order: line.value(text, 2, 65535),
+        bits: line.value(text, 3, 255),
+    }
+}
+
+fn read_paths(text: &[u8], line: Line) -> Paths
+    requires { ⌜ (Good (now text) line) × (line .kind ≡ 80) ⌝ }
+    ensures { λ r. ⌜ HasPaths (now (text .entry)) (cells (now (text .entry)) line) r ⌝ }
+{
+    Paths {
+        name: line.part(text, 5),
+        set: line.optional_part(text, 6),
+        optional: line.optional_part(text, 7),
+        size: line.optional_part(text, 8),
+    }
+}
+
+// The type that field 4 names.
+fn read_kind(text: &[u8], line: Line) -> ParamType
+    requires { ⌜ (Good (now text) line) × (line .kind ≡ 80) ⌝ }
+    ensures { λ r. ⌜ typeOf (field 4 (cells (now (text .entry)) line)) ≡ Typed.Is r ⌝ }
+{
+    match frame_text::read_type(line.field(text, 4)) {
+        Typed::Is(kind) => kind,
+        Typed::Not => ParamType::Hex,
+    }
+}
+
+// What a P line says.
+fn read_field(text: &[u8], line: Line) -> Field
+    requires { ⌜ (Good (now text) line) × (line .kind ≡ 80) ⌝ }
+    ensures { λ r. ⌜ form (cells (now (text .entry)) line) ≡ some (param (meant (now (text .entry)) r)) ⌝ }
+{
+    let numbers = read_numbers(text, line);
+    let paths = read_paths(text, line);
+    let kind = read_kind(text, line);
+    let name = paths.name;
+    let set = paths.set;
+    let optional = paths.optional;
+    let size = paths.size;
+    Field {
+        level: numbers.level,
+        order: numbers.order,
+        bits: numbers.bits,
+        kind,
+        name,
+        set,
+        optional,
+        size,
+    }
+}
+
+// The next P line under the owner of what follows the place; n P lines come before it in the text.
+pub fn next_param(text: &[u8], place: Place, n: usize) -> NextParam
+    requires { ⌜ Readable rules (now text) place ⌝ }
+    ensures { λ r. ⌜ FindsParam (now (text .entry)) place n r ⌝ }
+{
+    let Under::At(at) = next_under(text, place, b'P') else {
+        return NextParam::Nothing;
+    };
+    let line = at.step(text);
+    let next = line.next;
+    NextParam::At {
+        field: read_field(text, line),
+        place: next,
+    }
+}
+
+// The next V line under the owner of what follows the place.
+pub fn next_validation(text: &[u8], place: Place) -> NextValidation
+    requires { ⌜ Readable rules (now text) place ⌝ }
+    ensures { λ r. ⌜ FindsValidation (now (text .entry)) place r ⌝ }
+{
+    let Under::At(at) = next_under(text, place, b'V') else {
+        return NextValidation::Nothing;
+    };
+    let line = at.step(text);
+    let next = line.next;
+    NextValidation::At {
+        path: line.part(text, 1),
+        value: line.value(text, 2, 65535),
+        place: next,
+    }
+}
+
+// The flags of an H line.
+fn read_flags(text: &[u8], line: Line) -> Flags
+    requires { ⌜ (Good (now text) line) × (line .kind ≡ 72) ⌝ }
+    ensures { λ r. ⌜ HasFlags (field 3 (cells (now (text .entry)) line)) r ⌝ }
+{
+    let s = line.field(text, 3);
+    Flags {
+        ack: s[0] == b'1',
+        routed: s[1] == b'1',
+        multicast: s[2] == b'1',
+        error: s[3] == b'1',
+    }
+}
+
+// Has an H line this base key?
+fn is_based(text: &[u8], line: Line, key: u64) -> bool
+    requires { ⌜ (Good (now text) line) × (line .kind ≡ 72) ⌝ }
+    ensures { λ r. ⌜ r ≡ isKey key (given value (field 2 (cells (now (text .entry)) line))) ⌝ }
+{
+    match line.optional(text, 2, 255) {
+        Optional::Given(n) => n as u64 == key,
+        Optional::Missing => false,
+        Optional::Wrong => false,
+    }
+}
+
+// Is there a V line under the owner of what follows the place?
+fn has_validation(text: &[u8], place: Place) -> bool
+    requires { ⌜ Readable rules (now text) place ⌝ }
+    ensures { λ r. ⌜ r ≡ some? (validations (below (from (now (text .entry)) place))) ⌝ }
+{
+    match next_validation(text, place) {
+        NextValidation::At {
+            path: _,
+            value: _,
+            place: _,
+        } => true,
+        NextValidation::Nothing => false,
+    }
+}
+
+// Is the line an H with this base key and a V under it?
+fn is_candidate(text: &[u8], line: Line, key: u64) -> bool
+    requires { ⌜ Good (now text) line ⌝ }
+    ensures { λ r. ⌜ r ≡ candidate key (cells (now (text .entry)) line) (from (now (text .entry)) (line .next)) ⌝ }
+{
+    if line.kind != b'H' {
+        return false;
+    }
+    let next = line.next;
+    is_based(text, line, key) && has_validation(text, next)
+}
+
+// What a candidate's H line says, after h H and n P lines.
+fn read_candidate(text: &[u8], line: Line, h: usize, n: usize) -> Candidate
+    requires { ⌜ (Good (now text) line) × (line .kind ≡ 72) ⌝ }
+    ensures { λ r. ⌜ IsRead (now (text .entry)) line h n r ⌝ }
+{
+    let next = line.next;
+    let flags = read_flags(text, line);
+    Candidate {
+        number: h,
+        key: line.value(text, 1, 255),
+        flags,
+        name: line.part(text, 4),
+        place: next,
+        params: n,
+    }
+}
+
+// The first candidate from the place on, after h H and n P lines.
+pub fn next_candidate(text: &[u8], start: Place, key: u64, h: usize, n: usize) -> NextCandidate
+    requires { ⌜ Counted (now text) start h n ⌝ }
+    ensures { λ r. ⌜ FindsCandidate (now (text .entry)) start key h n r ⌝ }
+{
+    let mut place = start;
+    let mut number = h;
+    let mut params = n;
+    while place.at < text.len() {
+        let line = place.step(text);
+        let next = line.next;
+        if is_candidate(text, line, key) {
+            return NextCandidate::At(read_candidate(text, line, number, params));
+        }
+        number = one_more(line.kind, b'H', number);
+        params = one_more(line.kind, b'P', params);
+        place = next;
+    }
+    NextCandidate::Nothing
+}
+
+// Is the line a D of this name?
+fn is_named(text: &[u8], line: Line, name: &[u8]) -> bool
+    requires { ⌜ Good (now text) line ⌝ }
+    ensures { λ r. ⌜ r ≡ named (now (name .entry)) (cells (now (text .entry)) line) ⌝ }
+{
+    if line.kind != b'D' {
+        return false;
+    }
+    text::is_same(line.field(text, 1), name)
+}
+
+// The place after the first D of a name.
+pub fn find_set(text: &[u8], name: &[u8]) -> Under
+    requires { ⌜ verdict (now text) ≡ Accepted ⌝ }
+    ensures { λ r. ⌜ FindsSet (now (text .entry)) (now (name .entry)) r ⌝ }
+{
+    let mut place = Place::start();
+    while place.at < text.len() {
+        let line = place.step(text);
+        let next = line.next;
+        if is_named(text, line, name) {
+            return Under::At(next);
+        }
+        place = next;
+    }
+    Under::Nothing
+}
+
+// The number, from 1, of the first E with a key under the D that owns what follows the place; 0 where there is none.
+pub fn find_entry(text: &[u8], start: Place, key: u64) -> usize
+    requires { ⌜ Readable rules (now text) start ⌝ }
+    ensures { λ r. ⌜ r ≡ firstEntry key 0 (entries (below (from (now (text .entry)) start))) ⌝ }
+{
+    let mut place = start;
+    let mut n: usize = 0;
+    loop {
+        let Under::At(at) = next_under(text, place, b'E') else {
+            return 0;
+        };
+        let line = at.step(text);
+        if line.value(text, 1, 65535) as u64 == key {
+            return n + 1;
+        }
+        n += 1;
+        place = line.next;
+    }
 }

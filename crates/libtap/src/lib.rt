@@ -1,13 +1,13 @@
 // The tap's calls as a static library, for C and Rust to link.
-use command_class::check_command_text;
-use frame_definition::check_frame_text;
+use command_text::check_command_text;
+use frame_text::check_frame_text;
 use pti::parse_payload;
 use pti::payload::Frames;
 use text::Verdict;
 ghost use mathlib.Core.Path.{_≡_};
 ghost use Rattle.libtap.specs.Answers.{told, Told, judged};
-ghost use Rattle.frame_definition.specs.Rules.{verdict as frameVerdict};
-ghost use Rattle.command_class.specs.Rules.{verdict as commandVerdict};
+ghost use Rattle.frame_text.specs.Rules.{verdict as frameVerdict};
+ghost use Rattle.command_text.specs.Rules.{verdict as commandVerdict};
 
 // An answer as C has it: `refusal` is 0 and `value` the number that the call answers, or `refusal` is document 01's number and `value`
 // what it carries.

@@ -4,8 +4,8 @@ use crate::answer::put;
 use crate::answer::put_refusal;
 use crate::request::Bytes;
 use crate::request::read_bytes;
-use command_class::check_command_text;
-use frame_definition::check_frame_text;
+use command_text::check_command_text;
+use frame_text::check_frame_text;
 use text::Verdict;
 ghost use Rattle.replay.specs.Answer.{Room, Answers};
 

@@ -1,25 +1,25 @@
 -- `command_class::read_variant` meets its contract, by the laws of the crate. Assumes nothing.
 use borrow.Author.Needs.{needs}
-use Rattle.command_class.proofs.Laws.{read-laws}
-use Rattle.text.proofs.Tests.{has-field}
+use Rattle.command_class.proofs.Rows.{row-laws}
 use Rattle.command_class.proofs.read_variant.Statement.{statement}
 use Rattle.command_class.proofs.read_variant.Tie as tie
 
-returns : tie.Need-returns
-returns c = search (needs, read-laws, has-field)
+value-requires : tie.Need-value-requires
+value-requires c κs = search (needs, row-laws)
 
-is-variant-requires : tie.Need-is-variant-requires
-is-variant-requires c κs = search (needs, read-laws, has-field)
+value-requires-2 : tie.Need-value-requires-2
+value-requires-2 c κs = search (needs, row-laws)
 
 optional-value-requires : tie.Need-optional-value-requires
-optional-value-requires c κs = search (needs, read-laws, has-field)
+optional-value-requires c κs = search (needs, row-laws)
 
-returns-2 : tie.Need-returns-2
-returns-2 c = search (needs, read-laws, has-field)
+value-requires-3 : tie.Need-value-requires-3
+value-requires-3 c κs = search (needs, row-laws)
 
-returns-3 : tie.Need-returns-3
-returns-3 c = search (needs, read-laws, has-field)
+returns : tie.Need-returns
+returns c = search (needs, row-laws)
 
 pub read-variant-spec : {M : Type 1} → statement M
 read-variant-spec =
-    tie.close (tie.spec returns is-variant-requires optional-value-requires returns-2 returns-3)
+    tie.close
+    (tie.spec value-requires value-requires-2 optional-value-requires value-requires-3 returns)

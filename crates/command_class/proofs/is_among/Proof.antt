@@ -1,0 +1,17 @@
+-- `command_class::is_among` meets its contract, by the laws of the crate. Assumes nothing.
+use borrow.Author.Needs.{needs}
+use Rattle.command_class.proofs.Finding.{among-laws}
+use Rattle.command_class.proofs.is_among.Statement.{statement}
+use Rattle.command_class.proofs.is_among.Tie as tie
+
+returns : tie.Need-returns
+returns c = search (needs, among-laws)
+
+returns-2 : tie.Need-returns-2
+returns-2 c = search (needs, among-laws)
+
+returns-3 : tie.Need-returns-3
+returns-3 c = search (needs, among-laws)
+
+pub is-among-spec : {M : Type 1} → statement M
+is-among-spec = tie.close (tie.spec returns returns-2 returns-3)

@@ -1,0 +1,17 @@
+-- `command_class::read_bit_field` meets its contract, by the laws of the crate. Assumes nothing.
+use borrow.Author.Needs.{needs}
+use Rattle.command_class.proofs.Rows.{row-laws}
+use Rattle.command_class.proofs.read_bit_field.Statement.{statement}
+use Rattle.command_class.proofs.read_bit_field.Tie as tie
+
+value-requires : tie.Need-value-requires
+value-requires c κs = search (needs, row-laws)
+
+optional-value-requires : tie.Need-optional-value-requires
+optional-value-requires c κs = search (needs, row-laws)
+
+returns : tie.Need-returns
+returns c = search (needs, row-laws)
+
+pub read-bit-field-spec : {M : Type 1} → statement M
+read-bit-field-spec = tie.close (tie.spec value-requires optional-value-requires returns)

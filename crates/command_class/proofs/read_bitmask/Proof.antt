@@ -1,0 +1,14 @@
+-- `command_class::read_bitmask` meets its contract, by the laws of the crate. Assumes nothing.
+use borrow.Author.Needs.{needs}
+use Rattle.command_class.proofs.Rows.{row-laws}
+use Rattle.command_class.proofs.read_bitmask.Statement.{statement}
+use Rattle.command_class.proofs.read_bitmask.Tie as tie
+
+or-missing-requires : tie.Need-or-missing-requires
+or-missing-requires c κs = search (needs, row-laws)
+
+returns : tie.Need-returns
+returns c = search (needs, row-laws)
+
+pub read-bitmask-spec : {M : Type 1} → statement M
+read-bitmask-spec = tie.close (tie.spec or-missing-requires returns)

@@ -1,0 +1,166 @@
+-- Laws of the command text: how a line is read. Assumes nothing.
+use mathlib.Core.Path.{_≡_, refl, sym, ap, _∙_}
+use mathlib.Core.Bool.{Bool, true, false, _&&_}
+use mathlib.Core.List.{List}
+use mathlib.Core.Option.{Option, some}
+use Prim.Native.Nat.{ℕ}
+use native.Mathlib.Omega.{arith}
+use lib.Dec.{eqb}
+use lib.ListN.{length}
+use borrow.Author.Tests.{ne-eqb}
+use Rattle.text.specs.Text.{field, upTo, optionalUpTo, optionalValue, name}
+use Rattle.text.specs.Text as text
+use Rattle.text.specs.Place.{kindOf, cells}
+use Rattle.text.specs.declared.Line.{Line}
+use Rattle.text.proofs.Laws.{cells-length}
+use Rattle.text.proofs.Tests.{and-left, and-right, count-of, value-of, optional-value-of}
+use Rattle.command_text.specs.Form.{Record, group, variant, bitField, fieldEnum, either, typeOf, known, paramWords, paramCondition, paramFields, groupFields, groupForm, variantFields, variantForm, arrayForm, namedForm, bitsFields, bitsForm, bitmaskForm, groupOf, sizeOf, bitsOf, ofType, said, paramSaid, form}
+use Rattle.command_text.specs.Machine.{tagged, shape, judgedParam, judgedGroup, judgedItem, judged}
+use Rattle.command_text.specs.declared.ParamType.{ParamType}
+use Rattle.command_text.specs.declared.Typed.{Typed}
+use Rattle.command_text.specs.declared.Typed.the-variants.{Is, Not}
+use Rattle.command_text.specs.declared.Form.{Form}
+use Rattle.command_text.specs.declared.Form.the-variants.{Param, Group, Item, Bad}
+use Rattle.command_text.specs.declared.Kept.{Kept}
+use Rattle.command_text.specs.declared.Judged.{Judged}
+
+-- ---- the names of types
+module _ (r a : Typed) (says : r ≡ a) where
+  pub either-is : (b : Typed) (type : ParamType) → r ≡ Is type → Is type ≡ either a b
+  either-is b type e = rw (← says, e)
+
+  pub either-not : (b x : Typed) → r ≡ Not → x ≡ b → x ≡ either a b
+  either-not b x e h = rw (← says, e) h
+
+  pub known-is : (type : ParamType) → r ≡ Is type → true ≡ known a
+  known-is type e = rw (← says, e)
+
+  pub known-not : r ≡ Not → false ≡ known a
+  known-not e = rw (← says, e)
+
+pub of-type : (s f : List ℕ) (r : Bool) → s ≡ f → r ≡ known (typeOf s) → r ≡ known (typeOf f)
+of-type s f r part e = rw part at e
+
+pub ruleset type-laws = (either-is, either-not, known-is, known-not)
+
+-- ---- a line of n fields that has a form, or not
+module _ (t : List ℕ) (l : Line) (n : ℕ) (fields : Bool) (x : Option Record) where
+  pub count-bad : (l .fields ≡ n → ⊥) → Bad ≡ shape (said (eqb (length (cells t l)) n && fields) x)
+  count-bad h = rw (cells-length t (l .marks) (l .fields) 0, ne-eqb (l .fields) n h)
+
+  module _ (b : Bool) (good : b ≡ fields) (h : l .fields ≡ n) where
+    decides : (eqb (length (cells t l)) n && fields) ≡ b
+    decides = ap (λ (y : Bool). y && fields) (count-of t l n h) ∙ sym good
+
+    pub fields-bad : b ≡ false → Bad ≡ shape (said (eqb (length (cells t l)) n && fields) x)
+    fields-bad e = ap (λ (y : Bool). shape (said y x)) (sym (decides ∙ e))
+
+    fields-good : b ≡ true → (f : Form) → f ≡ shape x → f ≡ shape (said (eqb (length (cells t l)) n && fields) x)
+    fields-good e f h = h ∙ ap (λ (y : Bool). shape (said y x)) (sym (decides ∙ e))
+
+-- what a line of a form says of its shift, its level and its type
+module _ (fs : List (List ℕ)) where
+  pub group-shift : groupFields fs ≡ true → upTo 255 (field 4 fs) ≡ true
+  group-shift e = and-right (upTo 255 (field 3 fs)) _ (and-right (upTo 255 (field 2 fs)) _ (and-right (name (field 1 fs)) _ e))
+
+  pub variant-shift : variantFields fs ≡ true → optionalUpTo 255 (field 3 fs) ≡ true
+  variant-shift e = and-left (optionalUpTo 255 (field 3 fs)) (upTo 1 (field 4 fs)) (and-right (upTo 255 (field 2 fs)) _ (and-right (upTo 255 (field 1 fs)) _ e))
+
+  pub bits-shift : bitsFields fs ≡ true → optionalUpTo 255 (field 2 fs) ≡ true
+  bits-shift e = and-left (optionalUpTo 255 (field 2 fs)) (name (field 3 fs)) (and-right (upTo 255 (field 1 fs)) _ e)
+
+  pub param-level : paramFields fs ≡ true → upTo 1 (field 1 fs) ≡ true
+  param-level e = and-left (upTo 1 (field 1 fs)) (known (typeOf (field 2 fs)) && name (field 3 fs)) (and-left (paramWords fs) (paramCondition fs) e)
+
+  pub param-type : paramFields fs ≡ true → known (typeOf (field 2 fs)) ≡ true
+  param-type e = and-left (known (typeOf (field 2 fs))) (name (field 3 fs)) (and-right (upTo 1 (field 1 fs)) _ (and-left (paramWords fs) (paramCondition fs) e))
+
+module _ (t : List ℕ) (l : Line) (b : Bool) (v : ℕ) where
+  pub group-is : b ≡ groupFields (cells t l) → l .fields ≡ 5 → b ≡ true → v ≡ text.value 255 (field 4 (cells t l))
+      → Group v ≡ shape (said (groupForm (cells t l)) (some (group (groupOf (cells t l)))))
+  group-is good h e at-v =
+      let u : upTo 255 (field 4 (cells t l)) ≡ true = group-shift (cells t l) (sym good ∙ e) in
+      fields-good t l 5 (groupFields (cells t l)) (some (group (groupOf (cells t l)))) b good h e (Group v) (ap Group (at-v ∙ value-of 255 (field 4 (cells t l)) u))
+
+  pub variant-is : b ≡ variantFields (cells t l) → l .fields ≡ 5 → b ≡ true → v ≡ optionalValue 255 (field 3 (cells t l))
+      → Item v ≡ shape (said (variantForm (cells t l)) (some (variant (sizeOf (cells t l)))))
+  variant-is good h e at-v =
+      let u : optionalUpTo 255 (field 3 (cells t l)) ≡ true = variant-shift (cells t l) (sym good ∙ e) in
+      fields-good t l 5 (variantFields (cells t l)) (some (variant (sizeOf (cells t l)))) b good h e (Item v) (ap Item (at-v ∙ optional-value-of 255 (field 3 (cells t l)) u))
+
+  pub bits-is : b ≡ bitsFields (cells t l) → l .fields ≡ 4 → b ≡ true → v ≡ optionalValue 255 (field 2 (cells t l))
+      → Item v ≡ shape (said (bitsForm (cells t l)) (some (bitField (bitsOf (cells t l)))))
+  bits-is good h e at-v =
+      let u : optionalUpTo 255 (field 2 (cells t l)) ≡ true = bits-shift (cells t l) (sym good ∙ e) in
+      fields-good t l 4 (bitsFields (cells t l)) (some (bitField (bitsOf (cells t l)))) b good h e (Item v) (ap Item (at-v ∙ optional-value-of 255 (field 2 (cells t l)) u))
+
+  pub param-is : b ≡ paramFields (cells t l) → l .fields ≡ 6 → b ≡ true → v ≡ text.value 1 (field 1 (cells t l)) → Param v ≡ shape (paramSaid (cells t l))
+  param-is good h e at-v =
+      let u : upTo 1 (field 1 (cells t l)) ≡ true = param-level (cells t l) (sym good ∙ e) in
+      let k : known (typeOf (field 2 (cells t l))) ≡ true = param-type (cells t l) (sym good ∙ e) in
+      fields-good t l 6 (paramFields (cells t l)) (ofType (cells t l) (typeOf (field 2 (cells t l)))) b good h e (Param v)
+      (ap Param (at-v ∙ value-of 1 (field 1 (cells t l)) u) ∙ go (typeOf (field 2 (cells t l))) k)
+    where
+      go : (y : Typed) → known y ≡ true → Param (text.worth 0 (field 1 (cells t l))) ≡ shape (ofType (cells t l) y)
+      go (Is type) q = refl
+      go Not q = absurd (let z : _≡_ {A = ℕ} 0 1 = cc in omega arith)
+
+pub ruleset read-laws = (count-bad, fields-bad, group-is, variant-is, bits-is, param-is)
+
+-- ---- by the kind
+module _ (fs : List (List ℕ)) (k : ℕ) (kind : k ≡ kindOf fs) where
+  item-shape : (b : Bool) (r : Form) (x : Record) → Item 0 ≡ shape (some x) → r ≡ tagged b (Item 0) → r ≡ shape (said b (some x))
+  item-shape true r x z e = e ∙ z
+  item-shape false r x z e = e
+
+  enum-shape : (b : Bool) → shape (said b (some (bitField (bitsOf fs)))) ≡ shape (said b (some (fieldEnum (bitsOf fs))))
+  enum-shape true = refl
+  enum-shape false = refl
+
+  module _ (r : Form) where
+    pub kind-param : k ≡ 81 → r ≡ shape (paramSaid fs) → r ≡ shape (form fs)
+    kind-param q h = rw (← kind, q) h
+
+    pub kind-group : k ≡ 71 → r ≡ shape (said (groupForm fs) (some (group (groupOf fs)))) → r ≡ shape (form fs)
+    kind-group q h = rw (← kind, q) h
+
+    pub kind-variant : k ≡ 82 → r ≡ shape (said (variantForm fs) (some (variant (sizeOf fs)))) → r ≡ shape (form fs)
+    kind-variant q h = rw (← kind, q) h
+
+    pub kind-bit-field : k ≡ 83 → r ≡ shape (said (bitsForm fs) (some (bitField (bitsOf fs)))) → r ≡ shape (form fs)
+    kind-bit-field q h = rw (← kind, q) h
+
+    pub kind-field-enum : k ≡ 85 → r ≡ shape (said (bitsForm fs) (some (bitField (bitsOf fs)))) → r ≡ shape (form fs)
+    kind-field-enum q h = rw (← kind, q) (h ∙ enum-shape (bitsForm fs))
+
+    module _ (b : Bool) (item : r ≡ tagged b (Item 0)) where
+      pub kind-array : k ≡ 65 → b ≡ arrayForm fs → r ≡ shape (form fs)
+      kind-array q e = rw (← kind, q, ← e) (item-shape b r _ refl item)
+
+      pub kind-bit-flag : k ≡ 84 → b ≡ namedForm fs → r ≡ shape (form fs)
+      kind-bit-flag q e = rw (← kind, q, ← e) (item-shape b r _ refl item)
+
+      pub kind-const : k ≡ 75 → b ≡ namedForm fs → r ≡ shape (form fs)
+      kind-const q e = rw (← kind, q, ← e) (item-shape b r _ refl item)
+
+      pub kind-bitmask : k ≡ 77 → b ≡ bitmaskForm fs → r ≡ shape (form fs)
+      kind-bitmask q e = rw (← kind, q, ← e) (item-shape b r _ refl item)
+
+  pub kind-none : (k ≡ 81 → ⊥) → (k ≡ 71 → ⊥) → (k ≡ 82 → ⊥) → (k ≡ 65 → ⊥) → (k ≡ 84 → ⊥) → (k ≡ 83 → ⊥) → (k ≡ 85 → ⊥) → (k ≡ 75 → ⊥) → (k ≡ 77 → ⊥) → Bad ≡ shape (form fs)
+  kind-none q g r a t s u c m =
+      rw (← kind, ne-eqb _ _ q, ne-eqb _ _ g, ne-eqb _ _ r, ne-eqb _ _ a, ne-eqb _ _ t, ne-eqb _ _ s, ne-eqb _ _ u, ne-eqb _ _ c, ne-eqb _ _ m)
+
+pub ruleset kind-laws = (kind-param, kind-group, kind-variant, kind-bit-field, kind-field-enum, kind-array, kind-bit-flag, kind-const, kind-bitmask, kind-none)
+
+-- ---- the judgement, by the form
+module _ (k : Kept) (f : Form) (r : Judged) (n : ℕ) where
+  pub judge-param : f ≡ Param n → r ≡ judgedParam k n → r ≡ judged k f
+  judge-param e h = rw e h
+
+  pub judge-group : f ≡ Group n → r ≡ judgedGroup k n → r ≡ judged k f
+  judge-group e h = rw e h
+
+  pub judge-item : f ≡ Item n → r ≡ judgedItem k n → r ≡ judged k f
+  judge-item e h = rw e h
+
+pub ruleset judge-laws = (judge-param, judge-group, judge-item)

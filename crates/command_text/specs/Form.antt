@@ -1,0 +1,195 @@
+-- Document 01, "Definition text", command text: the nine forms, and the record that a line of each says.
+use Prim.Native.Nat.{ℕ}
+use mathlib.Core.Bool.{Bool, true, false, cond, _&&_}
+use mathlib.Core.List.{List, [], _∷_}
+use mathlib.Core.Option.{Option, none, some}
+use lib.Dec.{eqb}
+use lib.ListN.{length}
+use Rattle.text.specs.Text.{field, same, worth, upTo, missing, optionalUpTo, name}
+use Rattle.text.specs.Place.{kindOf}
+use Rattle.command_text.specs.declared.ParamType.{ParamType}
+use Rattle.command_text.specs.declared.ParamType.the-variants.{Byte, StructByte, Const, Marker, Word, Bit24, Dword, Array, Variant, Bitmask, MultiArray}
+use Rattle.command_text.specs.declared.Typed.{Typed}
+use Rattle.command_text.specs.declared.Typed.the-variants.{Is, Not}
+
+-- what a Q line says
+pub record Param : Type 0 where
+  pub level : ℕ
+  pub type : ParamType
+  pub name : List ℕ
+  pub offset : Option ℕ
+  pub mask : Option ℕ
+
+-- what a G line says
+pub record Group : Type 0 where
+  pub name : List ℕ
+  pub offset : ℕ
+  pub mask : ℕ
+  pub shift : ℕ
+
+-- what an R line says
+pub record Size : Type 0 where
+  pub offset : ℕ
+  pub mask : ℕ
+  pub shift : ℕ
+  pub ascii : Bool
+
+-- what an S or U line says
+pub record Bits : Type 0 where
+  pub mask : ℕ
+  pub shift : ℕ
+  pub name : List ℕ
+
+-- what a line says: Q, G, R, A, T, S, U, K, M
+pub data Record : Type 0 where
+  param : Param → Record
+  group : Group → Record
+  variant : Size → Record
+  array : ℕ → Bool → Record
+  bitFlag : ℕ → List ℕ → Record
+  bitField : Bits → Record
+  fieldEnum : Bits → Record
+  const : ℕ → List ℕ → Record
+  bitmask : Option ℕ → Record
+
+-- the number that a field says
+abbrev pub value : List ℕ → ℕ
+value l = worth 0 l
+
+-- the number that a field says that may be missing
+abbrev pub given : List ℕ → Option ℕ
+given l = cond (missing l) none (some (value l))
+
+-- "A missing shift is 0"
+abbrev pub shiftOf : List ℕ → ℕ
+shiftOf l = cond (missing l) 0 (value l)
+
+-- "ascii 0/1"
+abbrev pub asciiOf : List ℕ → Bool
+asciiOf l = eqb (value l) 1
+
+-- "Types, here and below, are spelled as the source's XML names": those of one byte, BYTE, STRUCT_BYTE, CONST, MARKER
+abbrev pub byteType : List ℕ → Typed
+byteType l =
+    cond (same l (0x42 ∷ 0x59 ∷ 0x54 ∷ 0x45 ∷ [])) (Is Byte)
+    (cond (same l (0x53 ∷ 0x54 ∷ 0x52 ∷ 0x55 ∷ 0x43 ∷ 0x54 ∷ 0x5f ∷ 0x42 ∷ 0x59 ∷ 0x54 ∷ 0x45 ∷ [])) (Is StructByte)
+    (cond (same l (0x43 ∷ 0x4f ∷ 0x4e ∷ 0x53 ∷ 0x54 ∷ [])) (Is Const)
+    (cond (same l (0x4d ∷ 0x41 ∷ 0x52 ∷ 0x4b ∷ 0x45 ∷ 0x52 ∷ [])) (Is Marker) Not)))
+
+-- those of two to four bytes: WORD, BIT_24, DWORD
+abbrev pub wordType : List ℕ → Typed
+wordType l =
+    cond (same l (0x57 ∷ 0x4f ∷ 0x52 ∷ 0x44 ∷ [])) (Is Word)
+    (cond (same l (0x42 ∷ 0x49 ∷ 0x54 ∷ 0x5f ∷ 0x32 ∷ 0x34 ∷ [])) (Is Bit24)
+    (cond (same l (0x44 ∷ 0x57 ∷ 0x4f ∷ 0x52 ∷ 0x44 ∷ [])) (Is Dword) Not))
+
+-- the others: ARRAY, VARIANT, BITMASK, MULTI_ARRAY
+abbrev pub openType : List ℕ → Typed
+openType l =
+    cond (same l (0x41 ∷ 0x52 ∷ 0x52 ∷ 0x41 ∷ 0x59 ∷ [])) (Is Array)
+    (cond (same l (0x56 ∷ 0x41 ∷ 0x52 ∷ 0x49 ∷ 0x41 ∷ 0x4e ∷ 0x54 ∷ [])) (Is Variant)
+    (cond (same l (0x42 ∷ 0x49 ∷ 0x54 ∷ 0x4d ∷ 0x41 ∷ 0x53 ∷ 0x4b ∷ [])) (Is Bitmask)
+    (cond (same l (0x4d ∷ 0x55 ∷ 0x4c ∷ 0x54 ∷ 0x49 ∷ 0x5f ∷ 0x41 ∷ 0x52 ∷ 0x52 ∷ 0x41 ∷ 0x59 ∷ [])) (Is MultiArray) Not)))
+
+-- the first that is one
+abbrev pub either : Typed → Typed → Typed
+either (Is type) other = Is type
+either Not other = other
+
+abbrev pub typeOf : List ℕ → Typed
+typeOf l = either (byteType l) (either (wordType l) (openType l))
+
+abbrev pub known : Typed → Bool
+known (Is type) = true
+known Not = false
+
+-- ---- the forms, by their fields: field 0 is the kind; "These are 0 to 255"
+
+abbrev pub paramWords : List (List ℕ) → Bool
+paramWords fs = upTo 1 (field 1 fs) && (known (typeOf (field 2 fs)) && name (field 3 fs))
+
+abbrev pub paramCondition : List (List ℕ) → Bool
+paramCondition fs = optionalUpTo 255 (field 4 fs) && optionalUpTo 255 (field 5 fs)
+
+-- "Q, level 0 or 1, type, name, optional offset ?, optional mask ?"
+abbrev pub paramFields : List (List ℕ) → Bool
+paramFields fs = paramWords fs && paramCondition fs
+
+abbrev pub paramForm : List (List ℕ) → Bool
+paramForm fs = eqb (length fs) 6 && paramFields fs
+
+-- "G, name, offset, mask, shift"
+abbrev pub groupFields : List (List ℕ) → Bool
+groupFields fs = name (field 1 fs) && (upTo 255 (field 2 fs) && (upTo 255 (field 3 fs) && upTo 255 (field 4 fs)))
+
+abbrev pub groupForm : List (List ℕ) → Bool
+groupForm fs = eqb (length fs) 5 && groupFields fs
+
+-- "R, offset, mask, shift ?, ascii 0/1"
+abbrev pub variantFields : List (List ℕ) → Bool
+variantFields fs = upTo 255 (field 1 fs) && (upTo 255 (field 2 fs) && (optionalUpTo 255 (field 3 fs) && upTo 1 (field 4 fs)))
+
+abbrev pub variantForm : List (List ℕ) → Bool
+variantForm fs = eqb (length fs) 5 && variantFields fs
+
+-- "A, length, ascii"
+abbrev pub arrayForm : List (List ℕ) → Bool
+arrayForm fs = eqb (length fs) 3 && (upTo 255 (field 1 fs) && upTo 1 (field 2 fs))
+
+-- "T, mask, name (bit flag)"; "K, value, name (const)"
+abbrev pub namedForm : List (List ℕ) → Bool
+namedForm fs = eqb (length fs) 3 && (upTo 255 (field 1 fs) && name (field 2 fs))
+
+-- "S, mask, shift ?, name (bit field); U, the same (field enum)"
+abbrev pub bitsFields : List (List ℕ) → Bool
+bitsFields fs = upTo 255 (field 1 fs) && (optionalUpTo 255 (field 2 fs) && name (field 3 fs))
+
+abbrev pub bitsForm : List (List ℕ) → Bool
+bitsForm fs = eqb (length fs) 4 && bitsFields fs
+
+-- "M, length ? (bitmask)"
+abbrev pub bitmaskForm : List (List ℕ) → Bool
+bitmaskForm fs = eqb (length fs) 2 && optionalUpTo 255 (field 1 fs)
+
+-- ---- what they say
+abbrev pub paramOf : List (List ℕ) → ParamType → Param
+paramOf fs type = record {
+  level = value (field 1 fs);
+  type = type;
+  name = field 3 fs;
+  offset = given (field 4 fs);
+  mask = given (field 5 fs);
+}
+
+abbrev pub groupOf : List (List ℕ) → Group
+groupOf fs = record { name = field 1 fs; offset = value (field 2 fs); mask = value (field 3 fs); shift = value (field 4 fs) }
+
+abbrev pub sizeOf : List (List ℕ) → Size
+sizeOf fs = record { offset = value (field 1 fs); mask = value (field 2 fs); shift = shiftOf (field 3 fs); ascii = asciiOf (field 4 fs) }
+
+abbrev pub bitsOf : List (List ℕ) → Bits
+bitsOf fs = record { mask = value (field 1 fs); shift = shiftOf (field 2 fs); name = field 3 fs }
+
+abbrev pub ofType : List (List ℕ) → Typed → Option Record
+ofType fs (Is type) = some (param (paramOf fs type))
+ofType fs Not = none
+
+-- the record r, if the line has its form
+abbrev pub said : Bool → Option Record → Option Record
+said b r = cond b r none
+
+abbrev pub paramSaid : List (List ℕ) → Option Record
+paramSaid fs = said (paramForm fs) (ofType fs (typeOf (field 2 fs)))
+
+-- the record that the fields of a line say, if the line is one of the forms
+abbrev pub form : List (List ℕ) → Option Record
+form fs =
+    cond (eqb (kindOf fs) 0x51) (paramSaid fs)
+    (cond (eqb (kindOf fs) 0x47) (said (groupForm fs) (some (group (groupOf fs))))
+    (cond (eqb (kindOf fs) 0x52) (said (variantForm fs) (some (variant (sizeOf fs))))
+    (cond (eqb (kindOf fs) 0x41) (said (arrayForm fs) (some (array (value (field 1 fs)) (asciiOf (field 2 fs)))))
+    (cond (eqb (kindOf fs) 0x54) (said (namedForm fs) (some (bitFlag (value (field 1 fs)) (field 2 fs))))
+    (cond (eqb (kindOf fs) 0x53) (said (bitsForm fs) (some (bitField (bitsOf fs))))
+    (cond (eqb (kindOf fs) 0x55) (said (bitsForm fs) (some (fieldEnum (bitsOf fs))))
+    (cond (eqb (kindOf fs) 0x4b) (said (namedForm fs) (some (const (value (field 1 fs)) (field 2 fs))))
+    (cond (eqb (kindOf fs) 0x4d) (said (bitmaskForm fs) (some (bitmask (given (field 1 fs))))) none))))))))

@@ -1,0 +1,98 @@
+-- Document 01, "Definition text" and "Refusal numbers": limits and owners of the command text.
+-- `before` are the records of the lines before, the latest first.
+use Prim.Native.Nat.{ℕ, suc}
+use mathlib.Core.Bool.{Bool, true, false, cond, not, _&&_, _||_}
+use mathlib.Core.List.{List, [], _∷_}
+use lib.Dec.{leb, ltb, eqb}
+use Rattle.text.specs.Judge.{Rules}
+use Rattle.text.specs.Judge as text
+use Rattle.text.specs.declared.Verdict.{Verdict}
+use Rattle.command_text.specs.Form.{Record, param, group, variant, array, bitFlag, bitField, fieldEnum, const, bitmask, form}
+
+-- a Q or G line begins what stands under it
+abbrev pub begins : Record → Bool
+begins (param q) = true
+begins (group g) = true
+begins (variant s) = false
+begins (array length ascii) = false
+begins (bitFlag mask name) = false
+begins (bitField b) = false
+begins (fieldEnum b) = false
+begins (const value name) = false
+begins (bitmask length) = false
+
+-- how many Q and G lines there are
+abbrev pub count : List Record → ℕ
+count [] = 0
+count (r ∷ rs) = cond (begins r) (suc (count rs)) (count rs)
+
+-- how many lines stand under the last Q or G
+abbrev pub items : List Record → ℕ
+items [] = 0
+items (r ∷ rs) = cond (begins r) 0 (suc (items rs))
+
+-- "under a Q, before the next Q or G": is the last Q or G a Q
+abbrev pub owned : List Record → Bool
+owned [] = false
+owned (param q ∷ rs) = true
+owned (group g ∷ rs) = false
+owned (variant s ∷ rs) = owned rs
+owned (array length ascii ∷ rs) = owned rs
+owned (bitFlag mask name ∷ rs) = owned rs
+owned (bitField b ∷ rs) = owned rs
+owned (fieldEnum b ∷ rs) = owned rs
+owned (const value name ∷ rs) = owned rs
+owned (bitmask length ∷ rs) = owned rs
+
+-- "later level 1 Qs are its members, until a level 0 Q or a G": is there a G that a level 1 Q would be a member of
+abbrev pub grouped : List Record → Bool
+grouped [] = false
+grouped (param q ∷ rs) = cond (eqb (q .level) 1) (grouped rs) false
+grouped (group g ∷ rs) = true
+grouped (variant s ∷ rs) = grouped rs
+grouped (array length ascii ∷ rs) = grouped rs
+grouped (bitFlag mask name ∷ rs) = grouped rs
+grouped (bitField b ∷ rs) = grouped rs
+grouped (fieldEnum b ∷ rs) = grouped rs
+grouped (const value name ∷ rs) = grouped rs
+grouped (bitmask length ∷ rs) = grouped rs
+
+-- the shift that a record says, or 0
+abbrev pub shift : Record → ℕ
+shift (param q) = 0
+shift (group g) = g .shift
+shift (variant s) = s .shift
+shift (array length ascii) = 0
+shift (bitFlag mask name) = 0
+shift (bitField b) = b .shift
+shift (fieldEnum b) = b .shift
+shift (const value name) = 0
+shift (bitmask length) = 0
+
+-- is a record a level 1 Q
+abbrev pub member : Record → Bool
+member (param q) = eqb (q .level) 1
+member (group g) = false
+member (variant s) = false
+member (array length ascii) = false
+member (bitFlag mask name) = false
+member (bitField b) = false
+member (fieldEnum b) = false
+member (const value name) = false
+member (bitmask length) = false
+
+-- "256 Q and G together, 32 lines under a Q": is one passed by this record. An item line without owner is under nothing
+abbrev pub over : List Record → Record → Bool
+over before r = cond (begins r) (leb 256 (count before)) (owned before && leb 32 (items before))
+
+-- "level 1 Q or an item line with no owner or parent; .. shift over 7"
+abbrev pub lost : List Record → Record → Bool
+lost before r = cond (begins r) (member r && not (grouped before)) (not (owned before)) || ltb 7 (shift r)
+
+-- the rules of the command text
+abbrev pub rules : Rules Record
+rules = record { form = form; over = over; lost = lost }
+
+-- the verdict on a command text
+abbrev pub verdict : List ℕ → Verdict
+verdict t = text.verdict rules t
