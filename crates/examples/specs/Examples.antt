@@ -1,9 +1,19 @@
 -- Document 01, "Examples": the starred ones, proved together under one claim, over the definitions that the contracts cite.
 use mathlib.Core.Path.{_≡_, refl}
+use mathlib.Core.Bool.{Bool, true, false, cond}
 use mathlib.Core.List.{[], _∷_}
+use Prim.Native.Nat.{ℕ}
+use lib.Dec.{leb, eqb}
 use Rattle.records.specs.Records.{bodies, bodiesFrom}
 use Rattle.radio.specs.Speed.{rateOf}
 use Rattle.radio.specs.Beam.{beamsOf}
+use Rattle.bits.specs.Bits.{bitsAt}
+use Rattle.crc.specs.Poly.{plus}
+use Rattle.crc.specs.Crc.{checksum, dividend, crc, right}
+use Rattle.refusal.specs.declared.Refusal.the-variants.{NoCandidate}
+use Rattle.header.specs.declared.Decoded.the-variants.{Header, Refused}
+use Rattle.header.specs.Decode.{decoded, toldOf, tableAfter}
+use Rattle.header.specs.Examples.{text, table, a5c3, a5c3-rows, a53c}
 
 pub record Starred : Type 0 where
   -- "5B 02 00 5D: no body. The same with 00 after it: one empty body."
@@ -14,7 +24,47 @@ pub record Starred : Type 0 where
   pub no-rate : rateOf 2 14 ≡ 0
   -- "Beams at rate 0: 55 01 02 AA 55 01 02 is 2."
   pub two-beams : beamsOf 0 (0x55 ∷ 0x01 ∷ 0x02 ∷ 0xAA ∷ 0x55 ∷ 0x01 ∷ 0x02 ∷ []) ≡ 2
+  -- "Speed 0: 01 02 03 FF is right; 00 FF is right. Speed 2: 1D 0F 00 is right; 1D 0F never."
+  pub sum-right : right (0x01 ∷ 0x02 ∷ 0x03 ∷ 0xFF ∷ []) 0 ≡ true
+  pub short-right : right (0x00 ∷ 0xFF ∷ []) 0 ≡ true
+  pub crc-right : right (0x1D ∷ 0x0F ∷ 0x00 ∷ []) 2 ≡ true
+  pub never-right : (speed : ℕ) → right (0x1D ∷ 0x0F ∷ []) speed ≡ false
+  -- "B 0 with HEX fields Home (8) and Props (8; inner Type 4, Flags 4), H on 0 with V Props.Type 3; speed 0, no F. A5 C3: four rows, Type 3 at bit 12,
+  -- Flags 12 at bit 8, payload offset 2, checksum not right. A5 3C: refusal 7."
+  pub header : decoded text (0xA5 ∷ 0xC3 ∷ []) 0 0 30
+      ≡ Header (record { number = 0; key = 0; flags = record { ack = false; routed = false; multicast = false; error = false }; payload = 2; right = false; rows = 4 })
+  pub header-rows : tableAfter table (toldOf text (0xA5 ∷ 0xC3 ∷ []) 0 0 30) (decoded text (0xA5 ∷ 0xC3 ∷ []) 0 0 30)
+      ≡ 0 ∷ 0 ∷ 0 ∷ 8 ∷ 1 ∷ 0xA5 ∷ 0
+      ∷ 1 ∷ 0 ∷ 8 ∷ 8 ∷ 1 ∷ 0xC3 ∷ 0
+      ∷ 2 ∷ 2 ∷ 12 ∷ 4 ∷ 1 ∷ 3 ∷ 0
+      ∷ 3 ∷ 2 ∷ 8 ∷ 4 ∷ 1 ∷ 12 ∷ 0
+      ∷ 9 ∷ 9 ∷ []
+  pub no-header : decoded text (0xA5 ∷ 0x3C ∷ []) 0 0 30 ≡ Refused NoCandidate
+
+-- as a checksum 0F is wrong, and as a CRC 1D 0F has no body
+neither : (b : Bool) → cond b (eqb (checksum (0x1D ∷ [])) 0x0F) false ≡ false
+unfolding plus
+neither true = refl
+neither false = refl
+
+never : (speed : ℕ) → right (0x1D ∷ 0x0F ∷ []) speed ≡ false
+unfolding right
+never speed = neither (leb speed 1)
 
 pub starred : Starred
-unfolding bodiesFrom rateOf beamsOf
-starred = record { no-body = refl; empty-body = refl; long-range = refl; no-rate = refl; two-beams = refl }
+unfolding bodiesFrom rateOf beamsOf bitsAt plus dividend crc right
+starred =
+    record {
+      no-body = refl;
+      empty-body = refl;
+      long-range = refl;
+      no-rate = refl;
+      two-beams = refl;
+      sum-right = refl;
+      short-right = refl;
+      crc-right = refl;
+      never-right = never;
+      header = a5c3;
+      header-rows = a5c3-rows;
+      no-header = a53c;
+    }

@@ -1,6 +1,9 @@
 // Document 01, "Examples": the starred ones are proved (specs/Examples.antt); all of them are run here, and what is written is held to the
 // file `stdout`.
+use crc::check_crc;
 use frame::Parsed;
+use header::Decoded;
+use header::decode_header;
 use pti::beam_count;
 use pti::count_records;
 use pti::parse_record;
@@ -38,6 +41,29 @@ fn print_mpdu(name: &[u8], body: &[u8]) {
     }
 }
 
+fn print_right(name: &[u8], mpdu: &[u8], speed: u64) {
+    print(name, check_crc(mpdu, speed) as u64);
+}
+
+// The header of an MPDU, by document 01's text: what it answers, and the rows of Type and Flags.
+fn print_header(name: &[u8], mpdu: &[u8]) {
+    let mut rows = [0; 28];
+    let text =
+        b"B\t0\nP\t0\t0\t8\tHEX\tHome\t-\t-\t-\nP\t0\t1\t8\tHEX\tProps\t-\t-\t-\nP\t1\t0\t4\tHEX\tType\t-\t-\t-\nP\t1\t1\t4\tHEX\tFlags\t-\t-\t-\nH\t0\t0\t0000\tx\nV\tProps.Type\t3\n";
+    match decode_header(text, mpdu, 0, 0, &mut rows) {
+        Decoded::Header(answer) => {
+            print(name, answer.rows as u64);
+            print(b"  payload offset:", answer.payload);
+            print(b"  checksum right:", answer.right as u64);
+            print(b"  Type at bit:", rows[16]);
+            print(b"  Type:", rows[19]);
+            print(b"  Flags at bit:", rows[23]);
+            print(b"  Flags:", rows[26]);
+        }
+        Decoded::Refused(refusal) => print_refusal(name, refusal),
+    }
+}
+
 // A body with eight middle bytes, the last of which is l.
 fn body_of(l: u8) -> [u8; 26] {
     let mut body = [0; 26];
@@ -62,6 +88,12 @@ fn main() {
         b"beams at rate 0 in 55 01 02 AA 55 01 02:",
         beam_count(0, b"\x55\x01\x02\xAA\x55\x01\x02") as u64,
     );
+    print_right(b"01 02 03 FF right at speed 0:", b"\x01\x02\x03\xFF", 0);
+    print_right(b"00 FF right at speed 0:", b"\x00\xFF", 0);
+    print_right(b"1D 0F 00 right at speed 2:", b"\x1D\x0F\x00", 2);
+    print_right(b"1D 0F right at speed 2:", b"\x1D\x0F", 2);
+    print_header(b"rows of A5 C3:", b"\xA5\xC3");
+    print_header(b"rows of A5 3C:", b"\xA5\x3C");
     print_mpdu(b"mpdu for m = 8, l = 0:", &body_of(0));
     print_mpdu(b"mpdu for m = 8, l = 8:", &body_of(8));
     print_mpdu(b"mpdu for m = 8, l = 9:", &body_of(9));

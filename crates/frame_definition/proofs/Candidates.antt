@@ -3,34 +3,37 @@ use mathlib.Core.Path.{_≡_, refl, sym, ap, _∙_}
 use mathlib.Core.Bool.{Bool, true, false, cond, _&&_, _||_}
 use mathlib.Core.List.{List, [], _∷_}
 use mathlib.Core.Option.{Option, none, some}
-use Prim.Native.Nat.{ℕ, suc, _-_, _≤_, _<_}
+use Prim.Native.Nat.{ℕ, suc, _+_, _-_, _≤_, _<_}
 use native.Mathlib.Omega.{arith}
 use native.Mathlib.Numerals.{add-one}
 use lib.Dec.{eqb, leb}
 use lib.ListN.{length, getD}
+use mir.Syntax.{w64}
+use mir.Val.{Fits}
 use borrow.Author.Tests.{eqb-true, eq-eqb, ne-eqb}
 use Rattle.text.specs.Text.{field, within, upTo, value, worth, missing, name, optionalUpTo, optional}
 use Rattle.text.specs.Text as text
-use Rattle.text.specs.Place.{kindOf, cells, Steps, Has}
+use Rattle.text.specs.Place.{kindOf, cells, Steps, Passes, Has}
+use Rattle.text.specs.Listing.{listed, starts, Stands}
+use Rattle.text.specs.declared.Under.{Under}
+use Rattle.text.specs.declared.Under.the-variants as stand
 use Rattle.text.specs.Records.{Readable}
 use Rattle.text.specs.declared.Place.{Place}
 use Rattle.text.specs.declared.Line.{Line}
 use Rattle.text.specs.declared.Part.{Part}
-use Rattle.text.specs.declared.Number.the-variants.{Is, Over, Not}
+use Rattle.text.specs.declared.Number.the-variants.{Is, Over as TooHigh, Not}
 use Rattle.text.specs.declared.Optional.{Optional}
 use Rattle.text.specs.declared.Optional.the-variants.{Given, Missing, Wrong}
 use Rattle.text.proofs.Tests.{and-left, and-right, value-of}
 use Rattle.text.proofs.Reading.{rest-end}
 use Rattle.frame_text.specs.Form.{Record, frequency, base, header, param, validation, set, entry, given, flags, headerForm, headerOf, form}
-use Rattle.frame_text.specs.Rules.{rules}
+use Rattle.frame_text.specs.Rules.{owns, rules}
 use Rattle.frame_definition.specs.Definition.{Frame, below, params, validations, frames, isKey, some?, candidates}
-use Rattle.frame_definition.specs.Find.{from, Good, oneMore, FindsValidation, IsValidation, candidate, HasFlags, IsRead, Counted, frameOf, FindsCandidate}
-use Rattle.frame_definition.specs.declared.NextValidation.{NextValidation}
-use Rattle.frame_definition.specs.declared.NextValidation.the-variants as nextValidation
+use Rattle.frame_definition.specs.Find.{from, Good, oneMore, ofKind, NextOf, candidate, HasFlags, IsRead, Counted, frameOf, FindsCandidate}
 use Rattle.frame_definition.specs.declared.Candidate.{Candidate}
 use Rattle.frame_definition.specs.declared.NextCandidate.the-variants as nextCandidate
 use Rattle.frame_definition.proofs.Views.{View}
-use Rattle.frame_definition.proofs.Finding.{Lined, lined, good-line, said-good, counted, more-bound}
+use Rattle.frame_definition.proofs.Finding.{Lined, lined, good-line, Over, over-line, kind-at, over-less, said-good, counted, more-bound, stands, validations-of}
 
 -- ---- an H line
 module _ (t : List ℕ) (l : Line) (good : Good t l) (is : l .kind ≡ 72) where
@@ -66,19 +69,19 @@ module _ (t : List ℕ) (l : Line) (good : Good t l) (is : l .kind ≡ 72) where
 
 -- ---- a base key that may be missing
 module _ (l : List ℕ) (key : ℕ) where
-  based-given : (m d u : Bool) (n : ℕ) → cond m Missing (text.given (cond d (cond u (Is (worth 0 l)) Over) Not)) ≡ Given n → eqb n key ≡ isKey key (cond m none (some (worth 0 l)))
+  based-given : (m d u : Bool) (n : ℕ) → cond m Missing (text.given (cond d (cond u (Is (worth 0 l)) TooHigh) Not)) ≡ Given n → eqb n key ≡ isKey key (cond m none (some (worth 0 l)))
   based-given true d u n e = absurd (let z : _≡_ {A = ℕ} 0 1 = cc in omega arith)
   based-given false true true n e = let z : worth 0 l ≡ n = cc in rw z
   based-given false true false n e = absurd (let z : _≡_ {A = ℕ} 0 1 = cc in omega arith)
   based-given false false u n e = absurd (let z : _≡_ {A = ℕ} 0 1 = cc in omega arith)
 
-  based-missing : (m d u : Bool) → cond m Missing (text.given (cond d (cond u (Is (worth 0 l)) Over) Not)) ≡ Missing → false ≡ isKey key (cond m none (some (worth 0 l)))
+  based-missing : (m d u : Bool) → cond m Missing (text.given (cond d (cond u (Is (worth 0 l)) TooHigh) Not)) ≡ Missing → false ≡ isKey key (cond m none (some (worth 0 l)))
   based-missing true d u e = refl
   based-missing false true true e = absurd (let z : _≡_ {A = ℕ} 0 1 = cc in omega arith)
   based-missing false true false e = absurd (let z : _≡_ {A = ℕ} 0 1 = cc in omega arith)
   based-missing false false u e = absurd (let z : _≡_ {A = ℕ} 0 1 = cc in omega arith)
 
-  based-wrong : (m d u : Bool) → cond m Missing (text.given (cond d (cond u (Is (worth 0 l)) Over) Not)) ≡ Wrong → (m || (d && u)) ≡ true → ⊥
+  based-wrong : (m d u : Bool) → cond m Missing (text.given (cond d (cond u (Is (worth 0 l)) TooHigh) Not)) ≡ Wrong → (m || (d && u)) ≡ true → ⊥
   based-wrong true d u e h = let z : _≡_ {A = ℕ} 0 1 = cc in omega arith
   based-wrong false true true e h = let z : _≡_ {A = ℕ} 0 1 = cc in omega arith
   based-wrong false true false e h = let z : _≡_ {A = ℕ} 0 1 = cc in omega arith
@@ -100,20 +103,30 @@ module _ (t : List ℕ) (l : Line) (key : ℕ) (r : Optional) (good : Good t l) 
 pub ruleset header-laws = (header-has, flags-inside, flags-are, base-given, base-missing, base-wrong)
 
 -- ---- a V under an H
-module _ (t : List ℕ) (p : Place) (r : NextValidation) (finds : FindsValidation t p r) where
-  pub some-validation : (path : Part) (v : ℕ) (q : Place) → r ≡ nextValidation.At path v q → true ≡ some? (validations (below (from t p)))
-  some-validation path v q e = let h : IsValidation t p q path v = rw e at finds in rw (h .first)
+first-validation : (rs : List Record) → starts owns (ofKind 86) rs ≡ true → some? (validations (below rs)) ≡ true
+first-validation [] e = absurd (let z : _≡_ {A = ℕ} 0 1 = cc in omega arith)
+first-validation (frequency code key ∷ rs) e = absurd (let z : _≡_ {A = ℕ} 0 1 = cc in omega arith)
+first-validation (base key ∷ rs) e = absurd (let z : _≡_ {A = ℕ} 0 1 = cc in omega arith)
+first-validation (header h ∷ rs) e = absurd (let z : _≡_ {A = ℕ} 0 1 = cc in omega arith)
+first-validation (param p ∷ rs) e = absurd (let z : _≡_ {A = ℕ} 0 1 = cc in omega arith)
+first-validation (validation path v ∷ rs) e = refl
+first-validation (set name ∷ rs) e = absurd (let z : _≡_ {A = ℕ} 0 1 = cc in omega arith)
+first-validation (entry key text ∷ rs) e = absurd (let z : _≡_ {A = ℕ} 0 1 = cc in omega arith)
 
-  pub no-validation : r ≡ nextValidation.Nothing → false ≡ some? (validations (below (from t p)))
-  no-validation e = let h : validations (below (from t p)) ≡ [] = rw e at finds in rw h
+module _ (t : List ℕ) (p : Place) (r : Under) (finds : NextOf t p 86 r) where
+  pub some-validation : (q : Place) → r ≡ stand.At q → true ≡ some? (validations (below (from t p)))
+  some-validation q e =
+      let s : Stands owns (ofKind 86) rules from t p q = stands t p q r 86 finds e in
+      let same : validations (below (from t p)) ≡ validations (below (from t q)) = validations-of (from t p) ∙ ap validations (s .alike) ∙ sym (validations-of (from t q)) in
+      rw same (sym (first-validation (from t q) (s .there)))
+
+  pub no-validation : r ≡ stand.Nothing → false ≡ some? (validations (below (from t p)))
+  no-validation e = let h : listed owns (ofKind 86) (from t p) ≡ [] = rw e at finds in let none : validations (below (from t p)) ≡ [] = validations-of (from t p) ∙ ap validations h in rw none
 
 pub ruleset some-laws = (some-validation, no-validation)
 
 -- ---- a candidate
 module _ (t : List ℕ) (l : Line) (key : ℕ) (good : Good t l) where
-  pub candidate-other : (rs : List Record) → (l .kind ≡ 72 → ⊥) → false ≡ candidate key (cells t l) rs
-  candidate-other rs h = rw (← good .kind-is, ne-eqb (l .kind) 72 h)
-
   pub candidate-rest : (rs : List Record) (y : Bool) → l .kind ≡ 72 → y ≡ (isKey key (given (worth 0) (field 2 (cells t l))) && some? (validations (below rs))) → y ≡ candidate key (cells t l) rs
   candidate-rest rs y h e = rw (← good .kind-is, eq-eqb (l .kind) 72 h) e
 
@@ -123,7 +136,7 @@ module _ (t : List ℕ) (l : Line) (key : ℕ) (good : Good t l) where
   pub candidate-kind : (b : Bool) (rs : List Record) → b ≡ candidate key (cells t l) rs → b ≡ true → l .kind ≡ 72
   candidate-kind b rs e q = good .kind-is ∙ eqb-true _ _ (and-left (eqb (kindOf (cells t l)) 72) _ (sym e ∙ q))
 
-pub ruleset candidate-laws = (candidate-other, candidate-rest, candidate-next)
+pub ruleset candidate-laws = (candidate-rest, candidate-next)
 
 -- one line more
 candidates-step : (fs : List (List ℕ)) (x : Record) (rs : List Record) (key h n : ℕ) → View fs x → candidate key fs rs ≡ false
@@ -153,6 +166,31 @@ look-start t p key h n c = record { counts = c; after = omega arith; so = refl }
 pub look-end : (t : List ℕ) (p₀ : Place) (key h₀ n₀ : ℕ) (p : Place) (h n : ℕ) → Looking t p₀ key h₀ n₀ p h n → length t ≤ p .at → FindsCandidate t p₀ key h₀ n₀ nextCandidate.Nothing
 look-end t p₀ key h₀ n₀ p h n k e = let q : from t p ≡ [] = rest-end rules t p e in k .so ∙ rw q
 
+pub look-few : (t : List ℕ) (p₀ : Place) (key h₀ n₀ : ℕ) (p : Place) (h n : ℕ) → Looking t p₀ key h₀ n₀ p h n → p .at < length t → n < 65536
+look-few t p₀ key h₀ n₀ p h n k inside = omega (arith, k .counts .params-few, k .counts .short)
+
+pub look-fits : (t : List ℕ) (p₀ : Place) (key h₀ n₀ : ℕ) (p : Place) (h n : ℕ) → Looking t p₀ key h₀ n₀ p h n → p .at < length t → Fits w64 (h + 1)
+look-fits t p₀ key h₀ n₀ p h n k inside = omega (arith, k .counts .headers-few, k .counts .short)
+
+pub look-over : (t : List ℕ) (p₀ : Place) (key h₀ n₀ : ℕ) (p : Place) (h n m : ℕ) (q : Place) → Looking t p₀ key h₀ n₀ p h n → p .at < length t → (getD t (p .at) 0 ≡ 72 → ⊥)
+    → m ≡ oneMore (getD t (p .at) 0) 80 n → Passes t p q → Looking t p₀ key h₀ n₀ q h m
+look-over t p₀ key h₀ n₀ p h n m q k inside other is-m pass =
+    let o : Over t p q = over-line t p q (k .counts .readable) inside pass in
+    let not-h : eqb (kindOf (o .fields)) 72 ≡ false = ne-eqb (kindOf (o .fields)) 72 (λ z. other (o .byte ∙ z)) in
+    let none : candidate key (o .fields) (from t q) ≡ false = rw not-h refl in
+    let same-h : oneMore (kindOf (o .fields)) 72 h ≡ h = rw not-h refl in
+    let c : m ≡ oneMore (kindOf (o .fields)) 80 n = is-m ∙ ap (λ (x : ℕ). oneMore x 80 n) (o .byte) in
+    record {
+      counts = record {
+        readable = o .next;
+        short = k .counts .short;
+        headers-few = omega (arith, k .counts .headers-few, pass .on);
+        params-few = rw is-m (more-bound (getD t (p .at) 0) 80 n (p .at) (q .at) (k .counts .params-few) (pass .on));
+      };
+      after = omega (arith, k .after, pass .on);
+      so = k .so ∙ ap (λ (rs : List Record). candidates key (frames h n rs)) (o .rest-is) ∙ (rw (same-h, ← c) at (candidates-step (o .fields) (o .said) (from t q) key h n (o .view) none));
+    }
+
 module _ (t : List ℕ) (p₀ : Place) (key h₀ n₀ : ℕ) (p : Place) (h n : ℕ) (l : Line) (k : Looking t p₀ key h₀ n₀ p h n) (inside : p .at < length t) (step : Steps t p l) where
   abbrev line-here : Lined t p l
   line-here = lined t p l (k .counts .readable) inside step
@@ -160,34 +198,27 @@ module _ (t : List ℕ) (p₀ : Place) (key h₀ n₀ : ℕ) (p : Place) (h n : 
   pub look-good : Good t l
   look-good = good-line t p l (k .counts .readable) inside step
 
-  pub look-few : h < 65536
-  look-few = omega (arith, k .counts .headers-few, k .counts .short)
-
-  pub look-few-params : n < 65536
-  look-few-params = omega (arith, k .counts .params-few, k .counts .short)
+  pub look-kind : getD t (p .at) 0 ≡ 72 → l .kind ≡ 72
+  look-kind byte = kind-at t p l (k .counts .readable) inside step ∙ byte
 
   pub look-less : length t - l .next .at < length t - p .at
   look-less = omega (arith, step .on)
 
-  module _ (b : Bool) (is : b ≡ candidate key (cells t l) (from t (l .next))) where
-    pub look-next : (h′ n′ : ℕ) → b ≡ false → h′ ≡ oneMore (l .kind) 72 h → n′ ≡ oneMore (l .kind) 80 n → Looking t p₀ key h₀ n₀ (l .next) h′ n′
-    look-next h′ n′ e eh en =
-        let fh : h′ ≡ oneMore (kindOf (cells t l)) 72 h = eh ∙ ap (λ (x : ℕ). oneMore x 72 h) (step .kind-is) in
-        let fn : n′ ≡ oneMore (kindOf (cells t l)) 80 n = en ∙ ap (λ (x : ℕ). oneMore x 80 n) (step .kind-is) in
+  module _ (b : Bool) (byte : getD t (p .at) 0 ≡ 72) (is : b ≡ candidate key (cells t l) (from t (l .next))) where
+    pub look-next : b ≡ false → Looking t p₀ key h₀ n₀ (l .next) (h + 1) n
+    look-next e =
+        let kind-is : kindOf (cells t l) ≡ 72 = sym (step .kind-is) ∙ look-kind byte in
         record {
           counts = record {
             readable = line-here .next;
             short = k .counts .short;
-            headers-few = rw eh (more-bound (l .kind) 72 h (p .at) (l .next .at) (k .counts .headers-few) (step .on));
-            params-few = rw en (more-bound (l .kind) 80 n (p .at) (l .next .at) (k .counts .params-few) (step .on));
+            headers-few = omega (arith, k .counts .headers-few, step .on);
+            params-few = omega (arith, k .counts .params-few, step .on);
           };
           after = omega (arith, k .after, step .on);
           so = k .so ∙ ap (λ (rs : List Record). candidates key (frames h n rs)) (line-here .rest-is)
-              ∙ candidates-step (cells t l) (line-here .said) (from t (l .next)) key h n (line-here .view) (sym is ∙ e) ∙ rw (fh, fn);
+              ∙ (rw kind-is at (candidates-step (cells t l) (line-here .said) (from t (l .next)) key h n (line-here .view) (sym is ∙ e)));
         }
-
-    pub look-kind : b ≡ true → l .kind ≡ 72
-    look-kind e = candidate-kind t l key look-good b (from t (l .next)) is e
 
     pub look-hit : (c : Candidate) → b ≡ true → IsRead t l h n c → FindsCandidate t p₀ key h₀ n₀ (nextCandidate.At c)
     look-hit c e r = record {
@@ -202,7 +233,7 @@ module _ (t : List ℕ) (p₀ : Place) (key h₀ n₀ : ℕ) (p : Place) (h n : 
     }
       where
         kind-is : l .kind ≡ 72
-        kind-is = look-kind e
+        kind-is = look-kind byte
 
         is-header : line-here .said ≡ header (headerOf (cells t l))
         is-header = let z : some (line-here .said) ≡ some (header (headerOf (cells t l))) = sym (line-here .form-is) ∙ h-said t l look-good kind-is .1 in cc
@@ -223,4 +254,4 @@ module _ (t : List ℕ) (p₀ : Place) (key h₀ n₀ : ℕ) (p : Place) (h n : 
         same-frame =
             rw (r .number-is, r .params-is, r .place-is, r .key-is, header-key t l look-good kind-is, r .flags-are .ack, r .flags-are .routed, r .flags-are .multicast, r .flags-are .error, r .name-is .says, base-is)
 
-pub ruleset look-laws = (look-start, look-end, look-good, look-few, look-few-params, look-less, look-next, look-kind, look-hit)
+pub ruleset look-laws = (look-start, look-end, look-few, look-fits, look-over, over-less, look-good, look-kind, look-less, look-next, look-hit)

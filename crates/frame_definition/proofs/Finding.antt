@@ -7,10 +7,10 @@ use Prim.Native.Nat.{ℕ, suc, _+_, _-_, _≤_, _<_}
 use native.Mathlib.Omega.{arith}
 use native.Mathlib.Numerals.{add-one}
 use lib.Dec.{eqb, leb, ltb}
-use lib.ListN.{length}
+use lib.ListN.{length, getD}
 use borrow.Author.Tests.{eqb-true, eq-eqb, ne-eqb, le-leb, leb-true, ltb-false}
-use Rattle.text.specs.Text.{field, decimal, upTo, value, worth, missing, name, plain, path, optionalName, optionalPath}
-use Rattle.text.specs.Place.{kindOf, cells, In, Steps, Has, partOf, IsPart, IsOptionalPart}
+use Rattle.text.specs.Text.{split, field, decimal, upTo, value, worth, missing, name, plain, path, optionalName, optionalPath}
+use Rattle.text.specs.Place.{kindOf, cells, In, Steps, Passes, Has, partOf, IsPart, IsOptionalPart}
 use Rattle.text.specs.Records.{Readable}
 use Rattle.text.specs.declared.Place.{Place}
 use Rattle.text.specs.declared.Line.{Line}
@@ -19,12 +19,13 @@ use Rattle.text.specs.declared.Verdict.the-variants.{Accepted}
 use Rattle.text.proofs.Laws.{cells-length}
 use Rattle.text.proofs.Tests.{and-left, and-right, value-of}
 use Rattle.text.proofs.Reading.{Said, said-step, readable-start, rest-end, accepted-short}
+use Rattle.text.proofs.Passing.{kind-byte, Passed, passed, passing}
 use Rattle.frame_text.specs.Form.{Param, Record, frequency, base, header, param, validation, set, entry, names, given, known, typeOf, paramNumbers, paramWords, paramPaths, paramForm, paramOf, validationForm, said, form}
 use Rattle.frame_text.specs.Rules.{letter, count, owns, under, holdsParams, over, rules, verdict}
 use Rattle.frame_definition.specs.Definition.{Numbered, Validation, below, params, validations, frequencies, bases, definition, keyFor, baseKey, firstBase}
 use Rattle.frame_definition.specs.Find.{from, fits, Good, keyed, oneMore, FindsBase, ofKind, ownerKind, NextOf, HasNumbers, HasPaths, heard, meant, FindsParam, FindsValidation}
 use Rattle.text.specs.Listing.{listed, Stands}
-use Rattle.text.proofs.Listing.{Step-on, Seeking, seek-start, seek-end, seek-hit, seek-stop, seek-next}
+use Rattle.text.proofs.Listing.{Seeking, seek-start, seek-end}
 use Rattle.text.proofs.Listing as listing
 use Rattle.text.specs.declared.Under.{Under}
 use Rattle.text.specs.declared.Under.the-variants as stand
@@ -81,6 +82,40 @@ good-line t p l readable inside step =
     let h : Said rules t p l = said-step rules brief t p l readable inside step in
     record { marked = step .marked; kind-is = step .kind-is; allowed = rw (h .form-is) (fits-within (h .before) (h .said) (h .within)); next = h .next }
 
+-- ---- a line that is passed over: what is known of it is its kind, the first byte
+pub record Over (t : List ℕ) (p q : Place) : Type 0 where
+  pub fields : List (List ℕ)
+  pub said : Record
+  pub view : View fields said
+  pub byte : getD t (p .at) 0 ≡ kindOf fields
+  pub rest-is : from t p ≡ said ∷ from t q
+  pub next : Readable rules t q
+
+some-letter : (r : Record) → letter r ≡ 0 → ⊥
+some-letter (frequency code key) e = omega arith
+some-letter (base key) e = omega arith
+some-letter (header h) e = omega arith
+some-letter (param p) e = omega arith
+some-letter (validation path v) e = omega arith
+some-letter (set name) e = omega arith
+some-letter (entry key text) e = omega arith
+
+pub over-line : (t : List ℕ) (p q : Place) → Readable rules t p → p .at < length t → Passes t p q → Over t p q
+over-line t p q readable inside pass =
+    let h : Passed rules t p q = passed rules t p q readable inside pass in
+    let v : View (split 9 (h .line)) (h .said) = view (split 9 (h .line)) (h .said) (h .form-is) in
+    let k : (getD (h .line) 0 0 ≡ letter (h .said)) × (0 < length (h .line)) = kind-byte (h .line) (letter (h .said)) (v .kind) (some-letter (h .said)) in
+    record { fields = split 9 (h .line); said = h .said; view = v; byte = h .first (k .1) ∙ k .0 ∙ sym (v .kind); rest-is = h .rest-is; next = h .next }
+
+-- the first byte of a line is its kind
+pub kind-at : (t : List ℕ) (p : Place) (l : Line) → Readable rules t p → p .at < length t → Steps t p l → l .kind ≡ getD t (p .at) 0
+kind-at t p l readable inside step =
+    let w : (q : Place) × Passes t p q = passing rules t p readable inside in
+    let o : Over t p (w .0) = over-line t p (w .0) readable inside (w .1) in
+    let h : Lined t p l = lined t p l readable inside step in
+    let e : h .said ≡ o .said = let z : h .said ∷ from t (l .next) ≡ o .said ∷ from t (w .0) = sym (h .rest-is) ∙ o .rest-is in cc in
+    step .kind-is ∙ h .view .kind ∙ ap letter e ∙ sym (o .view .kind) ∙ sym (o .byte)
+
 -- what a good line says
 pub record Shown (t : List ℕ) (l : Line) : Type 0 where
   pub said : Record
@@ -109,14 +144,17 @@ keyed-kind kind limit key fs e = eqb-true (kindOf fs) kind (and-left (eqb (kindO
 keyed-key : (kind limit key : ℕ) (fs : List (List ℕ)) → keyed kind limit key fs ≡ true → value limit (field 1 fs) ≡ key
 keyed-key kind limit key fs e = eqb-true (value limit (field 1 fs)) key (and-right (eqb (kindOf fs) kind) (eqb (value limit (field 1 fs)) key) e)
 
-module _ (t : List ℕ) (l : Line) (kind limit key : ℕ) (good : Good t l) where
-  pub keyed-other : (l .kind ≡ kind → ⊥) → false ≡ keyed kind limit key (cells t l)
-  keyed-other h = rw (← good .kind-is, ne-eqb (l .kind) kind h)
+pub keyed-same : (t : List ℕ) (l : Line) (v key : ℕ) → v ≡ value 255 (field 1 (cells t l)) → eqb v key ≡ eqb (value 255 (field 1 (cells t l))) key
+keyed-same t l v key e = rw e
 
-  pub keyed-same : (v : ℕ) → l .kind ≡ kind → v ≡ value limit (field 1 (cells t l)) → eqb v key ≡ keyed kind limit key (cells t l)
-  keyed-same v h e = rw (← good .kind-is, eq-eqb (l .kind) kind h, e)
+pub ruleset keyed-laws = (good-has, keyed-same)
 
-pub ruleset keyed-laws = (good-has, keyed-other, keyed-same)
+-- a line whose kind is known
+keyed-is : (fs : List (List ℕ)) (kind limit key : ℕ) → kindOf fs ≡ kind → keyed kind limit key fs ≡ eqb (value limit (field 1 fs)) key
+keyed-is fs kind limit key e = rw (eq-eqb (kindOf fs) kind e)
+
+keyed-not : (fs : List (List ℕ)) (kind limit key : ℕ) → (kindOf fs ≡ kind → ⊥) → keyed kind limit key fs ≡ false
+keyed-not fs kind limit key h = rw (ne-eqb (kindOf fs) kind h)
 
 -- ---- one line more, of what is looked for
 module _ (fs : List (List ℕ)) (rs : List Record) where
@@ -166,6 +204,16 @@ by-region t region speed h = rw (ne-eqb speed 3 h)
 pub key-end : (t : List ℕ) (region speed : ℕ) (p : Place) → Keying t region p → (speed ≡ 3 → ⊥) → length t ≤ p .at → 0 ≡ baseKey region speed (definition t)
 key-end t region speed p k h e = let q : from t p ≡ [] = rest-end rules t p e in rw (by-region t region speed h, ← k .so, q)
 
+pub key-over : (t : List ℕ) (region : ℕ) (p q : Place) → Keying t region p → p .at < length t → (getD t (p .at) 0 ≡ 70 → ⊥) → Passes t p q → Keying t region q
+key-over t region p q k inside other pass =
+    let o : Over t p q = over-line t p q (k .readable) inside pass in
+    let e : keyed 70 255 region (o .fields) ≡ false = keyed-not (o .fields) 70 255 region (λ z. other (o .byte ∙ z)) in
+    let step : keyFor region (frequencies (o .said ∷ from t q)) ≡ keyFor region (frequencies (from t q)) = rw e at (frequencies-step (o .fields) (from t q) (o .said) (o .view) region) in
+    record { readable = o .next; so = sym step ∙ ap (λ (rs : List Record). keyFor region (frequencies rs)) (sym (o .rest-is)) ∙ k .so }
+
+pub over-less : (t : List ℕ) (p q : Place) → p .at < length t → Passes t p q → length t - q .at < length t - p .at
+over-less t p q inside pass = omega (arith, pass .on)
+
 module _ (t : List ℕ) (region : ℕ) (p : Place) (l : Line) (k : Keying t region p) (inside : p .at < length t) (step : Steps t p l) where
   abbrev found : Lined t p l
   found = lined t p l (k .readable) inside step
@@ -176,9 +224,14 @@ module _ (t : List ℕ) (region : ℕ) (p : Place) (l : Line) (k : Keying t regi
   pub key-less : length t - l .next .at < length t - p .at
   key-less = omega (arith, step .on)
 
-  module _ (b : Bool) (is : b ≡ keyed 70 255 region (cells t l)) where
+  module _ (b : Bool) (byte : getD t (p .at) 0 ≡ 70) (test : b ≡ eqb (value 255 (field 1 (cells t l))) region) where
+    f-kind : kindOf (cells t l) ≡ 70
+    f-kind = sym (step .kind-is) ∙ kind-at t p l (k .readable) inside step ∙ byte
+
     told : cond b (value 255 (field 2 (cells t l))) (keyFor region (frequencies (from t (l .next)))) ≡ keyFor region (definition t .frequencies)
-    told = rw is (sym (frequencies-step (cells t l) (from t (l .next)) (found .said) (found .view) region) ∙ ap (λ (rs : List Record). keyFor region (frequencies rs)) (sym (found .rest-is)) ∙ k .so)
+    told =
+        rw (test, ← keyed-is (cells t l) 70 255 region f-kind)
+        (sym (frequencies-step (cells t l) (from t (l .next)) (found .said) (found .view) region) ∙ ap (λ (rs : List Record). keyFor region (frequencies rs)) (sym (found .rest-is)) ∙ k .so)
 
     pub key-next : b ≡ false → Keying t region (l .next)
     key-next e = record { readable = found .next; so = rw e at told }
@@ -186,19 +239,19 @@ module _ (t : List ℕ) (region : ℕ) (p : Place) (l : Line) (k : Keying t regi
     pub key-hit : (speed v : ℕ) → b ≡ true → (speed ≡ 3 → ⊥) → v ≡ value 255 (field 2 (cells t l)) → v ≡ baseKey region speed (definition t)
     key-hit speed v e h q = q ∙ (rw e at told) ∙ sym (by-region t region speed h)
 
-    pub key-second : b ≡ true → Has t l 2
-    key-second e = record { marked = step .marked; there = go (found .said) (found .view) (found .count) (keyed-kind 70 255 region (cells t l) (sym is ∙ e)) }
-      where
-        go : (x : Record) → View (cells t l) x → l .fields ≡ fieldsOf x → kindOf (cells t l) ≡ 70 → 2 < l .fields
-        go (frequency code key) v n q = omega arith
-        go (base key) v n q = absurd (omega (arith, v .kind))
-        go (header h) v n q = absurd (omega (arith, v .kind))
-        go (param p) v n q = absurd (omega (arith, v .kind))
-        go (validation path x) v n q = absurd (omega (arith, v .kind))
-        go (set name) v n q = absurd (omega (arith, v .kind))
-        go (entry key text) v n q = absurd (omega (arith, v .kind))
+  pub key-second : getD t (p .at) 0 ≡ 70 → Has t l 2
+  key-second byte = record { marked = step .marked; there = go (found .said) (found .view) (found .count) (sym (step .kind-is) ∙ kind-at t p l (k .readable) inside step ∙ byte) }
+    where
+      go : (x : Record) → View (cells t l) x → l .fields ≡ fieldsOf x → kindOf (cells t l) ≡ 70 → 2 < l .fields
+      go (frequency code key) v n q = omega arith
+      go (base key) v n q = absurd (omega (arith, v .kind))
+      go (header h) v n q = absurd (omega (arith, v .kind))
+      go (param p) v n q = absurd (omega (arith, v .kind))
+      go (validation path x) v n q = absurd (omega (arith, v .kind))
+      go (set name) v n q = absurd (omega (arith, v .kind))
+      go (entry key text) v n q = absurd (omega (arith, v .kind))
 
-pub ruleset key-laws = (key-three, key-start, key-end, key-good, key-less, key-next, key-hit, key-second)
+pub ruleset key-laws = (key-three, key-start, key-end, key-over, over-less, key-good, key-less, key-next, key-hit, key-second)
 
 -- ---- the first B with a key
 pub record Basing (t : List ℕ) (key : ℕ) (p : Place) (n : ℕ) : Type 0 where
@@ -219,6 +272,21 @@ more-bound kind is n at next h e = go (eqb kind is)
     go true = omega arith
     go false = omega arith
 
+pub base-few : (t : List ℕ) (key n : ℕ) (p : Place) → Basing t key p n → p .at < length t → verdict t ≡ Accepted → n < 65536
+base-few t key n p k inside a = omega (arith, k .few, accepted-short rules t a)
+
+pub base-over : (t : List ℕ) (key n m : ℕ) (p q : Place) → Basing t key p n → p .at < length t → (getD t (p .at) 0 ≡ 66 → ⊥) → m ≡ oneMore (getD t (p .at) 0) 80 n → Passes t p q → Basing t key q m
+base-over t key n m p q k inside other is-m pass =
+    let o : Over t p q = over-line t p q (k .readable) inside pass in
+    let e : keyed 66 255 key (o .fields) ≡ false = keyed-not (o .fields) 66 255 key (λ z. other (o .byte ∙ z)) in
+    let c : m ≡ oneMore (kindOf (o .fields)) 80 n = is-m ∙ ap (λ (x : ℕ). oneMore x 80 n) (o .byte) in
+    let step : firstBase key (bases n (o .said ∷ from t q)) ≡ firstBase key (bases m (from t q)) = rw (e, ← c) at (bases-step (o .fields) (from t q) (o .said) (o .view) key n) in
+    record {
+      readable = o .next;
+      few = rw is-m (more-bound (getD t (p .at) 0) 80 n (p .at) (q .at) (k .few) (pass .on));
+      so = sym step ∙ ap (λ (rs : List Record). firstBase key (bases n rs)) (sym (o .rest-is)) ∙ k .so;
+    }
+
 module _ (t : List ℕ) (key n : ℕ) (p : Place) (l : Line) (k : Basing t key p n) (inside : p .at < length t) (step : Steps t p l) where
   abbrev found-base : Lined t p l
   found-base = lined t p l (k .readable) inside step
@@ -229,22 +297,24 @@ module _ (t : List ℕ) (key n : ℕ) (p : Place) (l : Line) (k : Basing t key p
   pub base-less : length t - l .next .at < length t - p .at
   base-less = omega (arith, step .on)
 
-  pub base-few : verdict t ≡ Accepted → n < 65536
-  base-few a = omega (arith, k .few, accepted-short rules t a)
+  module _ (b : Bool) (byte : getD t (p .at) 0 ≡ 66) (test : b ≡ eqb (value 255 (field 1 (cells t l))) key) where
+    b-kind : kindOf (cells t l) ≡ 66
+    b-kind = sym (step .kind-is) ∙ kind-at t p l (k .readable) inside step ∙ byte
 
-  module _ (b : Bool) (is : b ≡ keyed 66 255 key (cells t l)) where
-    told-base : cond b (some (record { key = key; params = params n (below (from t (l .next))) })) (firstBase key (bases (oneMore (kindOf (cells t l)) 80 n) (from t (l .next)))) ≡ firstBase key (definition t .bases)
-    told-base = rw is (sym (bases-step (cells t l) (from t (l .next)) (found-base .said) (found-base .view) key n) ∙ ap (λ (rs : List Record). firstBase key (bases n rs)) (sym (found-base .rest-is)) ∙ k .so)
+    told-base : cond b (some (record { key = key; params = params n (below (from t (l .next))) })) (firstBase key (bases n (from t (l .next)))) ≡ firstBase key (definition t .bases)
+    told-base =
+        let same-n : oneMore (kindOf (cells t l)) 80 n ≡ n = rw b-kind refl in
+        let step-on = bases-step (cells t l) (from t (l .next)) (found-base .said) (found-base .view) key n in
+        rw (test, ← keyed-is (cells t l) 66 255 key b-kind)
+        (sym (rw same-n at step-on) ∙ ap (λ (rs : List Record). firstBase key (bases n rs)) (sym (found-base .rest-is)) ∙ k .so)
 
     pub base-hit : b ≡ true → FindsBase t key (At (l .next) n)
     base-hit e = (sym (rw e at told-base), found-base .next, omega (arith, k .few))
 
-    pub base-next : (m : ℕ) → b ≡ false → m ≡ oneMore (l .kind) 80 n → Basing t key (l .next) m
-    base-next m e q =
-        let c : m ≡ oneMore (kindOf (cells t l)) 80 n = q ∙ ap (λ (x : ℕ). oneMore x 80 n) (step .kind-is) in
-        record { readable = found-base .next; few = rw q (more-bound (l .kind) 80 n (p .at) (l .next .at) (k .few) (step .on)); so = rw c (rw e at told-base) }
+    pub base-next : b ≡ false → Basing t key (l .next) n
+    base-next e = record { readable = found-base .next; few = omega (arith, k .few, step .on); so = rw e at told-base }
 
-pub ruleset base-laws = (base-start, base-end, base-good, base-less, base-few, base-hit, base-next)
+pub ruleset base-laws = (base-start, base-end, base-few, base-over, over-less, base-good, base-less, base-hit, base-next)
 
 -- ---- the next line of a kind under an owner
 pub owner-kind : (r : Record) → owns r ≡ ownerKind (letter r)
@@ -262,36 +332,42 @@ under-start t p kind r = seek-start owns (ofKind kind) rules from t p r
 pub under-end : (t : List ℕ) (p q : Place) (kind : ℕ) → Seeking owns (ofKind kind) rules from t p q → length t ≤ q .at → NextOf t p kind stand.Nothing
 under-end t p q kind k h = seek-end owns (ofKind kind) rules from t p q k (rest-end rules t q h)
 
-module _ (t : List ℕ) (p q : Place) (kind : ℕ) (l : Line) (k : Seeking owns (ofKind kind) rules from t p q) (inside : q .at < length t) (step : Steps t q l) where
-  abbrev found-under : Lined t q l
-  found-under = lined t q l (k .readable) inside step
+module _ (t : List ℕ) (p q : Place) (kind : ℕ) (k : Seeking owns (ofKind kind) rules from t p q) (inside : q .at < length t) where
+  abbrev after : (r : Place) × Passes t q r
+  after = passing rules t q (k .readable) inside
 
-  abbrev onward : Step-on owns (ofKind kind) rules from t q l
-  onward = record { first = found-under .said; list-is = found-under .rest-is; next = found-under .next }
+  abbrev first-under : Over t q (after .0)
+  first-under = over-line t q (after .0) (k .readable) inside (after .1)
 
-  letter-is : l .kind ≡ letter (found-under .said)
-  letter-is = step .kind-is ∙ found-under .view .kind
+  letter-is : getD t (q .at) 0 ≡ letter (first-under .said)
+  letter-is = first-under .byte ∙ first-under .view .kind
 
-  pub under-hit : l .kind ≡ kind → NextOf t p kind (stand.At q)
-  under-hit e = seek-hit owns (ofKind kind) rules from t p q l k inside step onward (eq-eqb (letter (found-under .said)) kind (sym letter-is ∙ e))
+  pub under-hit : getD t (q .at) 0 ≡ kind → NextOf t p kind (stand.At q)
+  under-hit e =
+      record {
+        readable = k .readable;
+        inside = inside;
+        after = k .after;
+        there = rw (first-under .rest-is) (eq-eqb (letter (first-under .said)) kind (sym letter-is ∙ e));
+        alike = k .alike;
+      }
 
-  module _ (b : Bool) (is : b ≡ ownerKind (l .kind)) (other : l .kind ≡ kind → ⊥) where
-    stops : b ≡ owns (found-under .said)
-    stops = is ∙ ap ownerKind letter-is ∙ sym (owner-kind (found-under .said))
-
-    unwanted : ofKind kind (found-under .said) ≡ false
-    unwanted = ne-eqb (letter (found-under .said)) kind (λ z. other (letter-is ∙ z))
+  module _ (b : Bool) (is : b ≡ ownerKind (getD t (q .at) 0)) (other : getD t (q .at) 0 ≡ kind → ⊥) where
+    one-on : (r : Place) → Passes t q r → listed owns (ofKind kind) (from t p) ≡ cond b [] (listed owns (ofKind kind) (from t r))
+    one-on r pass =
+        let o : Over t q r = over-line t q r (k .readable) inside pass in
+        let is-letter : getD t (q .at) 0 ≡ letter (o .said) = o .byte ∙ o .view .kind in
+        let stops : b ≡ owns (o .said) = is ∙ ap ownerKind is-letter ∙ sym (owner-kind (o .said)) in
+        let unwanted : ofKind kind (o .said) ≡ false = ne-eqb (letter (o .said)) kind (λ z. other (is-letter ∙ z)) in
+        k .alike ∙ ap (listed owns (ofKind kind)) (o .rest-is) ∙ rw (unwanted, ← stops) refl
 
     pub under-stop : b ≡ true → NextOf t p kind stand.Nothing
-    under-stop e = seek-stop owns (ofKind kind) rules from t p q l k inside step onward unwanted (sym stops ∙ e)
+    under-stop e = rw e at (one-on (after .0) (after .1))
 
-    pub under-next : b ≡ false → Seeking owns (ofKind kind) rules from t p (l .next)
-    under-next e = seek-next owns (ofKind kind) rules from t p q l k inside step onward unwanted (sym stops ∙ e)
+    pub under-next : (r : Place) → b ≡ false → Passes t q r → Seeking owns (ofKind kind) rules from t p r
+    under-next r e pass = record { readable = over-line t q r (k .readable) inside pass .next; after = omega (arith, k .after, pass .on); alike = rw e at (one-on r pass) }
 
-  pub under-less : length t - l .next .at < length t - q .at
-  under-less = omega (arith, step .on)
-
-pub ruleset under-laws = (under-start, under-end, under-hit, under-stop, under-next, under-less)
+pub ruleset under-laws = (under-start, under-end, under-hit, under-stop, under-next, over-less)
 
 -- is it the kind of an owner
 module _ (k : ℕ) where
@@ -438,7 +514,7 @@ params-of n (validation path v ∷ rs) = params-of n rs
 params-of n (set name ∷ rs) = refl
 params-of n (entry key text ∷ rs) = params-of n rs
 
-validations-of : (rs : List Record) → validations (below rs) ≡ validations (listed owns (ofKind 86) rs)
+pub validations-of : (rs : List Record) → validations (below rs) ≡ validations (listed owns (ofKind 86) rs)
 validations-of [] = refl
 validations-of (frequency code key ∷ rs) = refl
 validations-of (base key ∷ rs) = refl

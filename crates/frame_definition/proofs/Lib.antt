@@ -4,3 +4,4 @@ pub mod Candidates
 pub mod Symbols
 pub mod Printing
 pub mod Limits
+pub mod Leveled

@@ -7,12 +7,12 @@ use Prim.Native.Nat.{ℕ, suc, _+_, _-_, _≤_, _<_, _^_}
 use native.Mathlib.Omega.{arith}
 use native.Mathlib.Numerals.{add-one}
 use lib.Dec.{eqb}
-use lib.ListN.{length}
+use lib.ListN.{length, getD}
 use mir.Syntax.{w64}
 use mir.Val.{Fits}
 use borrow.Author.Tests.{eqb-true, eq-eqb, ne-eqb}
 use Rattle.text.specs.Text.{field, same, upTo, value, worth, name}
-use Rattle.text.specs.Place.{cells, Steps, Has}
+use Rattle.text.specs.Place.{kindOf, cells, Steps, Passes, Has}
 use Rattle.text.specs.Records.{Readable}
 use Rattle.text.specs.declared.Place.{Place}
 use Rattle.text.specs.declared.Line.{Line}
@@ -27,7 +27,7 @@ use Rattle.text.specs.Listing.{listed, Stands}
 use Rattle.text.specs.declared.Under.{Under}
 use Rattle.text.specs.declared.Under.the-variants as stand
 use Rattle.frame_definition.proofs.Views.{View}
-use Rattle.frame_definition.proofs.Finding.{Lined, lined, good-line, good-has, said-good, stands, at-good, at-kind, at-in, at-inside}
+use Rattle.frame_definition.proofs.Finding.{Lined, lined, good-line, Over, over-line, kind-at, over-less, good-has, said-good, stands, at-good, at-kind, at-in, at-inside}
 
 -- ---- the first D of a name
 same-lists : (a b : List ℕ) → same a b ≡ true → a ≡ b
@@ -53,14 +53,10 @@ sets-step fs rs (set given) v wanted = rw (v .kind, ← v .says) (go (same given
     go false q = refl
 sets-step fs rs (entry k text) v wanted = rw (v .kind)
 
-module _ (t : List ℕ) (l : Line) (wanted : List ℕ) (good : Good t l) where
-  pub named-other : (l .kind ≡ 68 → ⊥) → false ≡ named wanted (cells t l)
-  named-other h = rw (← good .kind-is, ne-eqb (l .kind) 68 h)
+pub named-same : (t : List ℕ) (l : Line) (wanted s : List ℕ) (r : Bool) → s ≡ field 1 (cells t l) → r ≡ same s wanted → r ≡ same (field 1 (cells t l)) wanted
+named-same t l wanted s r part e = rw (← part) e
 
-  pub named-same : (s : List ℕ) (r : Bool) → l .kind ≡ 68 → s ≡ field 1 (cells t l) → r ≡ same s wanted → r ≡ named wanted (cells t l)
-  named-same s r h part e = rw (← good .kind-is, eq-eqb (l .kind) 68 h, ← part) e
-
-pub ruleset named-laws = (good-has, named-other, named-same)
+pub ruleset named-laws = (good-has, named-same)
 
 pub record Setting (t wanted : List ℕ) (p : Place) : Type 0 where
   pub readable : Readable rules t p
@@ -72,6 +68,13 @@ set-start t wanted p a e = rw e (record { readable = readable-start rules t _ a 
 pub set-end : (t wanted : List ℕ) (p : Place) → Setting t wanted p → length t ≤ p .at → FindsSet t wanted stand.Nothing
 set-end t wanted p k e = let q : from t p ≡ [] = rest-end rules t p e in sym (k .so) ∙ rw q
 
+pub set-over : (t wanted : List ℕ) (p q : Place) → Setting t wanted p → p .at < length t → (getD t (p .at) 0 ≡ 68 → ⊥) → Passes t p q → Setting t wanted q
+set-over t wanted p q k inside other pass =
+    let o : Over t p q = over-line t p q (k .readable) inside pass in
+    let none : named wanted (o .fields) ≡ false = rw (ne-eqb (kindOf (o .fields)) 68 (λ z. other (o .byte ∙ z))) refl in
+    let step : firstSet wanted (sets (o .said ∷ from t q)) ≡ firstSet wanted (sets (from t q)) = rw none at (sets-step (o .fields) (from t q) (o .said) (o .view) wanted) in
+    record { readable = o .next; so = sym step ∙ ap (λ (rs : List Record). firstSet wanted (sets rs)) (sym (o .rest-is)) ∙ k .so }
+
 module _ (t wanted : List ℕ) (p : Place) (l : Line) (k : Setting t wanted p) (inside : p .at < length t) (step : Steps t p l) where
   abbrev set-here : Lined t p l
   set-here = lined t p l (k .readable) inside step
@@ -82,7 +85,10 @@ module _ (t wanted : List ℕ) (p : Place) (l : Line) (k : Setting t wanted p) (
   pub set-less : length t - l .next .at < length t - p .at
   set-less = omega (arith, step .on)
 
-  module _ (b : Bool) (is : b ≡ named wanted (cells t l)) where
+  module _ (b : Bool) (byte : getD t (p .at) 0 ≡ 68) (test : b ≡ same (field 1 (cells t l)) wanted) where
+    is : b ≡ named wanted (cells t l)
+    is = let kind : kindOf (cells t l) ≡ 68 = sym (step .kind-is) ∙ kind-at t p l (k .readable) inside step ∙ byte in rw (eq-eqb (kindOf (cells t l)) 68 kind) test
+
     told-set : cond b (some (record { name = wanted; entries = entries (below (from t (l .next))) })) (firstSet wanted (sets (from t (l .next)))) ≡ firstSet wanted (definition t .sets)
     told-set = rw is (sym (sets-step (cells t l) (from t (l .next)) (set-here .said) (set-here .view) wanted) ∙ ap (λ (rs : List Record). firstSet wanted (sets rs)) (sym (set-here .rest-is)) ∙ k .so)
 
@@ -92,7 +98,7 @@ module _ (t wanted : List ℕ) (p : Place) (l : Line) (k : Setting t wanted p) (
     pub set-next : b ≡ false → Setting t wanted (l .next)
     set-next e = record { readable = set-here .next; so = rw e at told-set }
 
-pub ruleset set-laws = (set-start, set-end, set-good, set-less, set-hit, set-next)
+pub ruleset set-laws = (set-start, set-end, set-over, over-less, set-good, set-less, set-hit, set-next)
 
 -- ---- the first E with a key
 entries-of : (rs : List Record) → entries (below rs) ≡ entries (listed owns (ofKind 69) rs)

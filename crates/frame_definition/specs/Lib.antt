@@ -2,3 +2,4 @@ pub mod Definition
 pub mod Find
 pub mod Print
 pub mod Limits
+pub mod Leveled

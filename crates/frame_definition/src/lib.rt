@@ -10,15 +10,16 @@ use text::Under;
 ghost use mathlib.Core.Path.{_≡_};
 ghost use mathlib.Core.Option.{some};
 ghost use Prim.Native.Nat.{_≤_, _<_};
+ghost use lib.Dec.{eqb};
 ghost use lib.ListN.{length};
-ghost use Rattle.text.specs.Text.{field};
+ghost use Rattle.text.specs.Text.{field, same, value as valueOf};
 ghost use Rattle.text.specs.Place.{kindOf, cells, IsOptionalPart};
 ghost use Rattle.text.specs.Records.{Readable};
 ghost use Rattle.text.specs.declared.Verdict.the-variants.{Accepted};
 ghost use Rattle.frame_text.specs.Form.{given, value, flag, param, typeOf, form};
 ghost use Rattle.frame_text.specs.Rules.{rules, verdict};
 ghost use Rattle.frame_definition.specs.Definition.{below, validations, entries, definition, baseKey, isKey, some?, firstEntry};
-ghost use Rattle.frame_definition.specs.Find.{Good, keyed, oneMore, FindsBase, ownerKind, NextOf, HasNumbers, HasPaths, meant, FindsParam, FindsValidation, from, HasFlags, candidate, IsRead, Counted, FindsCandidate, named, FindsSet};
+ghost use Rattle.frame_definition.specs.Find.{Good, oneMore, FindsBase, ownerKind, NextOf, HasNumbers, HasPaths, meant, FindsParam, FindsValidation, from, HasFlags, candidate, IsRead, Counted, FindsCandidate, FindsSet};
 
 // Where the P lines of a B begin, and how many P lines come before.
 pub enum Found {
@@ -78,15 +79,12 @@ pub enum NextCandidate {
     Nothing,
 }
 
-// Is the line of this kind, with this key?
-fn is_keyed(text: &[u8], line: Line, kind: u8, limit: u16, key: u64) -> bool
+// Has the line this key?
+fn is_keyed(text: &[u8], line: Line, key: u64) -> bool
     requires { ⌜ Good (now text) line ⌝ }
-    ensures { λ r. ⌜ r ≡ keyed kind limit key (cells (now (text .entry)) line) ⌝ }
+    ensures { λ r. ⌜ r ≡ eqb (valueOf 255 (field 1 (cells (now (text .entry)) line))) key ⌝ }
 {
-    if line.kind != kind {
-        return false;
-    }
-    line.value(text, 1, limit) as u64 == key
+    line.value(text, 1, 255) as u64 == key
 }
 
 // One more after a line of this kind.
@@ -107,8 +105,13 @@ pub fn base_key(text: &[u8], region: u64, speed: u64) -> u16
     }
     let mut place = Place::start();
     while place.at < text.len() {
+        let at = place.at;
+        if text[at] != b'F' {
+            place = place.pass(text);
+            continue;
+        }
         let line = place.step(text);
-        if is_keyed(text, line, b'F', 255, region) {
+        if is_keyed(text, line, region) {
             return line.value(text, 2, 255);
         }
         place = line.next;
@@ -124,15 +127,21 @@ pub fn find_base(text: &[u8], key: u64) -> Found
     let mut place = Place::start();
     let mut params: usize = 0;
     while place.at < text.len() {
+        let at = place.at;
+        let kind = text[at];
+        if kind != b'B' {
+            params = one_more(kind, b'P', params);
+            place = place.pass(text);
+            continue;
+        }
         let line = place.step(text);
         let next = line.next;
-        if is_keyed(text, line, b'B', 255, key) {
+        if is_keyed(text, line, key) {
             return Found::At {
                 place: next,
                 params,
             };
         }
-        params = one_more(line.kind, b'P', params);
         place = next;
     }
     Found::Nothing
@@ -161,14 +170,15 @@ fn next_under(text: &[u8], from: Place, kind: u8) -> Under
 {
     let mut place = from;
     while place.at < text.len() {
-        let line = place.step(text);
-        if line.kind == kind {
+        let at = place.at;
+        let here = text[at];
+        if here == kind {
             return Under::At(place);
         }
-        if is_owner(line.kind) {
+        if is_owner(here) {
             return Under::Nothing;
         }
-        place = line.next;
+        place = place.pass(text);
     }
     Under::Nothing
 }
@@ -310,24 +320,17 @@ fn has_validation(text: &[u8], place: Place) -> bool
     requires { ⌜ Readable rules (now text) place ⌝ }
     ensures { λ r. ⌜ r ≡ some? (validations (below (from (now (text .entry)) place))) ⌝ }
 {
-    match next_validation(text, place) {
-        NextValidation::At {
-            path: _,
-            value: _,
-            place: _,
-        } => true,
-        NextValidation::Nothing => false,
+    match next_under(text, place, b'V') {
+        Under::At(_) => true,
+        Under::Nothing => false,
     }
 }
 
-// Is the line an H with this base key and a V under it?
+// Has an H line this base key and a V under it?
 fn is_candidate(text: &[u8], line: Line, key: u64) -> bool
-    requires { ⌜ Good (now text) line ⌝ }
+    requires { ⌜ (Good (now text) line) × (line .kind ≡ 72) ⌝ }
     ensures { λ r. ⌜ r ≡ candidate key (cells (now (text .entry)) line) (from (now (text .entry)) (line .next)) ⌝ }
 {
-    if line.kind != b'H' {
-        return false;
-    }
     let next = line.next;
     is_based(text, line, key) && has_validation(text, next)
 }
@@ -358,26 +361,29 @@ pub fn next_candidate(text: &[u8], start: Place, key: u64, h: usize, n: usize) -
     let mut number = h;
     let mut params = n;
     while place.at < text.len() {
+        let at = place.at;
+        let kind = text[at];
+        if kind != b'H' {
+            params = one_more(kind, b'P', params);
+            place = place.pass(text);
+            continue;
+        }
         let line = place.step(text);
         let next = line.next;
         if is_candidate(text, line, key) {
             return NextCandidate::At(read_candidate(text, line, number, params));
         }
-        number = one_more(line.kind, b'H', number);
-        params = one_more(line.kind, b'P', params);
+        number += 1;
         place = next;
     }
     NextCandidate::Nothing
 }
 
-// Is the line a D of this name?
+// Has a line this name?
 fn is_named(text: &[u8], line: Line, name: &[u8]) -> bool
     requires { ⌜ Good (now text) line ⌝ }
-    ensures { λ r. ⌜ r ≡ named (now (name .entry)) (cells (now (text .entry)) line) ⌝ }
+    ensures { λ r. ⌜ r ≡ same (field 1 (cells (now (text .entry)) line)) (now (name .entry)) ⌝ }
 {
-    if line.kind != b'D' {
-        return false;
-    }
     text::is_same(line.field(text, 1), name)
 }
 
@@ -388,6 +394,11 @@ pub fn find_set(text: &[u8], name: &[u8]) -> Under
 {
     let mut place = Place::start();
     while place.at < text.len() {
+        let at = place.at;
+        if text[at] != b'D' {
+            place = place.pass(text);
+            continue;
+        }
         let line = place.step(text);
         let next = line.next;
         if is_named(text, line, name) {

@@ -1,4 +1,3 @@
-mod RequestLaws
-mod AnswerLaws
+mod FramesLaws
 mod ServeLaws
 mod Laws

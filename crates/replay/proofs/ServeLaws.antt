@@ -24,13 +24,13 @@ use Rattle.replay.specs.declared.frames.Asked.{Asked}
 use Rattle.replay.specs.declared.frames.Asked.the-variants.{Table}
 use Rattle.replay.specs.declared.serve.Turn.{Turn}
 use Rattle.replay.specs.declared.serve.Turn.the-variants.{Next}
-use Rattle.replay.specs.declared.answer.Answer.{Answer}
-use Rattle.replay.specs.declared.answer.Answer.the-variants.{Put}
-use Rattle.replay.specs.Answer.{Room, Answers}
+use Rattle.answer.specs.declared.Answer.{Answer}
+use Rattle.answer.specs.declared.Answer.the-variants.{Put}
+use Rattle.answer.specs.Answer.{Room, Answers}
 use Rattle.replay.specs.Input.{In, Empty, Finds, Fills}
 use Rattle.replay.specs.Frames.{Asks, Stand}
 use Rattle.replay.specs.Serve.{Goes}
-use Rattle.replay.specs.Table.{Ample}
+use Rattle.answer.specs.Table.{Ample}
 
 -- ---- the input
 pub empty-in : (lines : List ℕ) (i : Input) → Empty i → In lines i

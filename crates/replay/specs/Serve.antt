@@ -3,7 +3,7 @@ use Prim.Native.Nat.{ℕ}
 use mathlib.Core.List.{List}
 use Rattle.replay.specs.declared.serve.Turn.{Turn}
 use Rattle.replay.specs.declared.serve.Turn.the-variants.{Next, End}
-use Rattle.replay.specs.Answer.{Room}
+use Rattle.answer.specs.Answer.{Room}
 use Rattle.replay.specs.Input.{In}
 
 -- what waits of the input and of the output lies in the buffers

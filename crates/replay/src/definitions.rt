@@ -1,13 +1,13 @@
 // The requests on definition texts.
-use crate::answer::Answer;
-use crate::answer::put;
-use crate::answer::put_refusal;
-use crate::request::Bytes;
-use crate::request::read_bytes;
+use answer::Answer;
+use answer::put;
+use answer::put_refusal;
 use command_text::check_command_text;
 use frame_text::check_frame_text;
+use request::Bytes;
+use request::read_bytes;
 use text::Verdict;
-ghost use Rattle.replay.specs.Answer.{Room, Answers};
+ghost use Rattle.answer.specs.Answer.{Room, Answers};
 
 fn put_verdict(verdict: Verdict, out: &mut [u8], used: usize) -> usize
     requires { ⌜ Room (now out) used ⌝ }

@@ -1,5 +1,5 @@
 // `fill_frames` on a table of frame records, and what stands in each of them afterwards.
-use crate::table::PATTERN;
+use answer::table::PATTERN;
 use radio::rssi::byte_of;
 use rows::put_row;
 use screen::FrameRecord;

@@ -1,29 +1,26 @@
 // The requests on every frame of a payload, by the flat columns and by the slice of frame records.
-use crate::answer::Answer;
-use crate::answer::put;
-use crate::answer::put_decimal;
-use crate::answer::put_named;
-use crate::answer::put_number;
-use crate::answer::put_numbers;
-use crate::answer::put_refusal;
 use crate::frame_table::frame_table;
-use crate::request::Bytes;
-use crate::request::Leading;
-use crate::request::read_bytes;
-use crate::request::read_leading;
-use crate::table::fill;
-use crate::table::put_touched;
+use answer::Answer;
+use answer::put;
+use answer::put_decimal;
+use answer::put_named;
+use answer::put_number;
+use answer::put_numbers;
+use answer::table::MOST_ROWS;
+use answer::table::fill;
+use answer::table::put_refused;
+use answer::table::put_touched;
 use pti::parse_payload;
 use pti::payload::Frames;
-use refusal::Refusal;
+use request::Bytes;
+use request::Leading;
+use request::read_bytes;
+use request::read_leading;
 ghost use Prim.Native.Nat.{_≤_, _*_};
 ghost use lib.ListN.{length};
-ghost use Rattle.replay.specs.Answer.{Room, Answers};
+ghost use Rattle.answer.specs.Answer.{Room, Answers};
+ghost use Rattle.answer.specs.Table.{Ample};
 ghost use Rattle.replay.specs.Frames.{Asks, Stand};
-ghost use Rattle.replay.specs.Table.{Ample};
-
-// The most rows that a request may ask for.
-const MOST_ROWS: u64 = 16384;
 
 // The numbers of a row.
 const WIDTH: usize = 8;
@@ -119,15 +116,6 @@ fn put_parsed(parsed: Frames, rows: &[u64], out: &mut [u8], used: usize) -> usiz
         Frames::Rows(n) => put_frames(b"frames", n, rows, out, used),
         Frames::Refused(refusal) => put_refused(refusal, rows, out, used),
     }
-}
-
-// A refusal, after which nothing may have been written to the table.
-fn put_refused(refusal: Refusal, table: &[u64], out: &mut [u8], used: usize) -> usize
-    requires { ⌜ Room (now out) used ⌝ }
-    ensures { λ r. ⌜ Room (now (out .exit)) r ⌝ }
-{
-    let n = put_refusal(refusal, out, used);
-    put_touched(table, out, n)
 }
 
 // The rows of an answer, of which there are so many in a table, and whether the table is untouched past them.

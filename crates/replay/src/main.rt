@@ -1,21 +1,19 @@
 // Answers the requests of standard input, one a line, each with a line on standard output: the door by which vectors,
 // differential runs and outside checks reach the proved calls.
-mod answer;
 mod definitions;
 mod frame_table;
 mod frames;
 mod input;
-mod request;
+mod mpdu;
 mod serve;
 mod single;
-mod table;
 
 // All the memory of the program: a line of at most 524,288 bytes with its end, the bytes that it says, a table of 16,384 rows of
-// eight numbers, and the answers that wait to be written.
+// nine numbers, and the answers that wait to be written.
 fn main() {
     let mut lines = [0u8; 524288];
     let mut bytes = [0u8; 262144];
-    let mut rows = [0u64; 131072];
+    let mut rows = [0u64; 147456];
     let mut out = [0u8; 65536];
     serve::serve(&mut lines, &mut bytes, &mut rows, &mut out);
 }

@@ -1,8 +1,4 @@
 // Requests in, answers out, to the end of the input.
-use crate::answer::Answer;
-use crate::answer::flush;
-use crate::answer::put;
-use crate::answer::put_byte;
 use crate::definitions::commandtext;
 use crate::definitions::frametext;
 use crate::frames::frames;
@@ -10,17 +6,24 @@ use crate::frames::frametable;
 use crate::input::Filled;
 use crate::input::Found;
 use crate::input::Input;
-use crate::request::Word;
-use crate::request::find;
-use crate::request::word_of;
+use crate::mpdu::bits;
+use crate::mpdu::checksum;
 use crate::single::body;
 use crate::single::count;
 use crate::single::rate;
 use crate::single::record;
-ghost use Rattle.replay.specs.Answer.{Room, Answers};
+use answer::Answer;
+use answer::flush;
+use answer::put;
+use answer::put_byte;
+use request::Word;
+use request::find;
+use request::word_of;
+use walk_requests::header;
+ghost use Rattle.answer.specs.Answer.{Room, Answers};
+ghost use Rattle.answer.specs.Table.{Ample};
 ghost use Rattle.replay.specs.Input.{In};
 ghost use Rattle.replay.specs.Serve.{Goes};
-ghost use Rattle.replay.specs.Table.{Ample};
 
 // A proved loop has to end, and nothing says that the input does. So the turns are counted down from 2^62, which no run
 // uses up: at a thousand million a second it would take more than a hundred years.
@@ -52,6 +55,9 @@ fn answer(line: &[u8], bytes: &mut [u8], rows: &mut [u64], out: &mut [u8], used:
         Word::Frametable => frametable(words, bytes, rows, out, used),
         Word::Frametext => frametext(words, bytes, out, used),
         Word::Commandtext => commandtext(words, bytes, out, used),
+        Word::Header => header(words, bytes, rows, out, used),
+        Word::Bits => bits(words, bytes, out, used),
+        Word::Checksum => checksum(words, bytes, out, used),
         Word::Unknown => Answer::Bad,
     }
 }
@@ -126,7 +132,7 @@ fn step(
 pub fn serve(
     lines: &mut [u8; 524288],
     bytes: &mut [u8; 262144],
-    rows: &mut [u64; 131072],
+    rows: &mut [u64; 147456],
     out: &mut [u8; 65536],
 ) {
     let mut input = Input::empty(false);

@@ -1,16 +1,10 @@
 // The requests on rates and on single records.
-use crate::answer::Answer;
-use crate::answer::put;
-use crate::answer::put_hex;
-use crate::answer::put_named;
-use crate::answer::put_refusal;
 use crate::frames::put_row;
-use crate::request::Bytes;
-use crate::request::Leading;
-use crate::request::Number;
-use crate::request::read_bytes;
-use crate::request::read_leading;
-use crate::request::read_number;
+use answer::Answer;
+use answer::put;
+use answer::put_hex;
+use answer::put_named;
+use answer::put_refusal;
 use frame::Beams;
 use frame::Direction;
 use frame::Parsed;
@@ -21,9 +15,15 @@ use pti::record_body;
 use pti::speed_for;
 use radio::rssi::byte_of;
 use records::Counted;
+use request::Bytes;
+use request::Leading;
+use request::Number;
+use request::read_bytes;
+use request::read_leading;
+use request::read_number;
 ghost use mathlib.Core.Path.{_≡_};
 ghost use Rattle.pti.specs.Payload.{directionNumber, beamsNumber, rowOf};
-ghost use Rattle.replay.specs.Answer.{Room, Answers};
+ghost use Rattle.answer.specs.Answer.{Room, Answers};
 
 // `rate CHANNEL REGION`
 pub fn rate(words: &[u8], out: &mut [u8], used: usize) -> Answer

@@ -58,7 +58,7 @@ module _ {R : Type 0} (rules : Rules R) where
   judge-line before n [] (m ∷ ms) h = refl
   judge-line before n (x ∷ xs) (m ∷ ms) h = refl
 
-  judge-open : (before : List R) (n : ℕ) (l : List ℕ) → 0 < length l → judge rules before n (l ∷ []) ≡ Refused (Form n)
+  pub judge-open : (before : List R) (n : ℕ) (l : List ℕ) → 0 < length l → judge rules before n (l ∷ []) ≡ Refused (Form n)
   judge-open before n [] h = absurd (omega arith)
   judge-open before n (x ∷ xs) h = refl
 

@@ -6,6 +6,7 @@ use mathlib.Core.List.{List, [], _∷_, _++_}
 use lib.Dec.{leb, eqb}
 use lib.ListN.{length, getD, take, drop}
 use Rattle.text.specs.Text.{onto, missing}
+use Rattle.text.specs.Scan.{cut}
 use Rattle.text.specs.declared.Place.{Place}
 use Rattle.text.specs.declared.Line.{Line}
 use Rattle.text.specs.declared.Fields.{Fields}
@@ -103,6 +104,13 @@ pub record Steps (t : List ℕ) (p : Place) (r : Line) : Type 0 where
   pub count : r .next .line ≡ p .line + 1
   pub on : p .at < r .next .at
   pub within : In t (r .next)
+
+-- the place q of the line after that at the place p: behind the next 0x0A, or the end of the text
+pub record Passes (t : List ℕ) (p q : Place) : Type 0 where
+  pub says : left t q ≡ drop (cut 0x0a (left t p) + 1) (left t p)
+  pub count : q .line ≡ p .line + 1
+  pub on : p .at < q .at
+  pub within : In t q
 
 -- what a part of the text t says
 abbrev pub partOf : List ℕ → Part → List ℕ

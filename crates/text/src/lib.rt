@@ -8,7 +8,7 @@ ghost use Prim.Native.Nat.{_+_, _-_, _≤_, _<_};
 ghost use lib.ListN.{length, take, drop};
 ghost use Rattle.text.specs.Text.{field, same, within, decimal, upTo, value, number, missing, optionalUpTo, optionalValue, optional, name, plain, path, optionalName, optionalPath};
 ghost use Rattle.text.specs.Scan.{cut, halt, digits};
-ghost use Rattle.text.specs.Place.{In, Cuts, Steps, Has, IsPart, IsOptionalPart, cells, kindOf};
+ghost use Rattle.text.specs.Place.{In, Cuts, Steps, Passes, Has, IsPart, IsOptionalPart, cells, kindOf};
 
 // What a check says of a text.
 pub enum Verdict {
@@ -394,6 +394,27 @@ impl Place {
                 at: marks[fields],
                 line: number + 1,
             },
+        }
+    }
+
+    // The next place, with nothing read of the line but where it ends. After a line that isn't ended that is the end of the text.
+    pub fn pass(self, text: &[u8]) -> Place
+        requires { ⌜ (In (now text) self) × (self .at < length (now text)) ⌝ }
+        ensures { λ r. ⌜ Passes (now (text .entry)) self r ⌝ }
+    {
+        let at = self.at;
+        let number = self.line;
+        let rest = &text[at..];
+        let e = find(rest, 10);
+        if e == rest.len() {
+            return Place {
+                at: text.len(),
+                line: number + 1,
+            };
+        }
+        Place {
+            at: at + e + 1,
+            line: number + 1,
         }
     }
 }

@@ -21,6 +21,18 @@ start-requires c κs = search (needs, key-laws)
 loop-holds : tie.Need-loop-holds Inv-loop μ-loop
 loop-holds c = search (needs, key-laws)
 
+shared-slice-read-if3 : tie.Need-shared-slice-read-if3 Inv-loop μ-loop
+shared-slice-read-if3 c = search (needs, key-laws)
+
+pass-requires : tie.Need-pass-requires Inv-loop μ-loop
+pass-requires c κs = search (needs, key-laws)
+
+loop-less : tie.Need-loop-less Inv-loop μ-loop
+loop-less c = search (needs, key-laws)
+
+loop-again : tie.Need-loop-again Inv-loop μ-loop
+loop-again c = search (needs, key-laws)
+
 step-requires : tie.Need-step-requires Inv-loop μ-loop
 step-requires c κs = search (needs, key-laws)
 
@@ -33,11 +45,11 @@ value-requires c κs = search (needs, key-laws)
 returns-2 : tie.Need-returns-2 Inv-loop μ-loop
 returns-2 c = search (needs, key-laws)
 
-loop-less : tie.Need-loop-less Inv-loop μ-loop
-loop-less c = search (needs, key-laws)
+loop-less-2 : tie.Need-loop-less-2 Inv-loop μ-loop
+loop-less-2 c = search (needs, key-laws)
 
-loop-again : tie.Need-loop-again Inv-loop μ-loop
-loop-again c = search (needs, key-laws)
+loop-again-2 : tie.Need-loop-again-2 Inv-loop μ-loop
+loop-again-2 c = search (needs, key-laws)
 
 returns-3 : tie.Need-returns-3 Inv-loop μ-loop
 returns-3 c = search (needs, key-laws)
@@ -51,10 +63,14 @@ base-key-spec =
     returns
     start-requires
     loop-holds
+    shared-slice-read-if3
+    pass-requires
+    loop-less
+    loop-again
     step-requires
     is-keyed-requires
     value-requires
     returns-2
-    loop-less
-    loop-again
+    loop-less-2
+    loop-again-2
     returns-3)

@@ -18,6 +18,21 @@ start-requires c κs = search (needs, base-laws)
 loop-holds : tie.Need-loop-holds Inv-loop μ-loop
 loop-holds c = search (needs, base-laws)
 
+shared-slice-read-kind : tie.Need-shared-slice-read-kind Inv-loop μ-loop
+shared-slice-read-kind c = search (needs, base-laws)
+
+one-more-requires : tie.Need-one-more-requires Inv-loop μ-loop
+one-more-requires c κs = search (needs, base-laws)
+
+pass-requires : tie.Need-pass-requires Inv-loop μ-loop
+pass-requires c κs = search (needs, base-laws)
+
+loop-less : tie.Need-loop-less Inv-loop μ-loop
+loop-less c = search (needs, base-laws)
+
+loop-again : tie.Need-loop-again Inv-loop μ-loop
+loop-again c = search (needs, base-laws)
+
 step-requires : tie.Need-step-requires Inv-loop μ-loop
 step-requires c κs = search (needs, base-laws)
 
@@ -27,14 +42,11 @@ is-keyed-requires c κs = search (needs, base-laws)
 returns : tie.Need-returns Inv-loop μ-loop
 returns c = search (needs, base-laws)
 
-one-more-requires : tie.Need-one-more-requires Inv-loop μ-loop
-one-more-requires c κs = search (needs, base-laws)
+loop-less-2 : tie.Need-loop-less-2 Inv-loop μ-loop
+loop-less-2 c = search (needs, base-laws)
 
-loop-less : tie.Need-loop-less Inv-loop μ-loop
-loop-less c = search (needs, base-laws)
-
-loop-again : tie.Need-loop-again Inv-loop μ-loop
-loop-again c = search (needs, base-laws)
+loop-again-2 : tie.Need-loop-again-2 Inv-loop μ-loop
+loop-again-2 c = search (needs, base-laws)
 
 returns-2 : tie.Need-returns-2 Inv-loop μ-loop
 returns-2 c = search (needs, base-laws)
@@ -47,10 +59,14 @@ find-base-spec =
     μ-loop
     start-requires
     loop-holds
+    shared-slice-read-kind
+    one-more-requires
+    pass-requires
+    loop-less
+    loop-again
     step-requires
     is-keyed-requires
     returns
-    one-more-requires
-    loop-less
-    loop-again
+    loop-less-2
+    loop-again-2
     returns-2)

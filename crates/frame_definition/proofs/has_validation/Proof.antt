@@ -4,8 +4,8 @@ use Rattle.frame_definition.proofs.Candidates.{some-laws}
 use Rattle.frame_definition.proofs.has_validation.Statement.{statement}
 use Rattle.frame_definition.proofs.has_validation.Tie as tie
 
-next-validation-requires : tie.Need-next-validation-requires
-next-validation-requires c κs = search (needs, some-laws)
+next-under-requires : tie.Need-next-under-requires
+next-under-requires c κs = search (needs, some-laws)
 
 enum-told : tie.Need-enum-told
 enum-told c = search (needs, some-laws)
@@ -21,4 +21,4 @@ returns-2 c = search (needs, some-laws)
 
 pub has-validation-spec : {M : Type 1} → statement M
 has-validation-spec =
-    tie.close (tie.spec next-validation-requires enum-told enum-told-2 returns returns-2)
+    tie.close (tie.spec next-under-requires enum-told enum-told-2 returns returns-2)

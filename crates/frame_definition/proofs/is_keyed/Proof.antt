@@ -4,17 +4,14 @@ use Rattle.frame_definition.proofs.Finding.{keyed-laws}
 use Rattle.frame_definition.proofs.is_keyed.Statement.{statement}
 use Rattle.frame_definition.proofs.is_keyed.Tie as tie
 
-returns : tie.Need-returns
-returns c = search (needs, keyed-laws)
-
 value-requires : tie.Need-value-requires
 value-requires c κs = search (needs, keyed-laws)
 
 cast-result : tie.Need-cast-result
 cast-result c = search (needs, keyed-laws)
 
-returns-2 : tie.Need-returns-2
-returns-2 c = search (needs, keyed-laws)
+returns : tie.Need-returns
+returns c = search (needs, keyed-laws)
 
 pub is-keyed-spec : {M : Type 1} → statement M
-is-keyed-spec = tie.close (tie.spec returns value-requires cast-result returns-2)
+is-keyed-spec = tie.close (tie.spec value-requires cast-result returns)

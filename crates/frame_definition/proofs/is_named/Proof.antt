@@ -4,17 +4,14 @@ use Rattle.frame_definition.proofs.Symbols.{named-laws}
 use Rattle.frame_definition.proofs.is_named.Statement.{statement}
 use Rattle.frame_definition.proofs.is_named.Tie as tie
 
-returns : tie.Need-returns
-returns c = search (needs, named-laws)
-
 field-requires : tie.Need-field-requires
 field-requires c κs = search (needs, named-laws)
 
 is-same-requires : tie.Need-is-same-requires
 is-same-requires c κs = search (needs, named-laws)
 
-returns-2 : tie.Need-returns-2
-returns-2 c = search (needs, named-laws)
+returns : tie.Need-returns
+returns c = search (needs, named-laws)
 
 pub is-named-spec : {M : Type 1} → statement M
-is-named-spec = tie.close (tie.spec returns field-requires is-same-requires returns-2)
+is-named-spec = tie.close (tie.spec field-requires is-same-requires returns)

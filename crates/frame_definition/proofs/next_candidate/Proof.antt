@@ -15,6 +15,21 @@ abbrev μ-loop : tie.MeasureT-loop
 loop-holds : tie.Need-loop-holds Inv-loop μ-loop
 loop-holds c = search (needs, look-laws)
 
+shared-slice-read-kind : tie.Need-shared-slice-read-kind Inv-loop μ-loop
+shared-slice-read-kind c = search (needs, look-laws)
+
+one-more-requires : tie.Need-one-more-requires Inv-loop μ-loop
+one-more-requires c κs = search (needs, look-laws)
+
+pass-requires : tie.Need-pass-requires Inv-loop μ-loop
+pass-requires c κs = search (needs, look-laws)
+
+loop-less : tie.Need-loop-less Inv-loop μ-loop
+loop-less c = search (needs, look-laws)
+
+loop-again : tie.Need-loop-again Inv-loop μ-loop
+loop-again c = search (needs, look-laws)
+
 step-requires : tie.Need-step-requires Inv-loop μ-loop
 step-requires c κs = search (needs, look-laws)
 
@@ -27,17 +42,14 @@ read-candidate-requires c κs = search (needs, look-laws)
 returns : tie.Need-returns Inv-loop μ-loop
 returns c = search (needs, look-laws)
 
-one-more-requires : tie.Need-one-more-requires Inv-loop μ-loop
-one-more-requires c κs = search (needs, look-laws)
+add-number : tie.Need-add-number Inv-loop μ-loop
+add-number c = search (needs, look-laws)
 
-one-more-requires-2 : tie.Need-one-more-requires-2 Inv-loop μ-loop
-one-more-requires-2 c κs = search (needs, look-laws)
+loop-less-2 : tie.Need-loop-less-2 Inv-loop μ-loop
+loop-less-2 c = search (needs, look-laws)
 
-loop-less : tie.Need-loop-less Inv-loop μ-loop
-loop-less c = search (needs, look-laws)
-
-loop-again : tie.Need-loop-again Inv-loop μ-loop
-loop-again c = search (needs, look-laws)
+loop-again-2 : tie.Need-loop-again-2 Inv-loop μ-loop
+loop-again-2 c = search (needs, look-laws)
 
 returns-2 : tie.Need-returns-2 Inv-loop μ-loop
 returns-2 c = search (needs, look-laws)
@@ -49,12 +61,16 @@ next-candidate-spec =
     Inv-loop
     μ-loop
     loop-holds
+    shared-slice-read-kind
+    one-more-requires
+    pass-requires
+    loop-less
+    loop-again
     step-requires
     is-candidate-requires
     read-candidate-requires
     returns
-    one-more-requires
-    one-more-requires-2
-    loop-less
-    loop-again
+    add-number
+    loop-less-2
+    loop-again-2
     returns-2)

@@ -18,8 +18,8 @@ abbrev μ-loop : tie.MeasureT-loop
 loop-holds : tie.Need-loop-holds Inv-loop μ-loop
 loop-holds c = search (needs, under-laws)
 
-step-requires : tie.Need-step-requires Inv-loop μ-loop
-step-requires c κs = search (needs, under-laws)
+shared-slice-read-here : tie.Need-shared-slice-read-here Inv-loop μ-loop
+shared-slice-read-here c = search (needs, under-laws)
 
 returns : tie.Need-returns Inv-loop μ-loop
 returns c = search (needs, under-laws)
@@ -29,6 +29,9 @@ is-owner-requires c κs = search (needs, under-laws)
 
 returns-2 : tie.Need-returns-2 Inv-loop μ-loop
 returns-2 c = search (needs, under-laws)
+
+pass-requires : tie.Need-pass-requires Inv-loop μ-loop
+pass-requires c κs = search (needs, under-laws)
 
 loop-less : tie.Need-loop-less Inv-loop μ-loop
 loop-less c = search (needs, under-laws)
@@ -46,10 +49,11 @@ next-under-spec =
     Inv-loop
     μ-loop
     loop-holds
-    step-requires
+    shared-slice-read-here
     returns
     is-owner-requires
     returns-2
+    pass-requires
     loop-less
     loop-again
     returns-3)

@@ -1,0 +1,19 @@
+-- The tables that calls are lent.
+use Prim.Native.Nat.{ℕ, _≤_}
+use mathlib.Core.Bool.{Bool, true, _&&_}
+use mathlib.Core.List.{List, [], _∷_}
+use lib.Dec.{eqb}
+use lib.ListN.{length, replicate}
+
+-- "`CAP` up to 16,384", rows of nine numbers at most
+abbrev pub Ample : List ℕ → Type 0
+Ample table = 147456 ≤ length table
+
+-- a table of n numbers that nothing has been written to: "fills the whole table with 0xA5A5A5A5A5A5A5A5"
+abbrev pub fresh : ℕ → List ℕ
+fresh n = replicate n 0xA5A5A5A5A5A5A5A5
+
+-- nothing has been written to a part of a table
+abbrev pub isFresh : List ℕ → Bool
+isFresh [] = true
+isFresh (x ∷ xs) = eqb x 0xA5A5A5A5A5A5A5A5 && isFresh xs

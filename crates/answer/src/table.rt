@@ -1,0 +1,58 @@
+// A table as a call is lent it: filled before the call, and looked at after it.
+use crate::put;
+use crate::put_refusal;
+use refusal::Refusal;
+ghost use mathlib.Core.Path.{_≡_};
+ghost use lib.ListN.{length};
+ghost use Rattle.answer.specs.Answer.{Room};
+ghost use Rattle.answer.specs.Table.{fresh, isFresh};
+
+// The most rows that a request may ask for.
+pub const MOST_ROWS: u64 = 16384;
+
+// What every number of a table is before a call; of a narrower column, its low bits.
+pub const PATTERN: u64 = 0xA5A5A5A5A5A5A5A5;
+
+pub fn fill(table: &mut [u64])
+    ensures { λ _. ⌜ now (table .exit) ≡ fresh (length (now (table .entry))) ⌝ }
+{
+    let mut i = 0;
+    while i < table.len() {
+        table[i] = PATTERN;
+        i += 1;
+    }
+}
+
+// Whether nothing has been written to a part of a table.
+fn is_fresh(table: &[u64]) -> bool
+    ensures { λ r. ⌜ r ≡ isFresh (now (table .entry)) ⌝ }
+{
+    let mut i = 0;
+    while i < table.len() {
+        if table[i] != PATTERN {
+            return false;
+        }
+        i += 1;
+    }
+    true
+}
+
+// Says so if something has been written to a part of a table that nothing may write to.
+pub fn put_touched(table: &[u64], out: &mut [u8], used: usize) -> usize
+    requires { ⌜ Room (now out) used ⌝ }
+    ensures { λ r. ⌜ Room (now (out .exit)) r ⌝ }
+{
+    if is_fresh(table) {
+        return used;
+    }
+    put(b" TOUCHED", out, used)
+}
+
+// A refusal, after which nothing may have been written to the table.
+pub fn put_refused(refusal: Refusal, table: &[u64], out: &mut [u8], used: usize) -> usize
+    requires { ⌜ Room (now out) used ⌝ }
+    ensures { λ r. ⌜ Room (now (out .exit)) r ⌝ }
+{
+    let n = put_refusal(refusal, out, used);
+    put_touched(table, out, n)
+}

@@ -1,0 +1,4 @@
+pub mod Poly
+pub mod Crc
+pub mod Register
+mod Examples

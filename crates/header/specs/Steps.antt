@@ -1,0 +1,53 @@
+-- What the steps below `decode_accepted` answer.
+use mathlib.Core.Path.{_≡_}
+use mathlib.Core.Bool.{cond}
+use mathlib.Core.List.{List, map}
+use Prim.Native.Nat.{ℕ, _*_, _/_, _≤_}
+use lib.ListN.{length}
+use Rattle.frame_definition.specs.Definition.{Numbered, definition}
+use Rattle.frame_definition.specs.declared.Candidate.{Candidate}
+use Rattle.crc.specs.Crc.{right}
+use Rattle.fields.specs.Fields.{fieldsIn}
+use Rattle.lawful.specs.Answer.{answer}
+use Rattle.lawful.specs.Table.{shown}
+use Rattle.lawful.specs.Trees.{trees}
+use Rattle.told.specs.Told.{Heading, Told, offsetOf, fitted, ofAnswer, candidatesOf, told}
+use Rattle.paths.specs.Scratch.{rowsIn}
+use Rattle.candidates.specs.declared.Read.{Read}
+use Rattle.header.specs.declared.Decoded.{Decoded}
+use Rattle.header.specs.Decode.{ofTold, tableAfter}
+
+-- the answer x for the bytes d of an MPDU, and its rows in the table
+pub record Gives (d : List ℕ) (speed : ℕ) (x : Told) (table : List ℕ) (r : Decoded) (table′ : List ℕ) : Type 0 where
+  pub answer : r ≡ ofTold (right d speed) x
+  pub rows : table′ ≡ tableAfter table x r
+
+-- what was read lies in the tables, and in an MPDU of at most 2,048 bytes
+pub record Ready (fields scratch : List ℕ) (read : Read) : Type 0 where
+  pub lines : read .count * 12 ≤ length fields
+  pub rows : read .rows * 6 ≤ length scratch
+  pub bit-in : read .bit .0 ≤ 16384
+
+-- the heading of a candidate that was read
+abbrev pub headingRead : List ℕ → List ℕ → List ℕ → Candidate → Read → Heading
+headingRead t fields scratch c read =
+    record {
+      number = c .number;
+      key = c .key;
+      ack = c .flags .ack;
+      routed = c .flags .routed;
+      multicast = c .flags .multicast;
+      error = c .flags .error;
+      offset = offsetOf (read .bit .0);
+      rows = map (shown (fieldsIn t fields (read .count)) (definition t .sets)) (rowsIn scratch (read .rows));
+    }
+
+abbrev pub Shows : List ℕ → List ℕ → ℕ → List ℕ → List ℕ → Candidate → Read → List ℕ → Decoded → List ℕ → Type 0
+Shows t d speed fields scratch c read table r table′ = Gives d speed (fitted (length table / 7) (headingRead t fields scratch c read)) table r table′
+
+-- the first candidate that holds, behind the base's P lines bs
+abbrev pub Picks : List ℕ → List ℕ → ℕ → ℕ → List Numbered → List ℕ → Decoded → List ℕ → Type 0
+Picks t d speed key bs table r table′ = Gives d speed (ofAnswer (definition t .sets) d (length table / 7) (answer 7 d (trees bs) (candidatesOf key (definition t)))) table r table′
+
+abbrev pub Reads : List ℕ → List ℕ → ℕ → ℕ → List ℕ → Decoded → List ℕ → Type 0
+Reads t d speed key table r table′ = Gives d speed (told (definition t) d (length table / 7) key) table r table′

@@ -1,0 +1,180 @@
+// The header of an MPDU, by a frame text. Counterpart of `decode_header` of frame_definition/decode.rs.
+use candidates::Choice;
+use candidates::Read;
+use candidates::choose;
+use candidates::read_base;
+use crc::check_crc;
+use frame_definition::Candidate;
+use frame_definition::Flags;
+use frame_definition::Found;
+use frame_definition::base_key;
+use frame_definition::find_base;
+use frame_text::check_frame_text;
+use header_rows::COLUMNS;
+use header_rows::write_rows;
+use paths::BitOffset;
+use refusal::Refusal;
+use text::Place;
+use text::Verdict;
+ghost use mathlib.Core.Path.{_≡_};
+ghost use Prim.Native.Nat.{_≤_};
+ghost use lib.ListN.{length};
+ghost use Rattle.text.specs.declared.Verdict.the-variants.{Accepted};
+ghost use Rattle.frame_text.specs.Rules.{verdict};
+ghost use Rattle.frame_definition.specs.Find.{FindsBase};
+ghost use Rattle.frame_definition.specs.declared.Found.the-variants.{At};
+ghost use Rattle.told.specs.Told.{offsetOf};
+ghost use Rattle.header.specs.Decode.{Decodes};
+ghost use Rattle.header.specs.Steps.{Ready, Shows, Picks, Reads};
+ghost use Rattle.candidates.specs.Read.{Roomy, baseOf, HoldsBase};
+
+// A header's answer: the H's number among the H lines, its key and flags, where the payload starts in the MPDU, whether the
+// checksum or CRC is right, and how many rows there are.
+pub struct DecodedHeader {
+    pub number: usize,
+    pub key: u16,
+    pub flags: Flags,
+    pub payload: u64,
+    pub right: bool,
+    pub rows: usize,
+}
+
+pub enum Decoded {
+    Header(DecodedHeader),
+    Refused(Refusal),
+}
+
+// The byte behind the covered bits.
+fn payload_offset(bit: BitOffset) -> u64
+    requires { ⌜ bit .0 ≤ 16384 ⌝ }
+    ensures { λ r. ⌜ r ≡ offsetOf (bit .0) ⌝ }
+{
+    (bit.0 + 7) / 8
+}
+
+// The answer for a candidate that was read, its rows in the table; or refusal 8.
+fn show(
+    text: &[u8],
+    mpdu: &[u8],
+    speed: u64,
+    fields: &[u64],
+    scratch: &[u64],
+    candidate: Candidate,
+    read: Read,
+    rows: &mut [u64],
+) -> Decoded
+    requires { ⌜ verdict (now text) ≡ Accepted ⌝ }
+    requires { ⌜ Ready (now fields) (now scratch) read ⌝ }
+    ensures { λ r.
+        ⌜ Shows (now (text .entry)) (now (mpdu .entry)) speed (now (fields .entry)) (now (scratch .entry)) candidate read (now (rows .entry)) r (now (rows .exit)) ⌝ }
+{
+    let n = read.rows;
+    if rows.len() / COLUMNS < n {
+        return Decoded::Refused(Refusal::MoreRows(n));
+    }
+    write_rows(text, fields, read.count, scratch, n, rows);
+    let flags = candidate.flags;
+    let bit = read.bit;
+    Decoded::Header(DecodedHeader {
+        number: candidate.number,
+        key: candidate.key,
+        flags,
+        payload: payload_offset(bit),
+        right: check_crc(mpdu, speed),
+        rows: n,
+    })
+}
+
+// The answer for the first candidate that holds; or refusal 7 or 8.
+fn pick(
+    text: &[u8],
+    mpdu: &[u8],
+    speed: u64,
+    key: u64,
+    fields: &mut [u64],
+    scratch: &mut [u64],
+    base: Read,
+    rows: &mut [u64],
+) -> Decoded
+    requires { ⌜ verdict (now text) ≡ Accepted ⌝ }
+    requires { ⌜ (Roomy (now mpdu) (now fields) (now scratch)) × (HoldsBase (now text) (now mpdu) (now fields) (now scratch) base) ⌝ }
+    ensures { λ r.
+        ⌜ Picks (now (text .entry)) (now (mpdu .entry)) speed key (baseOf (now (text .entry)) (now (fields .entry)) base) (now (rows .entry)) r (now (rows .exit)) ⌝ }
+{
+    let Choice::At { candidate, read } = choose(text, mpdu, key, fields, scratch, base) else {
+        return Decoded::Refused(Refusal::NoCandidate);
+    };
+    show(
+        text,
+        mpdu,
+        speed,
+        &fields[..],
+        &scratch[..],
+        candidate,
+        read,
+        rows,
+    )
+}
+
+// The header by the base whose P lines follow the place, after n P lines of the text; or refusal 7 or 8.
+fn read_header(
+    text: &[u8],
+    mpdu: &[u8],
+    speed: u64,
+    key: u64,
+    start: Place,
+    n: usize,
+    rows: &mut [u64],
+) -> Decoded
+    requires { ⌜ (verdict (now text) ≡ Accepted) × (length (now mpdu) ≤ 2048) ⌝ }
+    requires { ⌜ FindsBase (now text) key (At start n) ⌝ }
+    ensures { λ r. ⌜ Reads (now (text .entry)) (now (mpdu .entry)) speed key (now (rows .entry)) r (now (rows .exit)) ⌝ }
+{
+    let mut fields = [0u64; 1536];
+    let mut scratch = [0u64; 768];
+    let base = read_base(text, mpdu, start, n, &mut fields, &mut scratch);
+    pick(
+        text,
+        mpdu,
+        speed,
+        key,
+        &mut fields,
+        &mut scratch,
+        base,
+        rows,
+    )
+}
+
+// The header of an MPDU, its rows in the table, by a text that is accepted; or refusal 4 to 8. For many MPDUs and one text.
+pub fn decode_accepted(
+    text: &[u8],
+    mpdu: &[u8],
+    region: u64,
+    speed: u64,
+    rows: &mut [u64],
+) -> Decoded
+    requires { ⌜ verdict (now text) ≡ Accepted ⌝ }
+    ensures { λ r. ⌜ Decodes (now (text .entry)) (now (mpdu .entry)) region speed (now (rows .entry)) r (now (rows .exit)) ⌝ }
+{
+    if 2048 < mpdu.len() {
+        return Decoded::Refused(Refusal::TooLong(mpdu.len()));
+    }
+    if mpdu.len() < 2 {
+        return Decoded::Refused(Refusal::TooShort(mpdu.len()));
+    }
+    let key = base_key(text, region, speed);
+    let Found::At { place, params } = find_base(text, key as u64) else {
+        return Decoded::Refused(Refusal::NoBase(key as usize));
+    };
+    read_header(text, mpdu, speed, key as u64, place, params, rows)
+}
+
+// The header of an MPDU, its rows in the table; or refusal 1 to 8. A refusal writes nothing, an answer nothing past its last row.
+pub fn decode_header(text: &[u8], mpdu: &[u8], region: u64, speed: u64, rows: &mut [u64]) -> Decoded
+    ensures { λ r. ⌜ Decodes (now (text .entry)) (now (mpdu .entry)) region speed (now (rows .entry)) r (now (rows .exit)) ⌝ }
+{
+    match check_frame_text(text) {
+        Verdict::Accepted => decode_accepted(text, mpdu, region, speed, rows),
+        Verdict::Refused(refusal) => Decoded::Refused(refusal),
+    }
+}

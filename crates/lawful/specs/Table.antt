@@ -1,0 +1,42 @@
+-- Document 01, "Lawful reading of a header": the rows of the answer, seven numbers each.
+use mathlib.Core.List.{List, [], _∷_}
+use mathlib.Core.Option.{Option, none, some}
+use Prim.Native.Nat.{ℕ, zero, suc, _+_}
+use Rattle.frame_definition.specs.Definition.{Numbered, Set, firstSet, firstEntry}
+use Rattle.lawful.specs.Data.{Name, Node, Seen, Field}
+use Rattle.lawful.specs.Find.{valueOf, orZero}
+use Rattle.lawful.specs.Rows.{Row, isSome, rowValue, rowsEach}
+use Rattle.lawful.specs.Loaded.{saidAt, numberAt}
+
+-- "Its symbol is the first E with that key in the first D of that name": the E's number within its set, from 0, + 1, or 0
+abbrev pub entryOf : Option Set → ℕ → ℕ
+entryOf none v = 0
+entryOf (some s) v = firstEntry v 0 (s .entries)
+
+abbrev pub symbolOf : List Set → Option Name → Option ℕ → ℕ
+symbolOf sets none v = 0
+symbolOf sets (some name) none = 0
+symbolOf sets (some name) (some v) = entryOf (firstSet name sets) v
+
+-- "Row: P number among all P lines from 0, parent row + 1 or 0, start bit, bits, 1 if valued, value or 0, E number within its set, from 0, + 1 or 0."
+unfoldable pub numbersOf : {K G : Type 0} → List ℕ → List Set → ℕ → Seen (Node K) G → List ℕ
+numbersOf d sets parent f =
+    f .param .number ∷ parent ∷ f .start ∷ f .bits ∷ isSome (valueOf d f) ∷ orZero (valueOf d f) ∷ symbolOf sets (f .param .set) (valueOf d f) ∷ []
+
+-- the rows of the fields inside f, from the row `at` on, if f's own row + 1 is `at`
+unfoldable pub innerTable : (n : ℕ) → List ℕ → List Set → ℕ → Field n → List (List ℕ)
+innerTable zero d sets at f = []
+innerTable (suc n) d sets at f = rowsEach (λ m g. numbersOf d sets at g ∷ innerTable n d sets (m + 1) g) at (f .inner)
+
+-- "Parent before children, children in walk order."
+unfoldable pub tableFrom : (n : ℕ) → List ℕ → List Set → ℕ → ℕ → List (Field n) → List (List ℕ)
+tableFrom n d sets parent at fs = rowsEach (λ m g. numbersOf d sets parent g ∷ innerTable n d sets (m + 1) g) at fs
+
+-- the rows of the outer fields of a reading
+abbrev pub tableOf : (n : ℕ) → List ℕ → List Set → List (Field n) → List (List ℕ)
+tableOf n d sets fs = tableFrom n d sets 0 0 fs
+
+-- the row in the table of a row whose number is a place in a list of P lines
+unfoldable pub shown : List Numbered → List Set → Row → List ℕ
+shown ps sets r =
+    numberAt ps (r .number) ∷ r .parent ∷ r .start ∷ r .bits ∷ r .valued ∷ r .value ∷ symbolOf sets (saidAt ps (r .number) .set) (rowValue r) ∷ []

@@ -1,0 +1,350 @@
+-- Laws of the words of a request. Assumes nothing.
+use mathlib.Core.Path.{_≡_, refl, sym, ap, _∙_}
+use mathlib.Core.Bool.{Bool, true, false, cond, _&&_, and-false}
+use mathlib.Core.List.{List, [], _∷_, _++_, append-assoc, append-nil}
+use Prim.Native.Nat.{ℕ, zero, suc, _+_, _-_, _*_, _/_, _^_, _≤_, _<_}
+use native.Mathlib.Numerals.{add-one}
+use native.Mathlib.Omega.{arith}
+use lib.Dec.{ltb, eqb}
+use lib.ListN.{length, getD, set, take, drop, length-set, length-append, length-drop}
+use lib.Seq.{take-suc-set, length-take-le, take-at, drop-at}
+use mir.Syntax.{w64}
+use mir.Val.{Fits}
+use borrow.Author.Tests.{le-leb, lt-leb, lt-ltb, le-ltb, eq-eqb, ne-eqb, ltb-true, leb-false}
+use Rattle.laws.proofs.Lists.{next, done, tail}
+use Rattle.request.specs.declared.Number.{Number}
+use Rattle.request.specs.declared.Number.the-variants.{Is, Not}
+use Rattle.request.specs.declared.Leading.{Leading}
+use Rattle.request.specs.declared.Leading.the-variants.{Is as Leads, Not as NoLeading}
+use Rattle.request.specs.declared.Bytes.{Bytes}
+use Rattle.request.specs.declared.Bytes.the-variants.{Are, Not as NoBytes}
+use Rattle.request.specs.declared.Both.{Both}
+use Rattle.request.specs.declared.Both.the-variants.{Are as BothAre, Not as NotBoth}
+use Rattle.request.specs.Request.{cut, worth, digitsOf, numberOf, led, leadingOf, digitOf, Decoded, bytes, none, onto, pairsOf, isDash, bytesOf, fitting, Decodes, firstOf, secondOf, fittingBoth, InBoth, DecodesBoth}
+
+-- ---- where a byte stands
+module _ (b : ℕ) (s : List ℕ) (i : ℕ) (inv : cut b s ≡ i + cut b (drop i s)) where
+  pub cut-hit : i < length s → getD s i 0 ≡ b → i ≡ cut b s
+  cut-hit h e = rw (inv, next s i h, eq-eqb _ _ e) (omega arith)
+
+  pub cut-more : i < length s → (getD s i 0 ≡ b → ⊥) → cut b s ≡ i + 1 + cut b (drop (i + 1) s)
+  cut-more h e = rw (inv, next s i h, ne-eqb _ _ e) (omega arith)
+
+  pub cut-done : i ≤ length s → length s ≤ i → i ≡ cut b s
+  cut-done l h = rw (inv, done s i h) (omega arith)
+
+-- ---- digits
+-- more digits are worth no less
+worth-grows : (v : ℕ) (l : List ℕ) → v ≤ worth v l
+worth-grows v [] = omega arith
+worth-grows v (x ∷ xs) = omega (arith, worth-grows (v * 10 + (x - 48)) xs)
+
+-- past 2^64 - 1 no digit helps
+over : (v : ℕ) (l : List ℕ) → 2 ^ 64 ≤ v → digitsOf v l ≡ Not
+over v l h =
+    let g : 2 ^ 64 ≤ worth v l = omega (arith, worth-grows v l) in
+    rw (le-ltb (worth v l) (2 ^ 64) g, and-false)
+
+-- digits that are worth v are read
+pub record Reading (s : List ℕ) (v i : ℕ) : Type 0 where
+  pub all : digitsOf 0 s ≡ digitsOf v (drop i s)
+  pub within : i ≤ length s
+  pub fits : v < 2 ^ 64
+
+pub reading-starts : (s : List ℕ) → Reading s 0 0
+reading-starts s = record { all = refl; within = omega arith; fits = omega arith }
+
+module _ (s : List ℕ) (v i : ℕ) (p : Reading s v i) where
+  pub digits-done : length s ≤ i → Is v ≡ digitsOf 0 s
+  digits-done h = rw (p .all, done s i h, lt-ltb v (2 ^ 64) (p .fits))
+
+  module _ (more : i < length s) where
+    pub digits-low : getD s i 0 < 48 → Not ≡ digitsOf 0 s
+    digits-low l = rw (p .all, next s i more, lt-leb _ _ l)
+
+    module _ (low : 48 ≤ getD s i 0) where
+      pub digits-high : 57 < getD s i 0 → Not ≡ digitsOf 0 s
+      digits-high u = rw (p .all, next s i more, le-leb _ _ low, lt-leb _ _ u)
+
+      module _ (high : getD s i 0 ≤ 57) where
+        step : digitsOf 0 s ≡ digitsOf (v * 10 + (getD s i 0 - 48)) (drop (i + 1) s)
+        step = rw (p .all, next s i more, le-leb _ _ low, le-leb _ _ high)
+
+        pub digits-over : (18446744073709551615 - (getD s i 0 - 48)) / 10 < v → Not ≡ digitsOf 0 s
+        digits-over o = sym (step ∙ over (v * 10 + (getD s i 0 - 48)) (drop (i + 1) s) (omega arith))
+
+        pub reading-more : v ≤ (18446744073709551615 - (getD s i 0 - 48)) / 10 → Reading s (v * 10 + (getD s i 0 - 48)) (i + 1)
+        reading-more u = record { all = step; within = omega arith; fits = omega arith }
+
+-- ---- a number
+pub number-empty : (s : List ℕ) → length s ≡ 0 → Not ≡ numberOf s
+number-empty [] e = refl
+number-empty (x ∷ xs) e = absurd (omega arith)
+
+pub number-zero : (s : List ℕ) → length s ≡ 1 → getD s 0 0 ≡ 48 → Is 0 ≡ numberOf s
+number-zero [] n e = absurd (omega arith)
+number-zero (x ∷ []) n e = rw e
+number-zero (x ∷ y ∷ ys) n e = absurd (omega arith)
+
+pub number-lead : (s : List ℕ) → (length s ≡ 0 → ⊥) → (length s ≡ 1 → ⊥) → getD s 0 0 ≡ 48 → Not ≡ numberOf s
+number-lead [] n m e = absurd (n refl)
+number-lead (x ∷ []) n m e = absurd (m refl)
+number-lead (x ∷ y ∷ ys) n m e = rw (eq-eqb x 48 e)
+
+pub number-digits : (s : List ℕ) (r : Number) → (length s ≡ 0 → ⊥) → (getD s 0 0 ≡ 48 → ⊥) → r ≡ digitsOf 0 s → r ≡ numberOf s
+number-digits [] r n e d = absurd (n refl)
+number-digits (x ∷ []) r n e d = d
+number-digits (x ∷ y ∷ ys) r n e d = rw (ne-eqb x 48 e) d
+
+-- ---- a number that others follow
+module _ (s : List ℕ) (e : ℕ) (at-e : e ≡ cut 0x20 s) where
+  pub leading-alone : e ≡ length s → NoLeading ≡ leadingOf s
+  leading-alone l = rw (← at-e, le-ltb e (length s) (omega arith))
+
+  module _ (r : Number) (first : r ≡ numberOf (take e s)) (inside : e ≤ length s) (more : e ≡ length s → ⊥) where
+    pub leading-not : r ≡ Not → NoLeading ≡ leadingOf s
+    leading-not n = rw (← at-e, lt-ltb e (length s) (omega arith), ← first, n)
+
+    pub leading-is : (v : ℕ) → r ≡ Is v → Leads v (e + 1) ≡ leadingOf s
+    leading-is v n = rw (← at-e, lt-ltb e (length s) (omega arith), ← first, n)
+
+-- where the others start, there are such
+pub leading-inside : (s : List ℕ) (r : Leading) (v at : ℕ) → r ≡ leadingOf s → r ≡ Leads v at → at ≤ length s
+leading-inside s r v at is e = go (ltb (cut 0x20 s) (length s)) (numberOf (take (cut 0x20 s) s)) (ltb-true (cut 0x20 s) (length s)) (sym is ∙ e)
+  where
+    go : (t : Bool) (n : Number) → (t ≡ true → cut 0x20 s < length s) → cond t (led n (cut 0x20 s + 1)) NoLeading ≡ Leads v at → at ≤ length s
+    go true (Is m) inside q = let z : cut 0x20 s + 1 ≡ at = cc in omega (arith, inside refl)
+    go true Not inside q = absurd (let z : _≡_ {A = ℕ} 0 1 = cc in omega arith)
+    go false n inside q = absurd (let z : _≡_ {A = ℕ} 0 1 = cc in omega arith)
+
+-- ---- a hex digit
+module _ (x : ℕ) where
+  pub digit-below : x < 48 → 16 ≡ digitOf x
+  digit-below h = rw (lt-leb 48 x h, lt-leb 97 x (omega arith))
+
+  pub digit-decimal : 48 ≤ x → x ≤ 57 → x - 48 ≡ digitOf x
+  digit-decimal l u = rw (le-leb 48 x l, le-leb x 57 u)
+
+  pub digit-between : 48 ≤ x → 57 < x → x < 97 → 16 ≡ digitOf x
+  digit-between l u h = rw (le-leb 48 x l, lt-leb x 57 u, lt-leb 97 x h)
+
+  pub digit-letter : 48 ≤ x → 57 < x → 97 ≤ x → x ≤ 102 → x - 87 ≡ digitOf x
+  digit-letter l u h v = rw (le-leb 48 x l, lt-leb x 57 u, le-leb 97 x h, le-leb x 102 v)
+
+  pub digit-above : 48 ≤ x → 57 < x → 97 ≤ x → 102 < x → 16 ≡ digitOf x
+  digit-above l u h v = rw (le-leb 48 x l, lt-leb x 57 u, le-leb 97 x h, lt-leb x 102 v)
+
+-- ---- pairs of hex digits
+-- an odd number of digits
+odd-none : (w : List ℕ) (k : ℕ) → length w ≡ k * 2 + 1 → pairsOf w ≡ none
+odd-none [] k h = absurd (omega arith)
+odd-none (x ∷ []) k h = refl
+odd-none (x ∷ y ∷ l) zero h = absurd (omega arith)
+odd-none (x ∷ y ∷ l) (suc k) h = go (ltb (digitOf x) 16 && ltb (digitOf y) 16) (pairsOf l) (odd-none l k (omega arith))
+  where
+    go : (t : Bool) (d : Decoded) → d ≡ none → cond t (onto ((digitOf x * 16 + digitOf y) ∷ []) d) none ≡ none
+    go true d e = rw e
+    go false d e = refl
+
+pub pairs-odd : (w held : List ℕ) → (length w ≡ length w / 2 * 2 → ⊥) → Decodes (pairsOf w) held NoBytes
+pairs-odd w held h = rw (odd-none w (length w / 2) (omega arith))
+
+-- more bytes than there is room for
+long-none : (w : List ℕ) (room : ℕ) → room * 2 < length w → fitting room (pairsOf w) ≡ false
+long-none [] room h = absurd (omega arith)
+long-none (x ∷ []) room h = refl
+long-none (x ∷ y ∷ l) room h = go (ltb (digitOf x) 16 && ltb (digitOf y) 16) room h (λ (k : ℕ) (less : k * 2 < length l). long-none l k less)
+  where
+    one : (room : ℕ) (d : Decoded) → fitting room d ≡ false → fitting (suc room) (onto ((digitOf x * 16 + digitOf y) ∷ []) d) ≡ false
+    one room (bytes l) e = lt-leb (suc (length l)) (suc room) (omega (arith, leb-false (length l) room e))
+    one room none e = refl
+
+    no-room : (d : Decoded) → fitting 0 (onto ((digitOf x * 16 + digitOf y) ∷ []) d) ≡ false
+    no-room (bytes l) = lt-leb (suc (length l)) 0 (omega arith)
+    no-room none = refl
+
+    go : (t : Bool) (room : ℕ) → room * 2 < suc (suc (length l)) → ((k : ℕ) → k * 2 < length l → fitting k (pairsOf l) ≡ false) → fitting room (cond t (onto ((digitOf x * 16 + digitOf y) ∷ []) (pairsOf l)) none) ≡ false
+    go true zero h ih = no-room (pairsOf l)
+    go true (suc room) h ih = one room (pairsOf l) (ih room (omega arith))
+    go false room h ih = refl
+
+pub pairs-long : (w held : List ℕ) → length held < length w / 2 → Decodes (pairsOf w) held NoBytes
+pairs-long w held h = long-none w (length held) (omega arith)
+
+onto-onto : (a b : List ℕ) (d : Decoded) → onto a (onto b d) ≡ onto (a ++ b) d
+onto-onto a b (bytes l) = ap bytes (sym (append-assoc a b l))
+onto-onto a b none = refl
+
+-- i of n bytes are decoded
+pub record Pairing (w held : List ℕ) (room n i : ℕ) : Type 0 where
+  pub all : pairsOf w ≡ onto (take i held) (pairsOf (drop (i * 2) w))
+  pub within : i ≤ n
+  pub same : length held ≡ room
+
+pub pairing-starts : (w held : List ℕ) (n : ℕ) → Pairing w held (length held) n 0
+pairing-starts w held n = record { all = from-none (pairsOf w); within = omega arith; same = refl }
+  where
+    from-none : (d : Decoded) → d ≡ onto [] d
+    from-none (bytes l) = refl
+    from-none none = refl
+
+module _ (w held : List ℕ) (room n i : ℕ) (p : Pairing w held room n i) (even : length w ≡ n * 2) (fits : n ≤ room) where
+  pub pairs-held : n ≤ length held
+  pairs-held = omega (arith, p .same)
+
+  pub pairs-done : n ≤ i → pairsOf w ≡ bytes (take n held)
+  pairs-done u =
+      let e : i ≡ n = omega (arith, p .within) in
+      let end : drop (n * 2) w ≡ [] = done w (n * 2) (omega arith) in
+      p .all ∙ rw (e, end, append-nil)
+
+  module _ (high : ℕ) (is-high : high ≡ digitOf (getD w (i * 2) 0)) (more : i < n) where
+    left : drop (i * 2) w ≡ getD w (i * 2) 0 ∷ getD w (i * 2 + 1) 0 ∷ drop ((i + 1) * 2) w
+    left =
+        let e : (i + 1) * 2 ≡ i * 2 + 1 + 1 = omega arith in
+        next w (i * 2) (omega arith) ∙ rw (e, next w (i * 2 + 1) (omega arith))
+
+    pub pairs-high : 16 ≤ high → Decodes (pairsOf w) held NoBytes
+    pairs-high h = rw (p .all, left, ← is-high, le-ltb high 16 h)
+
+    module _ (low : ℕ) (is-low : low ≡ digitOf (getD w (i * 2 + 1) 0)) (small : high < 16) where
+      pub pairs-low : 16 ≤ low → Decodes (pairsOf w) held NoBytes
+      pairs-low h = rw (p .all, left, ← is-high, ← is-low, lt-ltb high 16 small, le-ltb low 16 h)
+
+      pub pairing-more : low < 16 → Pairing w (set held i (high * 16 + low)) room n (i + 1)
+      pairing-more h =
+          let byte = high * 16 + low in
+          let e : take (i + 1) (set held i byte) ≡ take i held ++ (byte ∷ []) = rw add-one (take-suc-set held i byte (omega (arith, p .same))) in
+          record {
+            all = rw (p .all, left, ← is-high, ← is-low, lt-ltb high 16 small, lt-ltb low 16 h, e) (onto-onto (take i held) (byte ∷ []) (pairsOf (drop ((i + 1) * 2) w)));
+            within = omega arith;
+            same = rw length-set (p .same);
+          }
+
+-- ---- the bytes of a word
+pub dash-is : (w : List ℕ) (b : Bool) → length w ≡ 1 → b ≡ eqb (getD w 0 0) 45 → b ≡ isDash w
+dash-is [] b n e = absurd (omega arith)
+dash-is (x ∷ []) b n e = e
+dash-is (x ∷ y ∷ l) b n e = absurd (omega arith)
+
+pub dash-not : (w : List ℕ) → (length w ≡ 1 → ⊥) → false ≡ isDash w
+dash-not [] n = refl
+dash-not (x ∷ []) n = absurd (n refl)
+dash-not (x ∷ y ∷ l) n = refl
+
+module _ (w held : List ℕ) where
+  pub bytes-empty : length w ≡ 0 → Decodes (bytesOf w) held NoBytes
+  bytes-empty e = go w e
+    where
+      go : (w : List ℕ) → length w ≡ 0 → fitting (length held) (bytesOf w) ≡ false
+      go [] e = refl
+      go (x ∷ l) e = absurd (omega arith)
+
+  module _ (d : Bool) (is-dash : d ≡ isDash w) where
+    pub bytes-none : d ≡ true → bytesOf w ≡ bytes []
+    bytes-none e = go w (sym is-dash ∙ e)
+      where
+        go : (w : List ℕ) → isDash w ≡ true → bytesOf w ≡ bytes []
+        go [] t = cc
+        go (x ∷ l) t = rw t
+
+    pub bytes-pairs : (r : Bytes) → (length w ≡ 0 → ⊥) → d ≡ false → Decodes (pairsOf w) held r → Decodes (bytesOf w) held r
+    bytes-pairs r some e told = rw (same w some (sym is-dash ∙ e)) told
+      where
+        same : (w : List ℕ) → (length w ≡ 0 → ⊥) → isDash w ≡ false → bytesOf w ≡ pairsOf w
+        same [] n t = absurd (n refl)
+        same (x ∷ l) n t = rw t
+
+-- the bytes that are decoded lie in the buffer
+pub decoded-inside : (d : Decoded) (held : List ℕ) (r : Bytes) (n : ℕ) → Decodes d held r → r ≡ Are n → n ≤ length held
+decoded-inside d held (Are m) n told e = let z : m ≡ n = cc in rw (← z) (told .0)
+decoded-inside d held NoBytes n told e = absurd (let z : _≡_ {A = ℕ} 0 1 = cc in omega arith)
+
+-- ---- two words of bytes
+-- the first n of a list are n
+pub taken : (s : List ℕ) (n : ℕ) → n ≤ length s → n ≡ length (take n s)
+taken s n h = sym (length-take-le n s h)
+
+-- there is no second word
+pub both-alone : (w held : List ℕ) (e : ℕ) → e ≡ cut 0x20 w → e ≡ length w → DecodesBoth (firstOf w) (secondOf w) held NotBoth
+both-alone w held e at-e l =
+    let end : drop (cut 0x20 w + 1) w ≡ [] = done w (cut 0x20 w + 1) (omega arith) in
+    rw end (go (firstOf w))
+  where
+    go : (a : Decoded) → fittingBoth (length held) a none ≡ false
+    go (bytes l) = rw and-false
+    go none = refl
+
+module _ (w held : List ℕ) (e : ℕ) (at-e : e ≡ cut 0x20 w) (r : Bytes) (told : Decodes (bytesOf (take e w)) held r) where
+  pub both-first : r ≡ NoBytes → DecodesBoth (firstOf w) (secondOf w) held NotBoth
+  both-first is = rw (← at-e) (go (bytesOf (take e w)) (bytesOf (drop (e + 1) w)) (rw is at told))
+    where
+      go : (a b : Decoded) → fitting (length held) a ≡ false → fittingBoth (length held) a b ≡ false
+      go (bytes l) b f = rw f
+      go none b f = refl
+
+  -- the second's bytes go into the rest of the buffer, which is ys then
+  module _ (n : ℕ) (are : r ≡ Are n) (ys : List ℕ) (kept : length ys ≡ length (take (length held - n) (drop n held))) (q : Bytes) (next : Decodes (bytesOf (take (length w - (e + 1)) (drop (e + 1) w))) ys q) where
+    first : (n ≤ length held) × (bytesOf (take e w) ≡ bytes (take n held))
+    first = rw are at told
+
+    same : length ys ≡ length held - n
+    same = kept ∙ rw (tail held n, length-drop)
+
+    abbrev after : List ℕ
+    after = take n held ++ (ys ++ drop (length held - n) (drop n held))
+
+    front : after ≡ take n held ++ ys
+    front = let end : drop (length held - n) (drop n held) ≡ [] = done (drop n held) (length held - n) (rw length-drop (omega arith)) in rw (end, append-nil)
+
+    long : length (take n held) ≡ n
+    long = length-take-le n held (first .0)
+
+    whole : length (take n held ++ ys) ≡ length held
+    whole = rw (length-append, long, same) (omega (arith, first .0))
+
+    then : Decodes (secondOf w) ys q
+    then = rw (tail w (e + 1), at-e) at next
+
+    start : firstOf w ≡ bytes (take n held)
+    start = rw (← at-e) (first .1)
+
+    pub both-second : q ≡ NoBytes → DecodesBoth (firstOf w) (secondOf w) after NotBoth
+    both-second is =
+        let f : fitting (length ys) (secondOf w) ≡ false = rw is at then in
+        rw (front, whole, start, long, ← same, f, and-false)
+
+    pub both-fits : (m : ℕ) (lent : List ℕ) → q ≡ Are m → length held ≡ length lent → length lent * 1 < 2 ^ 63 → Fits w64 (n + m)
+    both-fits m lent is l room =
+        let second : (m ≤ length ys) × (secondOf w ≡ bytes (take m ys)) = rw is at then in
+        omega (arith, second .0, first .0, same)
+
+    pub both-are : (m : ℕ) → q ≡ Are m → InBoth (firstOf w) (secondOf w) after n (n + m)
+    both-are m is =
+        let second : (m ≤ length ys) × (secondOf w ≡ bytes (take m ys)) = rw is at then in
+        let less : n + m - n ≡ m = omega arith in
+        rw front (record {
+          ordered = omega arith;
+          inside = rw whole (omega (arith, second .0, first .0, same));
+          first = rw (take-at (take n held) ys n long) start;
+          second = rw (less, drop-at (take n held) ys n long) (second .1);
+        })
+
+-- the bytes of both words that are decoded lie in the buffer
+module _ (a b : Decoded) (held : List ℕ) (r : Both) (n e : ℕ) (told : DecodesBoth a b held r) (is : r ≡ BothAre n e) where
+  both : InBoth a b held n e
+  both = rw is at told
+
+  pub both-ordered : n ≤ e
+  both-ordered = both .ordered
+
+  pub both-inside : e ≤ length held
+  both-inside = both .inside
+
+  pub both-starts : n ≤ length held
+  both-starts = omega (arith, both .ordered, both .inside)
+
+pub ruleset request-laws = (cut-hit, cut-more, cut-done, reading-starts, digits-done, digits-low, digits-high, digits-over, reading-more, number-empty, number-zero, number-lead, number-digits, leading-alone, leading-not, leading-is, leading-inside, digit-below, digit-decimal, digit-between, digit-letter, digit-above, pairs-odd, pairs-long, pairing-starts, pairs-held, pairs-done, pairs-high, pairs-low, pairing-more, dash-is, dash-not, bytes-empty, bytes-none, bytes-pairs, decoded-inside, taken, both-alone, both-first, both-second, both-fits, both-are, both-ordered, both-inside, both-starts)
+
+-- The laws that the proofs of this crate's functions go by.
+pub ruleset laws = (request-laws)

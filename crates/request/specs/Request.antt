@@ -1,0 +1,114 @@
+-- The words of a request: decimal numbers, and bytes in hex. A word is a list of bytes.
+use mathlib.Core.Path.{_≡_}
+use Prim.Native.Nat.{ℕ, suc, _+_, _-_, _*_, _^_, _≤_}
+use mathlib.Core.Bool.{Bool, true, false, cond, not, _&&_}
+use mathlib.Core.List.{List, [], _∷_, _++_}
+use lib.ListN.{length, take, drop}
+use lib.Dec.{ltb, leb, eqb}
+use Rattle.request.specs.declared.Number.{Number}
+use Rattle.request.specs.declared.Number.the-variants.{Is, Not}
+use Rattle.request.specs.declared.Leading.{Leading}
+use Rattle.request.specs.declared.Leading.the-variants.{Is as Leads, Not as NoLeading}
+use Rattle.request.specs.declared.Bytes.{Bytes}
+use Rattle.request.specs.declared.Bytes.the-variants.{Are, Not as NoBytes}
+use Rattle.request.specs.declared.Both.{Both}
+use Rattle.request.specs.declared.Both.the-variants.{Are as BothAre, Not as NotBoth}
+
+-- where the first b stands in l, or l's length where there is none
+abbrev pub cut : ℕ → List ℕ → ℕ
+cut b [] = 0
+cut b (x ∷ xs) = cond (eqb x b) 0 (suc (cut b xs))
+
+-- ---- "Numbers are decimal", without leading zeros and at most 2^64 - 1
+-- every byte is a digit
+abbrev pub allDigits : List ℕ → Bool
+allDigits [] = true
+allDigits (x ∷ xs) = leb 48 x && (leb x 57 && allDigits xs)
+
+-- what digits are worth, after digits that are worth v
+abbrev pub worth : ℕ → List ℕ → ℕ
+worth v [] = v
+worth v (x ∷ xs) = worth (v * 10 + (x - 48)) xs
+
+-- the number that digits say, after digits that are worth v
+abbrev pub digitsOf : ℕ → List ℕ → Number
+digitsOf v l = cond (allDigits l && ltb (worth v l) (2 ^ 64)) (Is (worth v l)) Not
+
+-- one digit, or digits of which the first is not 0
+abbrev pub plain : List ℕ → Bool
+plain [] = false
+plain (x ∷ []) = true
+plain (x ∷ y ∷ ys) = not (eqb x 48)
+
+abbrev pub numberOf : List ℕ → Number
+numberOf l = cond (plain l) (digitsOf 0 l) Not
+
+-- the number that words start with where others follow it, and where these start: words are "parted by one space"
+abbrev pub led : Number → ℕ → Leading
+led (Is n) at = Leads n at
+led Not at = NoLeading
+
+abbrev pub leadingOf : List ℕ → Leading
+leadingOf l = cond (ltb (cut 0x20 l) (length l)) (led (numberOf (take (cut 0x20 l) l)) (cut 0x20 l + 1)) NoLeading
+
+-- ---- "Bytes are lower-case hex without spaces, `-` for none"
+-- what a digit says; 16 for a byte that is none
+abbrev pub digitOf : ℕ → ℕ
+digitOf x = cond (leb 48 x && leb x 57) (x - 48) (cond (leb 97 x && leb x 102) (x - 87) 16)
+
+pub data Decoded : Type 0 where
+  bytes : List ℕ → Decoded
+  none : Decoded
+
+-- bytes in front of what is decoded
+abbrev pub onto : List ℕ → Decoded → Decoded
+onto front (bytes l) = bytes (front ++ l)
+onto front none = none
+
+abbrev pub pairsOf : List ℕ → Decoded
+pairsOf [] = bytes []
+pairsOf (x ∷ []) = none
+pairsOf (x ∷ y ∷ l) = cond (ltb (digitOf x) 16 && ltb (digitOf y) 16) (onto ((digitOf x * 16 + digitOf y) ∷ []) (pairsOf l)) none
+
+abbrev pub isDash : List ℕ → Bool
+isDash [] = false
+isDash (x ∷ []) = eqb x 0x2d
+isDash (x ∷ y ∷ l) = false
+
+abbrev pub bytesOf : List ℕ → Decoded
+bytesOf [] = none
+bytesOf (x ∷ l) = cond (isDash (x ∷ l)) (bytes []) (pairsOf (x ∷ l))
+
+-- there are bytes, and so much room is enough for them
+abbrev pub fitting : ℕ → Decoded → Bool
+fitting room (bytes l) = leb (length l) room
+fitting room none = false
+
+-- what is answered of a word's bytes d, once a buffer holds those that are decoded
+abbrev pub Decodes : Decoded → List ℕ → Bytes → Type 0
+Decodes d held (Are n) = (n ≤ length held) × (d ≡ bytes (take n held))
+Decodes d held NoBytes = fitting (length held) d ≡ false
+
+-- ---- two words of bytes
+abbrev pub firstOf : List ℕ → Decoded
+firstOf l = bytesOf (take (cut 0x20 l) l)
+
+abbrev pub secondOf : List ℕ → Decoded
+secondOf l = bytesOf (drop (cut 0x20 l + 1) l)
+
+-- there are bytes of both, and so much room is enough for them
+abbrev pub fittingBoth : ℕ → Decoded → Decoded → Bool
+fittingBoth room (bytes l) d = leb (length l) room && fitting (room - length l) d
+fittingBoth room none d = false
+
+-- the first word's bytes end at n, where the second's start, and these at e
+pub record InBoth (a b : Decoded) (held : List ℕ) (n e : ℕ) : Type 0 where
+  pub ordered : n ≤ e
+  pub inside : e ≤ length held
+  pub first : a ≡ bytes (take n held)
+  pub second : b ≡ bytes (take (e - n) (drop n held))
+
+-- what is answered of two words' bytes a and b, once a buffer holds those that are decoded
+abbrev pub DecodesBoth : Decoded → Decoded → List ℕ → Both → Type 0
+DecodesBoth a b held (BothAre n e) = InBoth a b held n e
+DecodesBoth a b held NotBoth = fittingBoth (length held) a b ≡ false

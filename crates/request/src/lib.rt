@@ -1,0 +1,237 @@
+// The words of a request: which one it starts with, decimal numbers, and bytes in hex.
+use check::same;
+ghost use mathlib.Core.Path.{_≡_};
+ghost use Prim.Native.Nat.{_≤_};
+ghost use lib.ListN.{length};
+ghost use Rattle.request.specs.Request.{cut, numberOf, digitsOf, leadingOf, digitOf, pairsOf, isDash, bytesOf, Decodes, firstOf, secondOf, DecodesBoth};
+
+// The words that a request starts with.
+pub enum Word {
+    Rate,
+    Count,
+    Body,
+    Record,
+    Frames,
+    Frametable,
+    Frametext,
+    Commandtext,
+    Header,
+    Bits,
+    Checksum,
+    Unknown,
+}
+
+// What a word says as a number.
+pub enum Number {
+    Is(u64),
+    Not,
+}
+
+// What words say of which the first is a number and others follow it: the number, and where the others start.
+pub enum Leading {
+    Is(u64, usize),
+    Not,
+}
+
+// What a word says as bytes: how many, all of them decoded.
+pub enum Bytes {
+    Are(usize),
+    Not,
+}
+
+// What two words say as bytes, the second's behind the first's: where the second's start and end, all of them decoded.
+pub enum Both {
+    Are(usize, usize),
+    Not,
+}
+
+// Where the first b stands in s, or s's length where there is none.
+pub fn find(s: &[u8], b: u8) -> usize
+    ensures { λ r. ⌜ (r ≡ cut b (now (s .entry))) × (r ≤ length (now (s .entry))) ⌝ }
+{
+    let mut i = 0;
+    while i < s.len() {
+        if s[i] == b {
+            return i;
+        }
+        i += 1;
+    }
+    i
+}
+
+pub fn word_of(word: &[u8]) -> Word {
+    if same(word, b"rate") {
+        return Word::Rate;
+    }
+    if same(word, b"count") {
+        return Word::Count;
+    }
+    if same(word, b"body") {
+        return Word::Body;
+    }
+    if same(word, b"record") {
+        return Word::Record;
+    }
+    if same(word, b"frames") {
+        return Word::Frames;
+    }
+    if same(word, b"frametable") {
+        return Word::Frametable;
+    }
+    if same(word, b"frametext") {
+        return Word::Frametext;
+    }
+    if same(word, b"commandtext") {
+        return Word::Commandtext;
+    }
+    if same(word, b"header") {
+        return Word::Header;
+    }
+    if same(word, b"bits") {
+        return Word::Bits;
+    }
+    if same(word, b"checksum") {
+        return Word::Checksum;
+    }
+    Word::Unknown
+}
+
+// The number that digits say, if it is at most 2^64 - 1. A leading 0 counts as any digit.
+fn read_digits(word: &[u8]) -> Number
+    ensures { λ r. ⌜ r ≡ digitsOf 0 (now (word .entry)) ⌝ }
+{
+    let mut v: u64 = 0;
+    let mut i = 0;
+    while i < word.len() {
+        let b = word[i];
+        if b < b'0' {
+            return Number::Not;
+        }
+        if b'9' < b {
+            return Number::Not;
+        }
+        let d = (b - b'0') as u64;
+        if (18446744073709551615 - d) / 10 < v {
+            return Number::Not;
+        }
+        v = v * 10 + d;
+        i += 1;
+    }
+    Number::Is(v)
+}
+
+// The number that a word says: at most 2^64 - 1, without leading zeros.
+pub fn read_number(word: &[u8]) -> Number
+    ensures { λ r. ⌜ r ≡ numberOf (now (word .entry)) ⌝ }
+{
+    if word.len() == 0 {
+        return Number::Not;
+    }
+    if word[0] == b'0' {
+        if word.len() == 1 {
+            return Number::Is(0);
+        }
+        return Number::Not;
+    }
+    read_digits(word)
+}
+
+// The number that words start with, and where the others start.
+pub fn read_leading(words: &[u8]) -> Leading
+    ensures { λ r. ⌜ r ≡ leadingOf (now (words .entry)) ⌝ }
+{
+    let e = find(words, b' ');
+    if e == words.len() {
+        return Leading::Not;
+    }
+    let Number::Is(n) = read_number(&words[..e]) else {
+        return Leading::Not;
+    };
+    Leading::Is(n, e + 1)
+}
+
+// What a hex digit says, in lower case; 16 for what is none.
+fn read_digit(b: u8) -> u8
+    ensures { λ r. ⌜ r ≡ digitOf b ⌝ }
+{
+    if b < b'0' {
+        return 16;
+    }
+    if b <= b'9' {
+        return b - b'0';
+    }
+    if b < b'a' {
+        return 16;
+    }
+    if b <= b'f' {
+        return b - 87;
+    }
+    16
+}
+
+fn is_dash(word: &[u8]) -> bool
+    ensures { λ r. ⌜ r ≡ isDash (now (word .entry)) ⌝ }
+{
+    if word.len() == 1 {
+        word[0] == b'-'
+    } else {
+        false
+    }
+}
+
+// The bytes that pairs of hex digits say.
+fn read_pairs(word: &[u8], bytes: &mut [u8]) -> Bytes
+    ensures { λ r. ⌜ Decodes (pairsOf (now (word .entry))) (now (bytes .exit)) r ⌝ }
+{
+    let n = word.len() / 2;
+    if word.len() != n * 2 {
+        return Bytes::Not;
+    }
+    if bytes.len() < n {
+        return Bytes::Not;
+    }
+    let mut i = 0;
+    while i < n {
+        let high = read_digit(word[i * 2]);
+        if 16 <= high {
+            return Bytes::Not;
+        }
+        let low = read_digit(word[i * 2 + 1]);
+        if 16 <= low {
+            return Bytes::Not;
+        }
+        bytes[i] = high * 16 + low;
+        i += 1;
+    }
+    Bytes::Are(n)
+}
+
+// The bytes that a word says: pairs of hex digits, or `-` for none. More bytes than the buffer holds are not decoded.
+pub fn read_bytes(word: &[u8], bytes: &mut [u8]) -> Bytes
+    ensures { λ r. ⌜ Decodes (bytesOf (now (word .entry))) (now (bytes .exit)) r ⌝ }
+{
+    if word.len() == 0 {
+        return Bytes::Not;
+    }
+    if is_dash(word) {
+        return Bytes::Are(0);
+    }
+    read_pairs(word, bytes)
+}
+
+// The bytes that two words say. They have to have room in the buffer together.
+pub fn read_both(words: &[u8], bytes: &mut [u8]) -> Both
+    ensures { λ r. ⌜ DecodesBoth (firstOf (now (words .entry))) (secondOf (now (words .entry))) (now (bytes .exit)) r ⌝ }
+{
+    let e = find(words, b' ');
+    if e == words.len() {
+        return Both::Not;
+    }
+    let Bytes::Are(n) = read_bytes(&words[..e], bytes) else {
+        return Both::Not;
+    };
+    let Bytes::Are(m) = read_bytes(&words[e + 1..], &mut bytes[n..]) else {
+        return Both::Not;
+    };
+    Both::Are(n, n + m)
+}

@@ -1,0 +1,4 @@
+pub mod Told
+pub mod Accepted
+pub mod Untyped
+pub mod Steps

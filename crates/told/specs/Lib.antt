@@ -1,0 +1,4 @@
+pub mod Told
+pub mod Says
+pub mod Steps
+mod Examples

@@ -1,0 +1,94 @@
+-- Laws of the rows that the walks answer. Assumes nothing.
+use mathlib.Core.Path.{_≡_}
+use mathlib.Core.List.{List}
+use Prim.Native.Nat.{ℕ, _+_, _-_, _*_, _^_, _≤_, _<_}
+use native.Mathlib.Nat.{mul-le-mul}
+use native.Mathlib.Omega.{arith}
+use lib.ListN.{length, take, drop, length-drop}
+use mir.Syntax.{w64}
+use mir.Val.{Fits}
+use Rattle.laws.proofs.Lists.{tail}
+use Rattle.header.specs.declared.DecodedHeader.{DecodedHeader}
+use Rattle.header.specs.declared.Decoded.{Decoded}
+use Rattle.header.specs.declared.Decoded.the-variants.{Header}
+use Rattle.request.proofs.Laws.{taken, request-laws}
+use Rattle.answer.specs.Table.{Ample}
+use Rattle.answer.proofs.Laws.{answer-laws}
+use Rattle.walk_requests.specs.declared.Table.{Table}
+use Rattle.walk_requests.specs.declared.Table.the-variants.{Of}
+use Rattle.walk_requests.specs.declared.Radio.{Radio}
+use Rattle.walk_requests.specs.declared.Radio.the-variants.{Is}
+use Rattle.walk_requests.specs.declared.Asked.{Asked}
+use Rattle.walk_requests.specs.declared.Asked.the-variants as asked
+use Rattle.walk_requests.proofs.HeaderLaws.{header-stands}
+use Rattle.walk_requests.specs.Walks.{Tables, Tunes, Inside, Asks, StandHeader}
+
+-- ---- a request
+-- the first n of a list, of which the first n to e are lent too, are n
+pub taken-before : (s : List ℕ) (n e : ℕ) → n ≤ e → e ≤ length s → n ≡ length (take n s)
+taken-before s n e l h = taken s n (omega arith)
+
+-- the numbers of a table
+module _ (cap width : ℕ) (few : cap ≤ 16384) (narrow : width ≤ 9) where
+  most : cap * width ≤ 147456
+  most = omega (arith, mul-le-mul few narrow)
+
+  pub table-fits : Fits w64 (cap * width)
+  table-fits = omega (arith, most)
+
+  pub table-few : cap * width ≤ 147456
+  table-few = most
+
+module _ (words : List ℕ) (r : Table) (numbers at : ℕ) (told : Tables words r) (is : r ≡ Of numbers at) where
+  table : (numbers ≤ 147456) × (at ≤ length words)
+  table = rw is at told
+
+  pub table-most : numbers ≤ 147456
+  table-most = table .0
+
+  pub table-room : (rows : List ℕ) → Ample rows → numbers ≤ length rows
+  table-room rows h = omega (arith, table .0)
+
+  pub table-words : at ≤ length words
+  table-words = table .1
+
+pub radio-words : (words : List ℕ) (r : Radio) (region speed at : ℕ) → Tunes words r → r ≡ Is region speed at → at ≤ length words
+radio-words words r region speed at told is = rw is at told
+
+-- where the words start behind two numbers
+module _ (words : List ℕ) (at from : ℕ) (first : at ≤ length words) (second : from ≤ length (take (length words - at) (drop at words))) where
+  behind : at + from ≤ length words
+  behind = omega (arith, first, rw (tail words at, length-drop) at second)
+
+  pub radio-fits : length words * 1 < 2 ^ 63 → Fits w64 (at + from)
+  radio-fits room = omega (arith, behind)
+
+  pub radio-inside : at + from ≤ length words
+  radio-inside = behind
+
+module _ (held : List ℕ) (r : Asked) (numbers region speed n end : ℕ) (told : Asks held r) (is : r ≡ asked.Header numbers region speed n end) where
+  inside : Inside held numbers n end
+  inside = rw is at told
+
+  pub asked-room : (rows : List ℕ) → Ample rows → numbers ≤ length rows
+  asked-room rows h = omega (arith, inside .few)
+
+  pub asked-ordered : n ≤ end
+  asked-ordered = inside .ordered
+
+  pub asked-within : end ≤ length held
+  asked-within = inside .within
+
+-- ---- an answer
+-- as many rows as are answered stand in the table
+pub header-inside : (t : List ℕ) (r : Decoded) (h : DecodedHeader) → StandHeader t r → r ≡ Header h → h .rows * 7 ≤ length t
+header-inside t r h told is = rw is at told
+
+module _ (t : List ℕ) (room : length t * 8 < 2 ^ 63) where
+  pub header-fits : (r : Decoded) (h : DecodedHeader) → StandHeader t r → r ≡ Header h → Fits w64 (h .rows * 7)
+  header-fits r h told is = omega (arith, room, header-inside t r h told is)
+
+pub ruleset walk-laws = (taken-before, table-fits, table-few, table-most, table-room, table-words, radio-words, radio-fits, radio-inside, asked-room, asked-ordered, asked-within, header-fits, header-stands, header-inside)
+
+-- The laws that the proofs of this crate's functions go by.
+pub ruleset laws = (request-laws, answer-laws, walk-laws)

@@ -1,0 +1,2 @@
+mod HeaderLaws
+mod Laws

@@ -1,0 +1,36 @@
+-- The requests for the two walks, their answers, and the tables that they were lent.
+use Prim.Native.Nat.{ℕ, _*_, _≤_}
+use mathlib.Core.List.{List}
+use lib.ListN.{length}
+use Rattle.header.specs.declared.Decoded.{Decoded}
+use Rattle.header.specs.declared.Decoded.the-variants.{Header, Refused as NoHeader}
+use Rattle.walk_requests.specs.declared.Table.{Table}
+use Rattle.walk_requests.specs.declared.Table.the-variants.{Of, Not as NoTable}
+use Rattle.walk_requests.specs.declared.Radio.{Radio}
+use Rattle.walk_requests.specs.declared.Radio.the-variants.{Is, Not as NoRadio}
+use Rattle.walk_requests.specs.declared.Asked.{Asked}
+use Rattle.walk_requests.specs.declared.Asked.the-variants as asked
+
+-- no more than 16,384 rows of nine numbers; the other words start inside
+abbrev pub Tables : List ℕ → Table → Type 0
+Tables words (Of numbers at) = (numbers ≤ 147456) × (at ≤ length words)
+Tables words NoTable = Unit
+
+abbrev pub Tunes : List ℕ → Radio → Type 0
+Tunes words (Is region speed at) = at ≤ length words
+Tunes words NoRadio = Unit
+
+-- such a table, and bytes that the buffer holds
+pub record Inside (held : List ℕ) (numbers n end : ℕ) : Type 0 where
+  pub few : numbers ≤ 147456
+  pub ordered : n ≤ end
+  pub within : end ≤ length held
+
+abbrev pub Asks : List ℕ → Asked → Type 0
+Asks held (asked.Header numbers region speed n end) = Inside held numbers n end
+Asks held asked.Not = Unit
+
+-- as many rows as are answered stand in the table, seven numbers each
+abbrev pub StandHeader : List ℕ → Decoded → Type 0
+StandHeader table (Header h) = h .rows * 7 ≤ length table
+StandHeader table (NoHeader x) = Unit
