@@ -11,11 +11,32 @@ use crate::definition::{self, Definition};
 use crate::limits;
 use crate::refusal::Refusal;
 use crate::request::{Request, push_hex};
+use crate::rows::within_table;
+use crate::{reading, source};
 
-/// The answer to a line, without its 0x0A.
+/// An answer, without its 0x0A.
+pub struct Answer {
+    pub line: String,
+    /// The Rust has none, since a number on its way passes 64 bits: this is document 01's.
+    pub is_past_the_rust: bool,
+}
+
+impl From<Result<String, Refusal>> for Answer {
+    fn from(answer: Result<String, Refusal>) -> Answer {
+        let line = answer.unwrap_or_else(|refusal| refusal.to_string());
+        Answer { line, is_past_the_rust: false }
+    }
+}
+
+/// The line that answers a line.
 pub fn answer(line: &[u8]) -> String {
+    full_answer(line).line
+}
+
+/// The answer to a line.
+pub fn full_answer(line: &[u8]) -> Answer {
     let Some(request) = Request::read(line) else {
-        return "bad request".to_string();
+        return Ok("bad request".to_string()).into();
     };
     let answer = match &request {
         Request::Rate { channel, region } => Ok(rate(*channel, *region)),
@@ -26,10 +47,15 @@ pub fn answer(line: &[u8]) -> String {
         Request::Frametable { cap, payload } => frames("frametable", *cap, payload),
         Request::Frametext { text } => verdict::<FrameDefinition>(text),
         Request::Commandtext { text } => verdict::<CommandDefinition>(text),
+        Request::Header { cap, region, speed, text, mpdu } => {
+            return header(*cap, *region, *speed, text, mpdu)
+                .unwrap_or_else(|refusal| Err(refusal).into());
+        }
+        Request::Command { cap, text, payload } => command(*cap, text, payload),
         Request::Bits { place, width, bytes } => Ok(bits(*place, *width, bytes)),
         Request::Checksum { speed, mpdu } => Ok(checksum(*speed, mpdu)),
     };
-    answer.unwrap_or_else(|refusal| refusal.to_string())
+    answer.into()
 }
 
 /// Refusal 4: the bytes are more than the limit.
@@ -124,6 +150,30 @@ fn push_row(frame: &PtiFrame, start: usize, answer: &mut String) {
 /// The check of a definition text, which the Rust does not have.
 fn verdict<D: Definition>(text: &[u8]) -> Result<String, Refusal> {
     definition::read::<D>(text).map(|_| "accepted".to_string())
+}
+
+/// The Rust's answer, or that of the second reading where the Rust has none.
+fn header(cap: u64, region: u64, speed: u64, text: &[u8], mpdu: &[u8]) -> Result<Answer, Refusal> {
+    let definition: FrameDefinition = definition::read(text)?;
+    within(limits::MPDU, mpdu)?;
+    let (decoded, is_past_the_rust) =
+        match source::header::decode_header(&definition, mpdu, region, speed) {
+            Some(decoded) => (decoded, false),
+            None => (reading::header::decode_header(&definition, mpdu, region, speed), true),
+        };
+    let answer = decoded.and_then(|header| {
+        within_table(&header.rows, cap)?;
+        Ok(header.to_string())
+    });
+    Ok(Answer { is_past_the_rust, ..answer.into() })
+}
+
+fn command(cap: u64, text: &[u8], payload: &[u8]) -> Result<String, Refusal> {
+    let definition: CommandDefinition = definition::read(text)?;
+    within(limits::COMMAND, payload)?;
+    let command = source::command::decode_params(&definition, payload)?;
+    within_table(&command.rows, cap)?;
+    Ok(command.to_string())
 }
 
 /// The Rust sums place and width in 64 bits. Where that would wrap no bits stand, so the reader

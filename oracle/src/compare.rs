@@ -1,4 +1,4 @@
-//! Holds a replay program to the oracle on generated requests.
+//! Holds a replay program to the oracle on generated requests, and tells how these are answered.
 
 use std::collections::BTreeMap;
 use std::io::{self, BufRead, BufReader, BufWriter, Read, Write};
@@ -7,8 +7,10 @@ use std::sync::mpsc::{Receiver, RecvTimeoutError, SyncSender, sync_channel};
 use std::thread;
 use std::time::{Duration, Instant};
 
-use crate::answer::answer;
+use crate::answer::{Answer, full_answer};
 use crate::generate::Generator;
+use crate::reading;
+use crate::request::Request;
 
 /// How many differences are shown.
 const SHOWN: u64 = 5;
@@ -52,6 +54,31 @@ pub fn compare(generator: &Generator, n: u64, program: &[&str]) -> io::Result<bo
     Ok(tally.differing() == 0 && tally.broken.is_none())
 }
 
+/// Prints how the oracle answers the first `n` requests.
+pub fn survey(generator: &Generator, n: u64) {
+    let mut tally = Tally::default();
+    for index in 0..n {
+        let (kind, line) = generator.request(index);
+        tally.count(kind, &full_answer(&line));
+    }
+    tally.print(generator);
+}
+
+/// Holds the Rust to the second reading of document 01 on the first `n` requests, as `compare` holds
+/// a program to the oracle. What the Rust cannot answer is the reading's alone.
+pub fn agree(generator: &Generator, n: u64) -> bool {
+    let mut tally = Tally::default();
+    for index in 0..n {
+        let (kind, line) = generator.request(index);
+        let answer = full_answer(&line);
+        let read = Request::read(&line).and_then(|request| reading::answer(&request));
+        let read = read.unwrap_or_else(|| answer.line.clone()) + "\n";
+        tally.take_answer(index, kind, &line, &answer, read.as_bytes());
+    }
+    tally.print(generator);
+    tally.differing() == 0
+}
+
 /// Writes the requests. A program that ends early leaves the rest unread: its answers tell.
 fn send_requests(generator: &Generator, n: u64, input: impl Write) {
     let mut input = BufWriter::with_capacity(1 << 16, input);
@@ -92,7 +119,7 @@ impl Tally {
     fn take_answers(&mut self, generator: &Generator, n: u64, answers: Receiver<Vec<u8>>) {
         for index in 0..n {
             let (kind, line) = generator.request(index);
-            let expected = answer(&line);
+            let expected = full_answer(&line);
             match answers.recv_timeout(PATIENCE) {
                 Ok(answer) => self.take_answer(index, kind, &line, &expected, &answer),
                 Err(error) => {
@@ -113,15 +140,20 @@ impl Tally {
         }
     }
 
-    fn take_answer(&mut self, index: u64, kind: usize, line: &[u8], expected: &str, got: &[u8]) {
-        *self.answers.entry((kind, sort_of(expected))).or_default() += 1;
-        if got.strip_suffix(b"\n") == Some(expected.as_bytes()) {
+    fn count(&mut self, kind: usize, answer: &Answer) {
+        *self.answers.entry((kind, sort_of(answer))).or_default() += 1;
+    }
+
+    fn take_answer(&mut self, index: u64, kind: usize, line: &[u8], expected: &Answer, got: &[u8]) {
+        self.count(kind, expected);
+        let expected = expected.line.as_bytes();
+        if got.strip_suffix(b"\n") == Some(expected) {
             return;
         }
         *self.differing.entry(kind).or_default() += 1;
         if self.differing() <= SHOWN {
             println!("request {index}: {}", shown(line));
-            println!("  oracle:  {}", shown(expected.as_bytes()));
+            println!("  oracle:  {}", shown(expected));
             println!("  program: {}", shown(got));
         }
     }
@@ -149,14 +181,29 @@ impl Tally {
     }
 }
 
-/// The sort of an answer: its first word, with a refusal's number and whether bytes are none.
-fn sort_of(answer: &str) -> String {
-    let mut words = answer.split(' ');
-    let first = words.next().unwrap_or_default();
-    match (first, words.next()) {
-        ("refused" | "bad", Some(second)) => format!("{first} {second}"),
-        (_, Some("-")) => format!("{first} -"),
-        _ => first.to_string(),
+/// The sort of an answer: its first word, with a refusal's number, whether bytes are none, about how
+/// many rows a walk has, and whether the Rust has no answer.
+fn sort_of(answer: &Answer) -> String {
+    let words: Vec<&str> = answer.line.split(' ').collect();
+    let sort = match words[..] {
+        ["header", _, _, _, _, _, rows, ..] | ["command", rows, ..] => {
+            format!("{} of {} rows", words[0], about(rows))
+        }
+        [first @ ("refused" | "bad"), second, ..] => format!("{first} {second}"),
+        [first, "-", ..] => format!("{first} -"),
+        _ => words[0].to_string(),
+    };
+    if answer.is_past_the_rust { format!("{sort} (past the Rust)") } else { sort }
+}
+
+/// About how many rows these are.
+fn about(rows: &str) -> &'static str {
+    match rows.parse().unwrap_or(usize::MAX) {
+        0 => "0",
+        1..=9 => "1 to 9",
+        10..=29 => "10 to 29",
+        30..=60 => "30 to 60",
+        _ => "more",
     }
 }
 

@@ -4,6 +4,9 @@
 pub const PAYLOAD: usize = 65_535;
 /// The longest record body that is not refused by 4.
 pub const BODY: usize = 2_048;
+/// The longest MPDU and the longest command payload that are not refused by 4.
+pub const MPDU: usize = 2_048;
+pub const COMMAND: usize = 2_048;
 /// The most rows that a request may ask for.
 pub const CAP: u64 = 16_384;
 

@@ -5,13 +5,15 @@ use std::io::{self, BufRead, BufReader, BufWriter, Write};
 use std::process::ExitCode;
 
 use oracle::answer::answer;
-use oracle::compare::compare;
+use oracle::compare::{agree, compare, survey};
 use oracle::generate::Generator;
 use oracle::sample::sample;
 
 const USAGE: &str = "\
 usage: oracle                                       answer the requests of standard input
        oracle generate SEED N KINDS                 write N requests
+       oracle survey SEED N KINDS                   tell how they are answered
+       oracle agree SEED N KINDS                    hold the Rust to document 01's second reading
        oracle compare SEED N KINDS PROGRAM WORD..   hold a replay program to the oracle on them
        oracle sample SEED KINDS REQUESTS ANSWERS    write a sample to two files
        oracle kinds KINDS                           write what they stand for
@@ -37,6 +39,12 @@ fn run(words: &[&str]) -> Result<bool, String> {
         ["generate", seed, n, kinds] => {
             let generator = Generator::new(number(seed)?, kinds)?;
             taken(generate(&generator, number(n)?))?;
+        }
+        ["survey", seed, n, kinds] => {
+            survey(&Generator::new(number(seed)?, kinds)?, number(n)?);
+        }
+        ["agree", seed, n, kinds] => {
+            return Ok(agree(&Generator::new(number(seed)?, kinds)?, number(n)?));
         }
         ["compare", seed, n, kinds, program @ ..] if !program.is_empty() => {
             let generator = Generator::new(number(seed)?, kinds)?;

@@ -14,6 +14,8 @@ pub enum Request {
     Frametable { cap: u64, payload: Vec<u8> },
     Frametext { text: Vec<u8> },
     Commandtext { text: Vec<u8> },
+    Header { cap: u64, region: u64, speed: u64, text: Vec<u8>, mpdu: Vec<u8> },
+    Command { cap: u64, text: Vec<u8>, payload: Vec<u8> },
     Bits { place: u64, width: u64, bytes: Vec<u8> },
     Checksum { speed: u64, mpdu: Vec<u8> },
 }
@@ -31,6 +33,18 @@ impl Request {
             b"frametable" => Request::Frametable { cap: words.cap()?, payload: words.bytes()? },
             b"frametext" => Request::Frametext { text: words.bytes()? },
             b"commandtext" => Request::Commandtext { text: words.bytes()? },
+            b"header" => Request::Header {
+                cap: words.cap()?,
+                region: words.number()?,
+                speed: words.number()?,
+                text: words.bytes()?,
+                mpdu: words.bytes()?,
+            },
+            b"command" => Request::Command {
+                cap: words.cap()?,
+                text: words.bytes()?,
+                payload: words.bytes()?,
+            },
             b"bits" => Request::Bits {
                 place: words.number()?,
                 width: words.number()?,
@@ -43,19 +57,23 @@ impl Request {
         Some(request)
     }
 
-    /// Its word, its numbers and, where it has such, its bytes.
-    fn parts(&self) -> (&'static str, Vec<u64>, Option<&[u8]>) {
+    /// Its word, its numbers and its bytes, in the order of the line.
+    fn parts(&self) -> (&'static str, Vec<u64>, Vec<&[u8]>) {
         match self {
-            Request::Rate { channel, region } => ("rate", vec![*channel, *region], None),
-            Request::Count { payload } => ("count", vec![], Some(payload)),
-            Request::Body { k, payload } => ("body", vec![*k], Some(payload)),
-            Request::Record { body } => ("record", vec![], Some(body)),
-            Request::Frames { cap, payload } => ("frames", vec![*cap], Some(payload)),
-            Request::Frametable { cap, payload } => ("frametable", vec![*cap], Some(payload)),
-            Request::Frametext { text } => ("frametext", vec![], Some(text)),
-            Request::Commandtext { text } => ("commandtext", vec![], Some(text)),
-            Request::Bits { place, width, bytes } => ("bits", vec![*place, *width], Some(bytes)),
-            Request::Checksum { speed, mpdu } => ("checksum", vec![*speed], Some(mpdu)),
+            Request::Rate { channel, region } => ("rate", vec![*channel, *region], vec![]),
+            Request::Count { payload } => ("count", vec![], vec![payload]),
+            Request::Body { k, payload } => ("body", vec![*k], vec![payload]),
+            Request::Record { body } => ("record", vec![], vec![body]),
+            Request::Frames { cap, payload } => ("frames", vec![*cap], vec![payload]),
+            Request::Frametable { cap, payload } => ("frametable", vec![*cap], vec![payload]),
+            Request::Frametext { text } => ("frametext", vec![], vec![text]),
+            Request::Commandtext { text } => ("commandtext", vec![], vec![text]),
+            Request::Header { cap, region, speed, text, mpdu } => {
+                ("header", vec![*cap, *region, *speed], vec![text, mpdu])
+            }
+            Request::Command { cap, text, payload } => ("command", vec![*cap], vec![text, payload]),
+            Request::Bits { place, width, bytes } => ("bits", vec![*place, *width], vec![bytes]),
+            Request::Checksum { speed, mpdu } => ("checksum", vec![*speed], vec![mpdu]),
         }
     }
 
@@ -72,7 +90,7 @@ impl Request {
             line.push(' ');
             line.push_str(&number.to_string());
         }
-        if let Some(bytes) = bytes {
+        for bytes in bytes {
             line.push(' ');
             push_hex(bytes, &mut line);
         }

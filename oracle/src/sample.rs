@@ -3,17 +3,19 @@
 use crate::generate::{FAULTS, Generator, spoil};
 use crate::limits;
 use crate::random::Random;
-use crate::request::Request;
+use crate::request::{Request, push_hex};
 use crate::shape::{Body, LONGEST_BODY, PAIRS_BY_RATE, enclose};
 
 /// How many requests are drawn, and how long a drawn one may be.
 const DRAWN: usize = 2_000;
 const DRAWN_LENGTH: usize = 300;
+/// The same of each walk, whose requests have a text.
+const WALKS: &[(&str, usize, usize)] = &[("header", 300, 1_600), ("command", 300, 800)];
 
 /// The sample of a seed, line by line: requests of those kinds, and lines that are no request.
 pub fn sample(seed: u64, kinds: &str) -> Result<Vec<Vec<u8>>, String> {
     let mut lines: Vec<Vec<u8>> =
-        examples().into_iter().map(|(request, _)| request.as_bytes().to_vec()).collect();
+        examples().into_iter().map(|(request, _)| request.into_bytes()).collect();
     lines.extend(bad_lines());
     let mut requests = rates();
     requests.extend(about_brackets());
@@ -22,24 +24,51 @@ pub fn sample(seed: u64, kinds: &str) -> Result<Vec<Vec<u8>>, String> {
     requests.extend(about_faults(&mut Random::new(seed, u64::MAX)));
     requests.extend(about_tables());
     requests.extend(about_lengths());
+    requests.extend(about_headers());
+    requests.extend(about_commands());
     lines.extend(requests.iter().map(Request::line));
 
     let generator = Generator::new(seed, kinds)?;
     let of_kinds = |request: Request| generator.kinds().iter().any(|k| k.name == request.word());
     lines.retain(|line| Request::read(line).is_none_or(of_kinds));
-    let drawn = (0..).map(|index| generator.request(index).1);
-    lines.extend(drawn.filter(|line| line.len() <= DRAWN_LENGTH).take(DRAWN));
+    let names: Vec<&str> = generator.kinds().iter().map(|kind| kind.name).collect();
+    let is_walk = |name: &&str| WALKS.iter().any(|(walk, _, _)| walk == name);
+    let (walks, others): (Vec<&str>, Vec<&str>) = names.iter().partition(|name| is_walk(name));
+    if !others.is_empty() {
+        lines.extend(drawn(&Generator::new(seed, &others.join(","))?, DRAWN, DRAWN_LENGTH));
+    }
+    for &(walk, count, length) in WALKS.iter().filter(|(walk, _, _)| walks.contains(walk)) {
+        lines.extend(drawn(&Generator::new(seed, walk)?, count, length));
+    }
     Ok(lines)
 }
 
+/// So many drawn requests that are no longer than that.
+fn drawn(generator: &Generator, count: usize, length: usize) -> impl Iterator<Item = Vec<u8>> {
+    let drawn = (0..).map(|index| generator.request(index).1);
+    drawn.filter(move |line| line.len() <= length).take(count)
+}
+
 /// The examples that were worked out by hand: request and answer.
-pub fn examples() -> Vec<(&'static str, &'static str)> {
+pub fn examples() -> Vec<(String, &'static str)> {
     let text = include_str!("examples.txt").lines();
     let lines: Vec<&str> = text.filter(|line| !line.is_empty() && !line.starts_with('#')).collect();
     let (pairs, rest) = lines.as_chunks::<2>();
     assert!(rest.is_empty(), "a request without its answer");
     let answer_of = |line: &'static str| line.strip_prefix("= ").expect("an answer");
-    pairs.iter().map(|&[request, answer]| (request, answer_of(answer))).collect()
+    pairs.iter().map(|&[request, answer]| (with_texts(request), answer_of(answer))).collect()
+}
+
+/// A request whose texts in quotes become their bytes.
+fn with_texts(request: &str) -> String {
+    let mut line = String::new();
+    for (place, part) in request.split('"').enumerate() {
+        match place % 2 {
+            0 => line.push_str(part),
+            _ => push_hex(part.replace('|', "\t").replace('/', "\n").as_bytes(), &mut line),
+        }
+    }
+    line
 }
 
 /// Lines that are no request, beyond what a text file can show.
@@ -93,6 +122,15 @@ fn bad_lines() -> Vec<Vec<u8>> {
         b"commandtext",
         b"commandtext 0A",
         b"commandtext 0a -",
+        b"header",
+        b"header 1 0 0 -",
+        b"header 1 0 - -",
+        b"header 16385 0 0 - -",
+        b"header 1 0 0 - - -",
+        b"command 1 -",
+        b"command 16385 - -",
+        b"command 1 - 0",
+        b"command 1 0 - -",
         b"\xff\xfe",
     ];
     lines.iter().map(|line| line.to_vec()).collect()
@@ -265,4 +303,59 @@ fn about_lengths() -> Vec<Request> {
     requests.push(Request::Frames { cap: rows, payload: payload(limits::PAYLOAD) });
     requests.push(Request::Count { payload: payload(limits::PAYLOAD + 1) });
     requests
+}
+
+/// The longest MPDU that is taken, the shortest that is refused, a limit of the text that is passed,
+/// and as many rows as there can be: 64 fields of a base header and 64 of a candidate, a bit each.
+fn about_headers() -> Vec<Request> {
+    let header = |cap: u64, text: &str, mpdu: Vec<u8>| {
+        let text = text.replace('|', "\t").into_bytes();
+        Request::Header { cap, region: 0, speed: 0, text, mpdu }
+    };
+    let one = "B|0\nP|0|0|8|HEX|a|-|-|-\nH|1|0|0000|h\nV|a|1\n";
+    let bits = "P|0|0|1|HEX|a|-|-|-\n".repeat(limits::PARAMS);
+    let most = format!("B|0\n{bits}H|1|0|0000|h\nV|a|1\n{bits}");
+    vec![
+        header(1, one, vec![1; limits::MPDU]),
+        header(1, one, vec![1; limits::MPDU + 1]),
+        header(limits::CAP, one, vec![1, 2]),
+        header(1, &"F|1|1\n".repeat(limits::RADIO_FREQUENCIES + 1), vec![1; limits::MPDU + 1]),
+        header(128, &most, vec![0xA5; 16]),
+        header(127, &most, vec![0xA5; 16]),
+        header(127, &most, vec![0xA5; 15]),
+    ]
+}
+
+/// The longest payload that is taken, the shortest that is refused, a limit of the text that is
+/// passed, entries 254 and 255, and more rows than the largest table has: each byte a repetition
+/// with a Q of 32 bits.
+fn about_commands() -> Vec<Request> {
+    let command = |cap: u64, text: &str, payload: Vec<u8>| Request::Command {
+        cap,
+        text: text.replace('|', "\t").into_bytes(),
+        payload,
+    };
+    let one = "Q|0|ARRAY|a|-|-\n";
+    let bits = "T|1|a\n".repeat(limits::PARAM_ITEMS);
+    let most = format!("G|g|255|1|0\nQ|1|BYTE|a|-|-\n{bits}");
+    let (text, payload) = entries_254_and_255();
+    vec![
+        command(1, one, vec![0xA5; limits::COMMAND]),
+        command(1, one, vec![0xA5; limits::COMMAND + 1]),
+        command(limits::CAP, one, vec![0xA5; 3]),
+        command(1, &format!("{most}T|1|a\n"), vec![0xA5; limits::COMMAND + 1]),
+        command(510, text, payload),
+        command(34, &most, vec![0xA5; 3]),
+        command(33, &most, vec![0xA5; 3]),
+        command(limits::CAP, &most, vec![0xA5; limits::COMMAND]),
+    ]
+}
+
+/// A count of 253 and as many repetitions: then b is entry 254, by which c has its length, and c is
+/// entry 255, on which d depends; e does not meet its mask. | stands for a tab.
+pub fn entries_254_and_255() -> (&'static str, Vec<u8>) {
+    let text = "Q|0|BYTE|n|-|-\nG|g|0|255|0\nQ|1|BYTE|a|-|-\nQ|0|BYTE|b|-|-\n\
+        Q|0|VARIANT|c|-|-\nR|254|255|-|0\nQ|0|BYTE|d|255|1\nQ|0|BYTE|e|254|1\n";
+    let payload = [&[0x20, 0x01, 253][..], &[0xA5; 253], &[2, 0xAA, 0xBB, 1, 2, 3]].concat();
+    (text, payload)
 }

@@ -222,6 +222,15 @@ enum Owner<'a> {
 }
 
 impl FrameDefinition {
+    /// The lines of all P, from the first on.
+    pub fn param_lines(&self) -> Vec<usize> {
+        let mut lines = Vec::new();
+        self.base_headers.iter().for_each(|base| push_lines(&base.params, &mut lines));
+        self.headers.iter().for_each(|header| push_lines(&header.params, &mut lines));
+        lines.sort_unstable();
+        lines
+    }
+
     fn owner(&mut self) -> Option<Owner<'_>> {
         let last_of_each = [
             self.radio_frequencies.last().map(|f| (f.line, Owner::RadioFrequency)),
@@ -266,4 +275,11 @@ fn inside(params: &mut Vec<Param>, level: u64) -> Option<&mut Vec<Param>> {
 /// How many P lines there are, at all levels.
 fn count(params: &[Param]) -> usize {
     params.iter().map(|param| 1 + count(&param.params)).sum()
+}
+
+fn push_lines(params: &[Param], lines: &mut Vec<usize>) {
+    for param in params {
+        lines.push(param.line);
+        push_lines(&param.params, lines);
+    }
 }

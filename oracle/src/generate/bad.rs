@@ -45,12 +45,17 @@ fn bad_number(random: &mut Random) -> Vec<u8> {
     ];
     const CAPS: &[&str] = &["16385", "16386", "65536", "4294967296", "18446744073709551615"];
     let number = random.pick(NUMBERS);
-    match random.below(6) {
+    match random.below(11) {
         0 => format!("rate {number} 1"),
         1 => format!("rate 1 {number}"),
         2 => format!("body {number} 5b02005d00"),
         3 => format!("frames {number} 5b02005d00"),
         4 => format!("frametable {number} 5b02005d00"),
+        5 => format!("header {number} 0 0 - 0000"),
+        6 => format!("header 4 {number} 0 - 0000"),
+        7 => format!("header 4 0 {number} - 0000"),
+        8 => format!("command {number} - 0000"),
+        9 => format!("{} {} - -", random.pick(&["header", "command"]), random.pick(CAPS)),
         _ => format!("{} {} -", random.pick(&["frames", "frametable"]), random.pick(CAPS)),
     }
     .into_bytes()
@@ -81,10 +86,23 @@ fn bad_bytes(random: &mut Random) -> Vec<u8> {
         "@0",
         "`0",
     ];
-    const WORDS: &[&str] =
-        &["count", "body 0", "record", "frames 4", "frametable 4", "frametext", "commandtext"];
-    let word = random.pick(WORDS);
-    format!("{word} {}", random.pick(BYTES)).into_bytes()
+    const WORDS: &[&str] = &[
+        "count",
+        "body 0",
+        "record",
+        "frames 4",
+        "frametable 4",
+        "frametext",
+        "commandtext",
+        "header 4 0 0 -",
+        "command 4 -",
+    ];
+    const WALKS: &[&str] = &["header 4 0 0", "command 4"];
+    match random.below(8) {
+        0 => format!("{} {} 0000", random.pick(WALKS), random.pick(BYTES)),
+        _ => format!("{} {}", random.pick(WORDS), random.pick(BYTES)),
+    }
+    .into_bytes()
 }
 
 /// A request with a wrong word, a word too few or too many, or parted by something else.

@@ -26,16 +26,21 @@ pub fn checksum(random: &mut Random) -> Vec<u8> {
     let mut mpdu = random.bytes(length);
     let speed = random.pick(&[0, 1, 2, 3, 4, 255, u64::MAX]);
     if random.below(4) > 0 {
-        mpdu.extend(match speed {
-            0 | 1 => vec![mpdu.iter().fold(0xFF, |sum, byte| sum ^ byte)],
-            _ => crc(&mpdu).to_be_bytes().to_vec(),
-        });
+        mpdu.extend(checksum_of(speed, &mpdu));
     }
     if random.one_in(4) && !mpdu.is_empty() {
         let place = random.below(mpdu.len());
         mpdu[place] ^= 1 << random.below(8);
     }
     Request::Checksum { speed, mpdu }.line()
+}
+
+/// The bytes that make a message right at a speed.
+pub fn checksum_of(speed: u64, message: &[u8]) -> Vec<u8> {
+    match speed {
+        0 | 1 => vec![message.iter().fold(0xFF, |sum, byte| sum ^ byte)],
+        _ => crc(message).to_be_bytes().to_vec(),
+    }
 }
 
 /// The checksum of two bytes: polynomial 0x1021 from 0x1D0F.

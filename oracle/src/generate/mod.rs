@@ -3,6 +3,9 @@
 
 mod bad;
 mod bits;
+mod cap;
+mod command;
+mod header;
 mod pti;
 mod texts;
 
@@ -29,6 +32,8 @@ pub const KINDS: &[Kind] = &[
     Kind { name: "frametable", weight: 10, draw: pti::frametable },
     Kind { name: "frametext", weight: 30, draw: texts::frametext },
     Kind { name: "commandtext", weight: 30, draw: texts::commandtext },
+    Kind { name: "header", weight: 30, draw: header::header },
+    Kind { name: "command", weight: 30, draw: command::command },
     Kind { name: "bits", weight: 15, draw: bits::bits },
     Kind { name: "checksum", weight: 15, draw: bits::checksum },
     Kind { name: "bad", weight: 5, draw: bad::line },
@@ -69,4 +74,14 @@ impl Generator {
         }
         (place, (self.kinds[place].draw)(&mut random))
     }
+}
+
+/// Bytes that are often small, since some will be counts and sizes.
+fn small_bytes(random: &mut Random, length: usize) -> Vec<u8> {
+    let byte = |random: &mut Random| match random.below(8) {
+        0..=3 => random.below(9) as u8,
+        4 => random.pick(&[0, 1, 0x80, 0xFF]),
+        _ => random.byte(),
+    };
+    (0..length).map(|_| byte(random)).collect()
 }

@@ -29,6 +29,23 @@ pub fn good_command_text(random: &mut Random) -> Vec<u8> {
     bytes_of(&lines(random, &command::COMMAND, 0))
 }
 
+/// A good frame text, damaged in some place, or some text instead.
+pub fn damaged_frame_text(random: &mut Random, good: &[u8]) -> Vec<u8> {
+    damaged_or_other(random, &frame::FRAME, good)
+}
+
+/// A good command text, damaged in some place, or some text instead.
+pub fn damaged_command_text(random: &mut Random, good: &[u8]) -> Vec<u8> {
+    damaged_or_other(random, &command::COMMAND, good)
+}
+
+fn damaged_or_other(random: &mut Random, language: &Language, good: &[u8]) -> Vec<u8> {
+    match random.below(4) {
+        0 => text(random, language),
+        _ => damaged(random, language, lines_of(good), 1),
+    }
+}
+
 /// One of the two languages, and how its texts are drawn.
 struct Language {
     forms: &'static [Form],
@@ -54,12 +71,22 @@ type Line = Vec<Vec<u8>>;
 fn text(random: &mut Random, language: &Language) -> Vec<u8> {
     let mistakes = random.pick(&[0, 0, 0, 0, 1, 1, 1, 1, 2, 2]);
     let excess = random.below(2);
-    let mut lines = lines(random, language, excess);
+    let lines = lines(random, language, excess);
+    if mistakes > 0 { damaged(random, language, lines, mistakes) } else { bytes_of(&lines) }
+}
+
+/// The text of these lines with so many mistakes, and now and then one more.
+fn damaged(
+    random: &mut Random,
+    language: &Language,
+    mut lines: Vec<Line>,
+    mistakes: usize,
+) -> Vec<u8> {
     for _ in 0..mistakes {
         damage::lines(random, language.forms, &mut lines);
     }
     let mut text = bytes_of(&lines);
-    if mistakes > 0 && random.one_in(4) {
+    if random.one_in(4) {
         damage::bytes(random, &mut text);
     }
     text
@@ -118,6 +145,24 @@ fn longest(random: &mut Random, language: &Language, excess: usize, lines: &mut 
     if excess > 0 && random.one_in(4) {
         lines.extend_from_within(..);
     }
+}
+
+/// Adds a line to a text.
+pub fn push_line(fields: &[&str], text: &mut Vec<u8>) {
+    for (place, field) in fields.iter().enumerate() {
+        if place > 0 {
+            text.push(b'\t');
+        }
+        text.extend(field.bytes());
+    }
+    text.push(b'\n');
+}
+
+fn lines_of(text: &[u8]) -> Vec<Line> {
+    let fields_of = |line: &[u8]| line.split(|&byte| byte == b'\t').map(<[u8]>::to_vec).collect();
+    let mut lines: Vec<Line> = text.split(|&byte| byte == b'\n').map(fields_of).collect();
+    lines.pop();
+    lines
 }
 
 fn bytes_of(lines: &[Line]) -> Vec<u8> {

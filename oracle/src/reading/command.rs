@@ -1,0 +1,271 @@
+//! The parameters of a command.
+
+use zniff_core::decoder::command_class::schema::ParamType;
+
+use crate::definition::command::{CmdItem, CommandDefinition, ItemKind, Param, VariantGroup};
+use crate::limits;
+use crate::refusal::Refusal;
+use crate::rows::{self, CommandRow};
+
+/// An entry already answered: its value, if it has one. "A repetition is one entry, without value."
+pub type Entry = Option<u64>;
+
+/// "Body is the payload after two bytes; rows count from the payload's start."
+const BEFORE_BODY: usize = 2;
+
+/// The kinds of rows.
+const PARAMETER: u64 = 0;
+const BIT_CHILD: u64 = 1;
+const REPETITION: u64 = 2;
+
+/// The answer, or the refusal, but for 8: "then 4 to 9 in order".
+pub fn decode_params(
+    definition: &CommandDefinition,
+    payload: &[u8],
+) -> Result<rows::Command, Refusal> {
+    if payload.len() > limits::COMMAND {
+        return Err(Refusal { number: 4, carried: payload.len() });
+    }
+    let Some(body) = payload.get(BEFORE_BODY..) else {
+        return Err(Refusal { number: 5, carried: payload.len() });
+    };
+    let mut walk = Walk::new(body);
+    definition.items.iter().for_each(|item| walk.take_item(item));
+    Ok(rows::Command { remainder: BEFORE_BODY + walk.place, rows: walk.rows })
+}
+
+/// What has been answered so far, and the place in the body where the rest starts.
+pub struct Walk<'a> {
+    pub body: &'a [u8],
+    pub place: usize,
+    /// Of the outer list.
+    pub entries: Vec<Entry>,
+    pub rows: Vec<CommandRow>,
+}
+
+impl<'a> Walk<'a> {
+    pub fn new(body: &'a [u8]) -> Walk<'a> {
+        Walk { body, place: 0, entries: Vec::new(), rows: Vec::new() }
+    }
+
+    pub fn remaining(&self) -> usize {
+        self.body.len() - self.place
+    }
+
+    /// "Outer: a missing Q is passed over."
+    pub fn take_item(&mut self, item: &CmdItem) {
+        match item {
+            CmdItem::Param(q) => {
+                let entries = std::mem::take(&mut self.entries);
+                let entry = self.take_param(q, &entries, 0);
+                self.entries = entries;
+                self.entries.extend(entry);
+            }
+            CmdItem::VariantGroup(group) => self.take_group(group),
+        }
+    }
+
+    /// Takes a Q, where it exists: its row, and those of its bit children.
+    fn take_param(&mut self, q: &Param, entries: &[Entry], parent: u64) -> Option<Entry> {
+        let length = length_if_it_exists(q, entries, self.remaining())?;
+        let start = self.place;
+        self.place += length;
+        let bytes = &self.body[start..self.place];
+        let value = value(bytes);
+        let (line, named_by) = (q.line, named_by(q, value));
+        self.push(start, Row { kind: PARAMETER, line, parent, value, named_by, repetition: 0 });
+        if let &[byte] = bytes {
+            self.push_bit_children(q, byte, start);
+        }
+        Some(value)
+    }
+
+    /// "A Q of length 1 has its T, S and U lines as children in text order, all on that byte."
+    fn push_bit_children(&mut self, q: &Param, byte: u8, start: usize) {
+        let parent = self.rows.len() as u64;
+        for item in &q.items {
+            let (line, value) = (item.line, bit_child(&item.kind, byte));
+            if value.is_some() {
+                self.push(start, Row { kind: BIT_CHILD, line, parent, value, ..Row::default() });
+            }
+        }
+    }
+
+    /// "A group repeats as counted .. or while bytes remain ..; a repetition that takes nothing
+    /// ends it."
+    fn take_group(&mut self, group: &VariantGroup) {
+        let count = repetitions(group, &self.entries);
+        let mut number = 0;
+        while count.map_or(self.remaining() > 0, |count| number < count) {
+            if !self.take_repetition(group, number) {
+                break;
+            }
+            self.entries.push(None);
+            number += 1;
+        }
+    }
+
+    /// "In a group: [a missing Q] ends that repetition." False where it takes nothing: it has no row.
+    fn take_repetition(&mut self, group: &VariantGroup, number: u64) -> bool {
+        let (start, row) = (self.place, self.rows.len());
+        let line = group.line;
+        self.push(start, Row { kind: REPETITION, line, repetition: number, ..Row::default() });
+        let mut members = Vec::new();
+        for q in &group.params {
+            let Some(entry) = self.take_param(q, &members, row as u64 + 1) else {
+                break;
+            };
+            members.push(entry);
+        }
+        match self.place > start {
+            true => self.rows[row][4] = (BEFORE_BODY + self.place) as u64,
+            false => self.rows.truncate(row),
+        }
+        self.place > start
+    }
+
+    /// Adds a row that starts at that place of the body and ends at the place reached.
+    fn push(&mut self, start: usize, row: Row) {
+        self.rows.push([
+            row.kind,
+            row.line as u64,
+            row.parent,
+            (BEFORE_BODY + start) as u64,
+            (BEFORE_BODY + self.place) as u64,
+            u64::from(row.value.is_some()),
+            row.value.unwrap_or(0),
+            row.named_by as u64,
+            row.repetition,
+        ]);
+    }
+}
+
+/// What a row has besides its place.
+#[derive(Default)]
+struct Row {
+    kind: u64,
+    line: usize,
+    /// Its row + 1, or 0.
+    parent: u64,
+    value: Option<u64>,
+    /// The line of a K, or 0.
+    named_by: usize,
+    repetition: u64,
+}
+
+/// "A Q exists if bytes remain, its condition holds .. and its length isn't 0": its length.
+pub fn length_if_it_exists(q: &Param, entries: &[Entry], remaining: usize) -> Option<usize> {
+    let length = length(q, entries, remaining);
+    (remaining > 0 && condition_holds(q, entries) && length > 0).then_some(length)
+}
+
+/// "Offset and mask both given: the entry there has a value whose low byte meets the mask; else it
+/// holds."
+fn condition_holds(q: &Param, entries: &[Entry]) -> bool {
+    let (Some(offset), Some(mask)) = (q.optional_offset, q.optional_mask) else {
+        return true;
+    };
+    let value = entries.get(usize::from(offset)).copied().flatten();
+    value.is_some_and(|value| low_byte(value) & mask != 0)
+}
+
+/// "Lengths, cut to what remains."
+fn length(q: &Param, entries: &[Entry], remaining: usize) -> usize {
+    let wanted = match q.param_type {
+        ParamType::Byte | ParamType::StructByte | ParamType::Const | ParamType::Marker => Some(1),
+        ParamType::Word => Some(2),
+        ParamType::Bit24 => Some(3),
+        ParamType::Dword => Some(4),
+        ParamType::Array => first_a(q).map(|(length, _)| usize::from(length)),
+        ParamType::Variant | ParamType::Bitmask | ParamType::MultiArray => {
+            first_m(q).flatten().map(usize::from).or_else(|| length_by_r(q, entries))
+        }
+    };
+    wanted.map_or(remaining, |length| length.min(remaining))
+}
+
+/// "Else the first R: offset 255 or mask 0 or no such entry or no R means the rest; else the entry's
+/// low byte (0 if no value), masked and shifted." `None`: the rest.
+fn length_by_r(q: &Param, entries: &[Entry]) -> Option<usize> {
+    let (offset, mask, shift, _) = first_r(q)?;
+    if offset == 255 || mask == 0 {
+        return None;
+    }
+    let entry = entries.get(usize::from(offset))?;
+    Some(usize::from((entry.map_or(0, low_byte) & mask) >> shift))
+}
+
+/// "As counted (the entry's low byte masked and shifted; no entry or no value: 0), or while bytes
+/// remain if offset is 255 or mask 0": `None`.
+pub fn repetitions(group: &VariantGroup, entries: &[Entry]) -> Option<u64> {
+    if group.offset == 255 || group.mask == 0 {
+        return None;
+    }
+    let entry = entries.get(usize::from(group.offset)).copied().flatten();
+    Some(entry.map_or(0, |value| u64::from((low_byte(value) & group.mask) >> group.shift)))
+}
+
+fn low_byte(value: u64) -> u8 {
+    value.to_le_bytes()[0]
+}
+
+/// "Value: big-endian, for 1 to 8 bytes."
+fn value(bytes: &[u8]) -> Option<u64> {
+    let mut all = [0; 8];
+    let place = all.len().checked_sub(bytes.len())?;
+    all[place..].copy_from_slice(bytes);
+    (!bytes.is_empty()).then_some(u64::from_be_bytes(all))
+}
+
+/// "T is 1 if the byte meets the mask, else 0; S and U are the byte masked, then shifted right."
+fn bit_child(kind: &ItemKind, byte: u8) -> Option<u64> {
+    match *kind {
+        ItemKind::BitFlag { mask, .. } => Some(u64::from(byte & mask != 0)),
+        ItemKind::BitField { mask, shift, .. } | ItemKind::FieldEnum { mask, shift, .. } => {
+            Some(u64::from((byte & mask) >> shift))
+        }
+        _ => None,
+    }
+}
+
+/// "Line of the first K whose value is the low byte (CONST, its first A and first R not ascii) or
+/// 0."
+fn named_by(q: &Param, value: Option<u64>) -> usize {
+    let is_ascii = first_a(q).is_some_and(|(_, is_ascii)| is_ascii)
+        || first_r(q).is_some_and(|(_, _, _, is_ascii)| is_ascii);
+    let low_byte = value.map(low_byte);
+    let names =
+        |kind: &ItemKind| matches!(*kind, ItemKind::Const { value, .. } if Some(value) == low_byte);
+    match q.param_type {
+        ParamType::Const if !is_ascii => {
+            q.items.iter().find(|item| names(&item.kind)).map_or(0, |item| item.line)
+        }
+        _ => 0,
+    }
+}
+
+/// Length and ascii.
+fn first_a(q: &Param) -> Option<(u8, bool)> {
+    q.items.iter().find_map(|item| match item.kind {
+        ItemKind::ArrayAttrib { length, is_ascii } => Some((length, is_ascii)),
+        _ => None,
+    })
+}
+
+/// Offset, mask, shift and ascii.
+fn first_r(q: &Param) -> Option<(u8, u8, u8, bool)> {
+    q.items.iter().find_map(|item| match item.kind {
+        ItemKind::Variant { offset, mask, shift, is_ascii } => {
+            Some((offset, mask, shift, is_ascii))
+        }
+        _ => None,
+    })
+}
+
+/// Length, which may be missing.
+fn first_m(q: &Param) -> Option<Option<u8>> {
+    q.items.iter().find_map(|item| match item.kind {
+        ItemKind::BitMask { length } => Some(length),
+        _ => None,
+    })
+}

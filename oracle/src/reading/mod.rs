@@ -1,0 +1,42 @@
+//! Document 01, 'Lawful reading of a header' and 'Parameters of a command', by themselves: each
+//! sentence a function, in exact numbers. Whoever works on it should not follow the Rust, which
+//! `oracle/test` compares it with. It answers where the Rust cannot, and tells the generator where
+//! a field would lie.
+
+pub mod command;
+pub mod header;
+
+use crate::definition;
+use crate::refusal::Refusal;
+use crate::request::Request;
+use crate::rows::within_table;
+
+/// The answer to a `header` or `command` request; `None` to another.
+pub fn answer(request: &Request) -> Option<String> {
+    let answer = match request {
+        Request::Header { cap, region, speed, text, mpdu } => {
+            header_answer(*cap, *region, *speed, text, mpdu)
+        }
+        Request::Command { cap, text, payload } => command_answer(*cap, text, payload),
+        _ => return None,
+    };
+    Some(answer.unwrap_or_else(|refusal| refusal.to_string()))
+}
+
+fn header_answer(
+    cap: u64,
+    region: u64,
+    speed: u64,
+    text: &[u8],
+    mpdu: &[u8],
+) -> Result<String, Refusal> {
+    let header = header::decode_header(&definition::read(text)?, mpdu, region, speed)?;
+    within_table(&header.rows, cap)?;
+    Ok(header.to_string())
+}
+
+fn command_answer(cap: u64, text: &[u8], payload: &[u8]) -> Result<String, Refusal> {
+    let command = command::decode_params(&definition::read(text)?, payload)?;
+    within_table(&command.rows, cap)?;
+    Ok(command.to_string())
+}
