@@ -282,6 +282,7 @@ module _ (t : List ℕ) (p : Place) (l : Line) (readable : Readable rules t p) (
         kind = h .kind;
         says = h .says;
         next = line-here .next;
+        count = step .count;
         on = step .on;
       }
 

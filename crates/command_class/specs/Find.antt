@@ -1,5 +1,5 @@
 -- How the answers of the code that looks things up in an accepted command text are read.
-use Prim.Native.Nat.{ℕ, _<_}
+use Prim.Native.Nat.{ℕ, _+_, _<_}
 use mathlib.Core.Bool.{Bool, true, false, _||_}
 use mathlib.Core.Path.{_≡_}
 use mathlib.Core.List.{List, _∷_}
@@ -85,4 +85,12 @@ pub record IsRead (t : List ℕ) (p : Place) (r : Read) : Type 0 where
   pub kind : r .row .kind ≡ letter said
   pub says : Says said (r .row)
   pub next : Readable rules t (r .next)
+  pub count : r .next .line ≡ p .line + 1
   pub on : p .at < r .next .at
+
+-- a line of the kind k begins at the place p
+pub record Begins (t : List ℕ) (p : Place) (k : ℕ) : Type 0 where
+  pub said : Record
+  pub others : List Item
+  pub lines : from t p ≡ record { line = p .line; says = said } ∷ others
+  pub kind : k ≡ letter said

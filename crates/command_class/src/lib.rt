@@ -15,7 +15,7 @@ ghost use Rattle.text.specs.Records.{Readable};
 ghost use Rattle.command_text.specs.Form.{typeOf};
 ghost use Rattle.command_text.specs.Rules.{rules};
 ghost use Rattle.command_class.specs.Definition.{under, firstConst};
-ghost use Rattle.command_class.specs.Find.{from, Good, among, NextUnder, NextEntry, optionalOr, Tells, IsRead};
+ghost use Rattle.command_class.specs.Find.{from, Good, among, NextUnder, NextEntry, optionalOr, Tells, IsRead, Begins};
 
 // What a line says, as numbers; 256 for a missing offset, mask or length, 0 where the line has no such number.
 pub struct Row {
@@ -307,4 +307,13 @@ pub fn find_const(text: &[u8], start: Place, value: u16) -> usize
         }
         place = line.next;
     }
+}
+
+// The kind of the line at a place: its first byte.
+pub fn kind_at(text: &[u8], place: Place) -> u8
+    requires { ⌜ (Readable rules (now text) place) × (place .at < length (now text)) ⌝ }
+    ensures { λ r. ⌜ Begins (now (text .entry)) place r ⌝ }
+{
+    let at = place.at;
+    text[at]
 }

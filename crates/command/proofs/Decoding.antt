@@ -1,0 +1,124 @@
+-- Laws of the decoding calls. Assumes nothing.
+use mathlib.Core.Path.{_≡_, refl, sym, ap, _∙_, subst}
+use mathlib.Core.Bool.{Bool, true, false, cond}
+use mathlib.Core.List.{List, [], _∷_, _++_}
+use Prim.Native.Nat.{ℕ, _+_, _-_, _*_, _/_, _^_, _≤_, _<_}
+use native.Mathlib.Omega.{arith}
+use lib.Dec.{leb, ltb}
+use lib.ListN.{length, take, drop, length-drop}
+use borrow.Author.Tests.{le-leb, lt-leb, lt-ltb, le-ltb}
+use Rattle.laws.proofs.Lists.{tail}
+use Rattle.refusal.specs.declared.Refusal.{Refusal}
+use Rattle.refusal.specs.declared.Refusal.the-variants.{TooLong, TooShort, MoreRows}
+use Rattle.records.specs.declared.PayloadOffset.{PayloadOffset}
+use Rattle.text.specs.declared.Verdict.{Verdict}
+use Rattle.text.specs.declared.Verdict.the-variants.{Accepted, Refused as NotAccepted}
+use Rattle.command_text.specs.Rules.{verdict}
+use Rattle.command_class.specs.Definition.{Entry, definition}
+use Rattle.command_schema.specs.Heads.{headsOf, entriesOf}
+use Rattle.command_schema.specs.Loaded.{IsLoaded}
+use Rattle.command_schema.proofs.Heads.{definition-heads}
+use Rattle.command_schema.proofs.Told.{SmallEntries, entries-small}
+use Rattle.command_rows.specs.Rows.{written, table}
+use Rattle.command_rows.specs.declared.Row.{Row}
+use Rattle.command_rows.proofs.Laws.{written-full, written-table}
+use Rattle.command_param.specs.Param.{inPayload}
+use Rattle.command.specs.Walk.{Walked, walk}
+use Rattle.command.specs.Steps.{Gives}
+use Rattle.command.specs.Sum.{Adds}
+use Rattle.command.specs.Answer.{bodyOf, within, answerBy, onVerdict, answerOf, filled, tableAfter, Fills, AddsUp, DecodesBy, Decodes}
+use Rattle.command.specs.declared.Taken.{Taken}
+use Rattle.command.specs.declared.Params.{Params}
+use Rattle.command.specs.declared.Params.the-variants.{Rows, Refused}
+use Rattle.command.proofs.Bounds.{walk-inside}
+use Rattle.command.proofs.Sums.{walk-adds}
+
+-- ---- the two passes
+module _ (w : Walked) (t ys : List ℕ) (m : Taken) (first : Gives w [] 0 ys m) where
+  -- the first writes nothing
+  nothing : ys ≡ []
+  nothing = first .rows ∙ written-full [] 0 (w .rows) (omega arith)
+
+  pub body-needs : length (ys ++ t) / 9 < m .count → Fills w t (Refused (MoreRows (m .count))) (ys ++ t)
+  unfolding within
+  body-needs h =
+      let z = nothing in
+      let n = first .count in
+      let l : length t / 9 < m .count = rw z at h in
+      record { answer = rw (lt-leb (length (w .rows)) (length t / 9) (omega arith), n) refl; table-is = rw z refl }
+
+  pub body-rows : (t′ : List ℕ) (r : Taken) (p : PayloadOffset) → Gives w (ys ++ t) 0 t′ r → m .count ≤ length (ys ++ t) / 9 → p .0 ≡ inPayload (r .end .0) → Fills w t (Rows (r .count) p) t′
+  unfolding within
+  body-rows t′ r p wrote h ep =
+      let z = nothing in
+      let n = first .count in
+      let l : m .count ≤ length t / 9 = rw z at h in
+      let f : t′ ≡ written t 0 (w .rows) = rw z at (wrote .rows) in
+      let q : p .0 ≡ inPayload (w .end) = rw (wrote .end) at ep in
+      record { answer = rw (le-leb (length (w .rows)) (length t / 9) (omega arith), wrote .count, ← q) refl; table-is = f ∙ written-table t (w .rows) (omega arith) }
+
+pub body-inside : (x l body : List ℕ) (count : ℕ) (t t′ : List ℕ) (r : Taken) → IsLoaded x l count → length body < 65536 → Gives (walk body (entriesOf (headsOf x))) t 0 t′ r → r .end .0 < 2 ^ 32
+body-inside x l body count t t′ r loaded h w = let i = walk-inside body (entriesOf (headsOf x)) (entries-small x l count loaded) in let e = w .end in omega arith
+
+pub ruleset body-laws = (body-needs, body-rows, body-inside)
+
+-- ---- by an accepted text
+module _ (x payload t : List ℕ) where
+  pub accepted-long : 2048 < length payload → DecodesBy x payload t (Refused (TooLong (length payload))) t
+  unfolding answerBy tableAfter
+  accepted-long h = record { answer = rw (lt-ltb 2048 (length payload) h) refl; table-is = refl; adds = tt }
+
+  pub accepted-short : length payload ≤ 2048 → length payload < 2 → DecodesBy x payload t (Refused (TooShort (length payload))) t
+  unfolding answerBy tableAfter
+  accepted-short h u = record { answer = rw (le-ltb 2048 (length payload) h, lt-ltb (length payload) 2 u) refl; table-is = refl; adds = tt }
+
+  module _ (l : List ℕ) (count : ℕ) (loaded : IsLoaded x l count) (long : length payload ≤ 2048) (short : 2 ≤ length payload) where
+    -- the body as it is lent
+    the-body : take (length payload - 2) (drop 2 payload) ≡ bodyOf payload
+    the-body = tail payload 2
+
+    pub accepted-room : length (take (length payload - 2) (drop 2 payload)) < 65536
+    accepted-room = rw (the-body, length-drop) (omega arith)
+
+    small : SmallEntries (definition x)
+    small = rw (definition-heads x) (entries-small x l count loaded)
+
+    sums : (r : Params) → r ≡ within (walk (bodyOf payload) (definition x)) (length t) → AddsUp (definition x) payload r
+    unfolding within
+    sums (Refused why) e = tt
+    sums (Rows n p) e = go (leb (length (walk (bodyOf payload) (definition x) .rows)) (length t / 9)) e
+      where
+        go : (b : Bool) → Rows n p ≡ cond b (Rows (length (walk (bodyOf payload) (definition x) .rows)) (record { 0 = inPayload (walk (bodyOf payload) (definition x) .end) })) (Refused (MoreRows (length (walk (bodyOf payload) (definition x) .rows))))
+            → Adds (length payload) (walk (bodyOf payload) (definition x) .rows) (p .0)
+        go true q =
+            let ep : p ≡ record { 0 = inPayload (walk (bodyOf payload) (definition x) .end) } = cc in
+            rw ep (walk-adds (bodyOf payload) (definition x) (length payload) small (let d = length-drop 2 payload in omega arith))
+        go false q = absurd (let z : _≡_ {A = ℕ} 0 1 = cc in omega arith)
+
+    pub accepted-fills : (r : Params) (t′ : List ℕ) → Fills (walk (take (length payload - 2) (drop 2 payload)) (entriesOf (headsOf x))) t r t′ → DecodesBy x payload t r t′
+    unfolding answerBy tableAfter
+    accepted-fills r t′ fills =
+        let is : walk (take (length payload - 2) (drop 2 payload)) (entriesOf (headsOf x)) ≡ walk (bodyOf payload) (definition x) = rw (the-body, ← definition-heads x) refl in
+        let f : Fills (walk (bodyOf payload) (definition x)) t r t′ = subst (λ (w : Walked). Fills w t r t′) is fills in
+        record {
+          answer = rw (le-ltb 2048 (length payload) long, le-ltb (length payload) 2 short) (f .answer);
+          table-is = f .table-is;
+          adds = sums r (f .answer);
+        }
+
+pub ruleset accepted-laws = (accepted-long, accepted-short, accepted-room, accepted-fills)
+
+-- ---- by any text
+module _ (x payload t : List ℕ) (v : Verdict) (is-v : v ≡ verdict x) where
+  pub text-accepted : v ≡ Accepted → verdict x ≡ Accepted
+  text-accepted e = sym is-v ∙ e
+
+  pub text-refused : (why : Refusal) → v ≡ NotAccepted why → Decodes x payload t (Refused why) t
+  unfolding answerOf tableAfter
+  text-refused why e = record { answer = rw (← is-v, e) refl; table-is = refl; adds = tt }
+
+  pub text-decoded : (r : Params) (t′ : List ℕ) → DecodesBy x payload t r t′ → v ≡ Accepted → Decodes x payload t r t′
+  unfolding answerOf
+  text-decoded r t′ d e = record { answer = rw (← is-v, e) (d .answer); table-is = d .table-is; adds = d .adds }
+
+pub ruleset decode-laws = (text-accepted, text-refused, text-decoded)

@@ -1,0 +1,4 @@
+pub mod Walk
+pub mod Sum
+pub mod Answer
+pub mod Steps

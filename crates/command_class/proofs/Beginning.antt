@@ -1,0 +1,110 @@
+-- Laws on the first byte of a line of an accepted command text. Assumes nothing.
+use mathlib.Core.Path.{_≡_, refl, sym, ap, _∙_}
+use mathlib.Core.Bool.{Bool, true, false, cond}
+use mathlib.Core.List.{List, [], _∷_}
+use mathlib.Core.Option.{some}
+use Prim.Native.Nat.{ℕ, suc, _≤_, _<_}
+use native.Mathlib.Nat.{add-zero}
+use native.Mathlib.Omega.{arith}
+use lib.Dec.{eqb}
+use lib.ListN.{length, getD, drop, length-drop}
+use lib.Seq.{getD-drop}
+use Rattle.text.specs.Text.{lines, fields}
+use Rattle.text.specs.Text as text
+use Rattle.text.specs.Place.{First, unended, ended, after, longer, first, left, kindOf}
+use Rattle.text.specs.Judge.{judge}
+use Rattle.text.specs.Records.{records, rest, Readable}
+use Rattle.text.specs.declared.Place.{Place}
+use Rattle.text.specs.declared.Verdict.the-variants.{Accepted}
+use Rattle.text.proofs.Judging.{Reads, first-reads, split-some, judge-line}
+use Rattle.text.proofs.Reading.{Allowed, accepted-line, records-line}
+use Rattle.command_text.specs.Form.{Record, param, group, variant, array, bitFlag, bitField, fieldEnum, const, bitmask, form}
+use Rattle.command_text.specs.Rules.{rules}
+use Rattle.command_class.specs.Definition.{letter, numbered}
+use Rattle.command_class.specs.Find.{from, Begins}
+use Rattle.command_class.proofs.Finding.{kind-letter}
+
+-- the kind of a line is its first byte
+first-byte : (l : List ℕ) (fs : List (List ℕ)) (more : List ℕ) → first l ≡ ended fs more → (kindOf fs ≡ 0 → ⊥) → kindOf fs ≡ getD l 0 0
+first-byte [] fs more e h = absurd (let z : _≡_ {A = ℕ} 0 1 = cc in omega arith)
+first-byte (x ∷ xs) fs more e h = go (eqb x 10) (eqb x 9) (first xs) e
+  where
+    with-kind : (gs : List (List ℕ)) → text.onto x gs ≡ fs → kindOf fs ≡ x
+    with-kind [] q = rw (← q) refl
+    with-kind ([] ∷ gs) q = rw (← q) refl
+    with-kind ((y ∷ ys) ∷ gs) q = absurd (h (rw (← q) refl))
+
+    go : (a b : Bool) (f : First) → cond a (ended ([] ∷ []) xs) (cond b (after ([] ∷ []) f) (longer x f)) ≡ ended fs more → kindOf fs ≡ x
+    go true b f q = let z : [] ∷ [] ≡ fs = cc in absurd (h (rw (← z) refl))
+    go false true unended q = absurd (let z : _≡_ {A = ℕ} 0 1 = cc in omega arith)
+    go false true (ended gs r) q = let z : [] ∷ gs ≡ fs = cc in absurd (h (rw (← z) refl))
+    go false false unended q = absurd (let z : _≡_ {A = ℕ} 0 1 = cc in omega arith)
+    go false false (ended gs r) q = let z : text.onto x gs ≡ fs = cc in with-kind gs z
+
+some-letter : (r : Record) → letter r ≡ 0 → ⊥
+some-letter (param q) h = let z : _≡_ {A = ℕ} 0x51 0 = h in omega arith
+some-letter (group g) h = let z : _≡_ {A = ℕ} 0x47 0 = h in omega arith
+some-letter (variant s) h = let z : _≡_ {A = ℕ} 0x52 0 = h in omega arith
+some-letter (array n a) h = let z : _≡_ {A = ℕ} 0x41 0 = h in omega arith
+some-letter (bitFlag m n) h = let z : _≡_ {A = ℕ} 0x54 0 = h in omega arith
+some-letter (bitField b) h = let z : _≡_ {A = ℕ} 0x53 0 = h in omega arith
+some-letter (fieldEnum b) h = let z : _≡_ {A = ℕ} 0x55 0 = h in omega arith
+some-letter (const v n) h = let z : _≡_ {A = ℕ} 0x4b 0 = h in omega arith
+some-letter (bitmask n) h = let z : _≡_ {A = ℕ} 0x4d 0 = h in omega arith
+
+-- the line at a place from which on every line is accepted: its fields, what stands after it, and what it says
+pub record Opened (t : List ℕ) (p : Place) : Type 0 where
+  pub cells : List (List ℕ)
+  pub more : List ℕ
+  pub said : Record
+  pub before : List Record
+  pub first-is : first (left t p) ≡ ended cells more
+  pub form-is : form cells ≡ some said
+  pub rest-is : rest rules t p ≡ said ∷ records form (lines more)
+  pub good : judge rules before (suc (p .line)) (lines more) ≡ Accepted
+
+pub opened : (t : List ℕ) (p : Place) → Readable rules t p → p .at < length t → Opened t p
+opened t p r inside = go (first (left t p)) refl (first-reads (left t p))
+  where
+    some-left : 0 < length (left t p)
+    some-left = rw length-drop (omega arith)
+
+    open-end : (l : List ℕ) → 0 < length l → judge rules (r .before) (p .line) (l ∷ []) ≡ Accepted → ⊥
+    open-end [] h e = omega arith
+    open-end (x ∷ xs) h e = let z : _≡_ {A = ℕ} 0 1 = cc in omega arith
+
+    allowed : (l more : List ℕ) → lines (left t p) ≡ l ∷ lines more → Allowed rules (r .before) (form (fields l)) (λ x. judge rules (x ∷ r .before) (suc (p .line)) (lines more))
+    allowed l more e =
+        accepted-line rules (r .before) (p .line) (form (fields l)) _
+        (sym (ap (judge rules (r .before) (p .line)) e ∙ judge-line rules (r .before) (p .line) l (lines more) (split-some 10 more)) ∙ r .good)
+
+    with-line : (fs : List (List ℕ)) (l more : List ℕ) → first (left t p) ≡ ended fs more → lines (left t p) ≡ l ∷ lines more → fields l ≡ fs
+        → Allowed rules (r .before) (form (fields l)) (λ x. judge rules (x ∷ r .before) (suc (p .line)) (lines more)) → Opened t p
+    with-line fs l more e q f a = record {
+      cells = fs;
+      more = more;
+      said = a .said;
+      before = a .said ∷ r .before;
+      first-is = e;
+      form-is = rw f at (a .is);
+      rest-is = ap (records form) q ∙ records-line rules l (lines more) (split-some 10 more) ∙ rw (a .is);
+      good = a .on;
+    }
+
+    go : (f : First) → first (left t p) ≡ f → Reads (left t p) f → Opened t p
+    go unended e reads = absurd (open-end (left t p) some-left (sym (ap (judge rules (r .before) (p .line)) reads) ∙ r .good))
+    go (ended fs more) e reads = with-line fs (reads .0) more e (reads .1) (reads .2) (allowed (reads .0) more (reads .1))
+
+pub begins-at : (t : List ℕ) (p : Place) → Readable rules t p → p .at < length t → Begins t p (getD t (p .at) 0)
+begins-at t p r inside =
+    let o = opened t p r inside in
+    let k : kindOf (o .cells) ≡ letter (o .said) = kind-letter (o .cells) (o .said) (o .form-is) in
+    let b : kindOf (o .cells) ≡ getD (left t p) 0 0 = first-byte (left t p) (o .cells) (o .more) (o .first-is) (λ z. some-letter (o .said) (sym k ∙ z)) in
+    record {
+      said = o .said;
+      others = numbered (suc (p .line)) (records form (lines (o .more)));
+      lines = ap (numbered (p .line)) (o .rest-is);
+      kind = sym (getD-drop (p .at) t 0 0 ∙ ap (λ (n : ℕ). getD t n 0) (add-zero (p .at))) ∙ sym b ∙ k;
+    }
+
+pub ruleset begin-laws = (begins-at)

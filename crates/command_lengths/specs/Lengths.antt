@@ -1,0 +1,78 @@
+-- Document 01, "Parameters of a command": whether a Q exists, how many bytes it takes, and how often a group repeats.
+use Prim.Native.Nat.{ℕ, _/_, _^_}
+use mathlib.Core.Bool.{Bool, true, false, cond, not, _&&_, _||_}
+use mathlib.Core.List.{List}
+use mathlib.Core.Option.{Option, none, some}
+use lib.Bits.{bitAnd}
+use lib.Dec.{eqb, leb, ltb}
+use Rattle.command_lengths.specs.Entries.{entryAt}
+use Rattle.command_lengths.specs.declared.Earlier.{Earlier}
+use Rattle.command_lengths.specs.declared.Earlier.the-variants.{Value, NoValue, NoEntry}
+use Rattle.command_lengths.specs.declared.BitOffset.{BitOffset}
+use Rattle.command_lengths.specs.declared.Rule.{Rule}
+use Rattle.command_lengths.specs.declared.Rule.the-variants.{Fixed, Open, Counted}
+use Rattle.command_lengths.specs.declared.Wanted.{Wanted}
+use Rattle.command_lengths.specs.declared.Wanted.the-variants.{Exactly, Rest}
+use Rattle.command_lengths.specs.declared.Size.{Size}
+use Rattle.command_lengths.specs.declared.Size.the-variants.{Bytes, Missing}
+
+-- ---- conditions
+
+-- "the entry there has a value whose low byte meets the mask": shares a bit with it
+abbrev pub meets : ℕ → Earlier → Bool
+meets mask (Value b) = not (eqb (bitAnd b mask) 0)
+meets mask NoValue = false
+meets mask NoEntry = false
+
+-- "its condition holds (offset and mask both given: the entry there has a value whose low byte meets the mask; else it holds)"
+abbrev pub holds : Option ℕ → Option ℕ → List Earlier → Bool
+holds (some k) (some mask) es = meets mask (entryAt es k)
+holds (some k) none es = true
+holds none mask es = true
+
+-- ---- lengths
+
+-- "masked and shifted"
+abbrev pub masked : ℕ → ℕ → BitOffset → ℕ
+masked b mask shift = bitAnd b mask / 2 ^ (shift .0)
+
+-- "no such entry .. means the rest; else the entry's low byte (0 if no value), masked and shifted"
+abbrev pub byEntry : ℕ → BitOffset → Earlier → Wanted
+byEntry mask shift (Value b) = Exactly (masked b mask shift)
+byEntry mask shift NoValue = Exactly (masked 0 mask shift)
+byEntry mask shift NoEntry = Rest
+
+-- how many bytes a Q wants, by what its lines say of its length and the entries already answered
+abbrev pub wanted : Rule → List Earlier → Wanted
+wanted (Fixed n) es = Exactly n
+wanted Open es = Rest
+wanted (Counted k mask shift) es = byEntry mask shift (entryAt es k)
+
+abbrev pub least : ℕ → ℕ → ℕ
+least a b = cond (leb a b) a b
+
+-- "Lengths, cut to what remains"
+abbrev pub cut : Wanted → ℕ → ℕ
+cut (Exactly n) rest = least n rest
+cut Rest rest = rest
+
+-- "A Q exists if bytes remain, its condition holds (..) and its length isn't 0."
+abbrev pub exists : Option ℕ → Option ℕ → Rule → List Earlier → ℕ → Bool
+exists offset mask rule es rest = ltb 0 rest && (holds offset mask es && not (eqb (cut (wanted rule es) rest) 0))
+
+-- the bytes that it takes of those that remain
+unfoldable pub sizeOf : Option ℕ → Option ℕ → Rule → List Earlier → ℕ → Size
+sizeOf offset mask rule es rest = cond (exists offset mask rule es rest) (Bytes (cut (wanted rule es) rest)) Missing
+
+-- ---- groups
+
+-- "as counted (the entry's low byte masked and shifted; no entry or no value: 0)"
+abbrev pub counted : ℕ → BitOffset → Earlier → ℕ
+counted mask shift (Value b) = masked b mask shift
+counted mask shift NoValue = 0
+counted mask shift NoEntry = 0
+
+-- "A group repeats as counted (..), or while bytes remain if offset is 255 or mask 0": at most so often. A repetition that goes on takes a byte
+-- or more, so "while bytes remain" is at most once a byte.
+unfoldable pub repeats : ℕ → ℕ → BitOffset → List Earlier → ℕ → ℕ
+repeats offset mask shift es rest = cond (eqb offset 255 || eqb mask 0) rest (counted mask shift (entryAt es offset))

@@ -1,0 +1,111 @@
+-- Laws of a Q's rows. Assumes nothing.
+use mathlib.Core.Path.{_≡_, refl, sym, ap, _∙_}
+use mathlib.Core.Bool.{Bool, true, false, cond}
+use mathlib.Core.List.{List, [], _∷_, _++_}
+use Prim.Native.Nat.{ℕ, suc, _+_, _-_, _^_, _≤_, _<_}
+use native.Mathlib.Omega.{arith}
+use mir.Syntax.{w64}
+use mir.Val.{Fits}
+use lib.Dec.{eqb}
+use lib.ListN.{length, getD, take, drop, length-drop}
+use lib.Seq.{length-take-le}
+use borrow.Author.Tests.{eq-eqb, ne-eqb}
+use Rattle.records.specs.declared.BodyOffset.{BodyOffset}
+use Rattle.records.specs.declared.PayloadOffset.{PayloadOffset}
+use Rattle.command_class.specs.Definition.{Item, under}
+use Rattle.command_class.specs.Find.{from}
+use Rattle.command_lengths.specs.Entries.{entries, given, earlier}
+use Rattle.command_lengths.specs.Lengths.{sizeOf}
+use Rattle.command_lengths.specs.declared.Earlier.{Earlier}
+use Rattle.command_lengths.specs.declared.Rule.{Rule}
+use Rattle.command_lengths.specs.declared.Size.{Size}
+use Rattle.command_lengths.specs.declared.Size.the-variants.{Bytes, Missing}
+use Rattle.command_lengths.proofs.Laws.{size-within, size-some}
+use Rattle.command_schema.specs.Field.{Field}
+use Rattle.command_schema.specs.Loaded.{ruleIn, after, fieldIn, countBits, Stands}
+use Rattle.command_schema.specs.declared.Loaded.{Loaded}
+use Rattle.command_rows.specs.Rows.{written, rowAt, Writes}
+use Rattle.command_rows.specs.declared.Row.{Row}
+use Rattle.command_rows.proofs.Laws.{written-none, written-more, part-back}
+use Rattle.command_param.specs.Param.{inPayload, valueOf, valued, orZero, constLine, entryOf, bitRows, childRows, rowOf, bytesAt, sizeAt, paramRows, paramEntry}
+use Rattle.command_param.specs.Steps.{WritesParam, IsRead, IsAbsent, ReadsParam}
+use Rattle.command_param.specs.declared.Uint.{Uint}
+use Rattle.command_param.specs.declared.Param.{Param}
+use Rattle.command_param.specs.declared.Param.the-variants.{Read, Absent}
+use Rattle.command_param.specs.declared.Wrote.{Wrote}
+use Rattle.command_param.proofs.Bits.{bits-count}
+
+-- ---- its own row
+pub row-is : (t : List ℕ) (q : Loaded) (bs : List ℕ) (start parent : ℕ) (value : Uint) (a v k : ℕ) → value ≡ valueOf bs → a ≡ valued value → v ≡ orZero value → k ≡ constLine (fieldIn t q) value
+    → _≡_ {A = Row} (record { kind = 0; line = q .line; parent = parent; start = start; end = start + length bs; valued = a; value = v; named = k; number = 0 }) (rowOf (fieldIn t q) parent start bs)
+row-is t q bs start parent value a v k is-value ea ev ek = rw (ea, ev, ek, is-value) refl
+
+-- ---- its children
+module _ (q : Field) (bs d : List ℕ) (start parent : ℕ) where
+  pub no-children : (length bs ≡ 1 → ⊥) → Writes d 1 (childRows q parent start bs) d 0
+  no-children h = rw (ne-eqb (length bs) 1 h) (record { rows = sym (written-none d 1); count = refl })
+
+pub part-children : (t : List ℕ) (q : Loaded) (bs d ys : List ℕ) (start parent rest b c : ℕ) → Writes (take (length d - rest) (drop rest d)) 0 (bitRows b parent start (under (from t (after q)))) ys c
+    → rest ≡ rowAt 1 (length d) → b ≡ getD bs 0 0 → length bs ≡ 1
+    → Writes d 1 (childRows (fieldIn t q) parent start bs) (take rest d ++ (ys ++ drop (length d - rest) (drop rest d))) c
+part-children t q bs d ys start parent rest b c w er eb h =
+    rw (eq-eqb (length bs) 1 h, ← eb)
+    (record { rows = part-back d ys 1 rest (bitRows b parent start (under (from t (after q)))) er (w .rows); count = w .count })
+
+pub ruleset row-laws = (row-is, no-children, part-children)
+
+-- ---- all its rows
+
+module _ (t : List ℕ) (q : Loaded) (body : List ℕ) (at size n parent start : ℕ) (d₀ d : List ℕ) (row : Row) where
+  -- the bytes that it takes, as they are lent
+  the-bytes : take (at + size - at) (drop at body) ≡ bytesAt body at size
+  the-bytes = let z : at + size - at ≡ size = omega arith in rw z refl
+
+  pub param-written : (d′ : List ℕ) (c : ℕ) (value : Uint) (e : ℕ)
+      → row ≡ rowOf (fieldIn t q) parent start (take (at + size - at) (drop at body)) → d ≡ written d₀ 0 (row ∷ [])
+      → Writes d 1 (childRows (fieldIn t q) (n + 1) start (take (at + size - at) (drop at body))) d′ c → start ≡ inPayload at
+      → value ≡ valueOf (take (at + size - at) (drop at body)) → earlier e ≡ entryOf value
+      → WritesParam body (fieldIn t q) at size n parent d₀ d′ (record { entry = e; count = c + 1 })
+  unfolding paramRows paramEntry
+  param-written d′ c value e er ed w es ev ee =
+      let b : take (at + size - at) (drop at body) ≡ take size (drop at body) = the-bytes in
+      let kids : d′ ≡ written d 1 (childRows (fieldIn t q) (n + 1) (inPayload at) (take size (drop at body))) = rw (b, es) at (w .rows) in
+      let own : row ≡ rowOf (fieldIn t q) parent (inPayload at) (take size (drop at body)) = rw (b, es) at er in
+      let c-is : c ≡ length (childRows (fieldIn t q) (n + 1) (inPayload at) (take size (drop at body))) = rw (b, es) at (w .count) in
+      record {
+        rows = kids ∙ rw (ed, ← own) (written-more d₀ 0 (row ∷ []) (childRows (fieldIn t q) (n + 1) (inPayload at) (take size (drop at body))) 1 refl);
+        count = omega arith;
+        entry = ee ∙ ap entryOf (ev ∙ ap valueOf b);
+      }
+
+pub ruleset written-laws = (param-written)
+
+-- ---- a Q at a place of the body
+module _ (t : List ℕ) (q : Loaded) (body ns : List ℕ) (at n parent : ℕ) (d : List ℕ) (rest : ℕ) (rule : Rule) (s : Size)
+    (is-s : s ≡ sizeOf (given (q .optionaloffs)) (given (q .optionalmask)) rule (entries ns) rest) (is-rule : rule ≡ ruleIn q) (is-rest : rest ≡ length body - at) where
+  here : s ≡ sizeAt body (fieldIn t q) (entries ns) at
+  here = rw (is-rule, is-rest) at is-s
+
+  pub param-absent : s ≡ Missing → ReadsParam body (fieldIn t q) (entries ns) at n parent d 0 d Absent
+  param-absent e = record { there = sym here ∙ e; rows = refl }
+
+  module _ (size : ℕ) (e : s ≡ Bytes size) where
+    there : sizeAt body (fieldIn t q) (entries ns) at ≡ Bytes size
+    there = sym here ∙ e
+
+    pub param-inside : at + size ≤ length body
+    param-inside =
+        let a = size-within (given (q .optionaloffs)) (given (q .optionalmask)) (ruleIn q) (entries ns) (length body - at) size there in
+        let b = size-some (given (q .optionaloffs)) (given (q .optionalmask)) (ruleIn q) (entries ns) (length body - at) size there in
+        omega arith
+
+    pub param-end-fits : length body < 65536 → Fits w64 (at + size)
+    param-end-fits h = omega (arith, param-inside)
+
+    pub param-read : (d′ : List ℕ) (w : Wrote) → WritesParam body (fieldIn t q) at size n parent d d′ w → ReadsParam body (fieldIn t q) (entries ns) at n parent d 0 d′ (Read (record { 0 = at + size }) (w .entry) (w .count))
+    param-read d′ w wrote = record { size = size; there = there; end = refl; entry = wrote .entry; count = wrote .count; rows = wrote .rows }
+
+pub remaining-none : (size at : ℕ) → size ≤ at → 0 ≡ size - at
+remaining-none size at h = omega arith
+
+pub ruleset param-laws = (param-absent, param-inside, param-end-fits, param-read, remaining-none)

@@ -1,0 +1,118 @@
+-- Document 01, "Parameters of a command": a Q that exists: its value, its row, its bit children.
+use mathlib.Core.Bool.{Bool, true, false, cond, _&&_}
+use mathlib.Core.List.{List, [], _∷_}
+use mathlib.Core.Option.{Option, none, some}
+use Prim.Native.Nat.{ℕ, _+_, _-_, _*_, _%_}
+use lib.Bits.{bitAnd}
+use lib.Dec.{eqb, leb}
+use lib.ListN.{length, getD, take, drop}
+use Rattle.command_text.specs.Form.{Record, param, group, variant, array, bitFlag, bitField, fieldEnum, const, bitmask}
+use Rattle.command_class.specs.Definition.{Item, firstConst}
+use Rattle.command_lengths.specs.Lengths.{masked, sizeOf}
+use Rattle.command_lengths.specs.declared.Earlier.{Earlier}
+use Rattle.command_lengths.specs.declared.Earlier.the-variants.{Value, NoValue}
+use Rattle.command_lengths.specs.declared.Size.{Size}
+use Rattle.command_schema.specs.Field.{Field}
+use Rattle.command_rows.specs.declared.Row.{Row}
+use Rattle.command_param.specs.declared.Uint.{Uint}
+use Rattle.command_param.specs.declared.Uint.the-variants.{Is, Not}
+
+-- "Body is the payload after two bytes; rows count from the payload's start."
+abbrev pub inPayload : ℕ → ℕ
+inPayload at = 2 + at
+
+-- ---- values
+
+-- bytes as a number, the first highest, after bytes that are worth v
+unfoldable pub bigEndian : ℕ → List ℕ → ℕ
+bigEndian v [] = v
+bigEndian v (b ∷ bs) = bigEndian (v * 256 + b) bs
+
+-- "Value: big-endian, for 1 to 8 bytes."
+abbrev pub valueOf : List ℕ → Uint
+valueOf bs = cond (leb 1 (length bs) && leb (length bs) 8) (Is (bigEndian 0 bs)) Not
+
+-- "1 if valued, value or 0"
+abbrev pub valued : Uint → ℕ
+valued (Is v) = 1
+valued Not = 0
+
+abbrev pub orZero : Uint → ℕ
+orZero (Is v) = v
+orZero Not = 0
+
+-- "line of the first K whose value is the low byte (CONST, its first A and first R not ascii) or 0"
+abbrev pub constLine : Field → Uint → ℕ
+constLine q (Is v) = cond (q .named) (firstConst (v % 256) (q .items)) 0
+constLine q Not = 0
+
+-- the entry that it is for those after it
+abbrev pub entryOf : Uint → Earlier
+entryOf (Is v) = Value (v % 256)
+entryOf Not = NoValue
+
+-- ---- bit children
+
+-- "T is 1 if the byte meets the mask, else 0; S and U are the byte masked, then shifted right."
+abbrev pub bitValue : ℕ → Record → Option ℕ
+bitValue b (param q) = none
+bitValue b (group g) = none
+bitValue b (variant s) = none
+bitValue b (array length ascii) = none
+bitValue b (bitFlag mask name) = some (cond (eqb (bitAnd b mask) 0) 0 1)
+bitValue b (bitField f) = some (masked b (f .mask) (record { 0 = f .shift }))
+bitValue b (fieldEnum f) = some (masked b (f .mask) (record { 0 = f .shift }))
+bitValue b (const value name) = none
+bitValue b (bitmask length) = none
+
+abbrev pub bitRow : ℕ → ℕ → ℕ → ℕ → Row
+bitRow line parent start v =
+    record { kind = 1; line = line; parent = parent; start = start; end = start + 1; valued = 1; value = v; named = 0; number = 0 }
+
+-- its row, if a line has one, in front of others
+abbrev pub bitOnto : ℕ → ℕ → ℕ → Option ℕ → List Row → List Row
+bitOnto line parent start none rs = rs
+bitOnto line parent start (some v) rs = bitRow line parent start v ∷ rs
+
+-- the rows of the byte b, which stands at `start`
+unfoldable pub bitRows : ℕ → ℕ → ℕ → List Item → List Row
+bitRows b parent start [] = []
+bitRows b parent start (i ∷ is) = bitOnto (i .line) parent start (bitValue b (i .says)) (bitRows b parent start is)
+
+-- "A Q of length 1 has its T, S and U lines as children in text order, all on that byte."
+abbrev pub childRows : Field → ℕ → ℕ → List ℕ → List Row
+childRows q parent start bs = cond (eqb (length bs) 1) (bitRows (getD bs 0 0) parent start (q .items)) []
+
+-- ---- rows
+
+-- the row of a Q that takes the bytes bs
+abbrev pub rowOf : Field → ℕ → ℕ → List ℕ → Row
+rowOf q parent start bs =
+    record {
+      kind = 0;
+      line = q .line;
+      parent = parent;
+      start = start;
+      end = start + length bs;
+      valued = valued (valueOf bs);
+      value = orZero (valueOf bs);
+      named = constLine q (valueOf bs);
+      number = 0;
+    }
+
+-- the bytes of a body from a place on
+abbrev pub bytesAt : List ℕ → ℕ → ℕ → List ℕ
+bytesAt body at n = take n (drop at body)
+
+-- the bytes that a Q takes at a place of the body, if it exists there, after these entries
+abbrev pub sizeAt : List ℕ → Field → List Earlier → ℕ → Size
+sizeAt body q es at = sizeOf (q .offset) (q .mask) (q .rule) es (length body - at)
+
+-- "Parent before children": the rows of a Q whose own is row n, and which takes `size` bytes at a place of the body
+unfoldable pub paramRows : List ℕ → Field → ℕ → ℕ → ℕ → ℕ → List Row
+paramRows body q at size n parent =
+    rowOf q parent (inPayload at) (bytesAt body at size) ∷ childRows q (n + 1) (inPayload at) (bytesAt body at size)
+
+-- the entry that it is
+unfoldable pub paramEntry : List ℕ → ℕ → ℕ → Earlier
+paramEntry body at size = entryOf (valueOf (bytesAt body at size))

@@ -1,0 +1,317 @@
+// One Q of a command: whether it exists, its value, its row and its bit children. Counterpart of `read_uint`, `decode_bits` and `decode_param` of
+// command_class/decode.rs.
+use command_class::Row as Line;
+use command_lengths::BitOffset;
+use command_lengths::Size;
+use command_rows::Row;
+use command_rows::WIDTH;
+use command_schema::Loaded;
+use records::BodyOffset;
+use records::PayloadOffset;
+ghost use mathlib.Core.Path.{_≡_};
+ghost use Prim.Native.Nat.{_+_, _-_, _%_, _^_, _≤_, _<_};
+ghost use lib.ListN.{length};
+ghost use Rattle.command_class.specs.Definition.{under};
+ghost use Rattle.command_class.specs.Find.{from, among};
+ghost use Rattle.command_lengths.specs.Entries.{entries, earlier};
+ghost use Rattle.command_rows.specs.Rows.{Writes};
+ghost use Rattle.command_schema.specs.Loaded.{after, fieldIn, Stands};
+ghost use Rattle.command_param.specs.Param.{inPayload, valueOf, valued, orZero, constLine, entryOf, bitRow, bitRows, childRows, rowOf};
+ghost use Rattle.command_param.specs.Steps.{bitNumber, WritesParam, ReadsParam};
+
+// Bytes of command class and command that precede a command's params.
+const CMD_HEADER: usize = 2;
+
+// A value of 1 to 8 bytes, if it is one.
+pub enum Uint {
+    Is(u64),
+    Not,
+}
+
+// What reading a Q gives: where it ends in the body, the entry that it is for those after it, how many rows it has; or that it does not exist.
+pub enum Param {
+    Read {
+        end: BodyOffset,
+        entry: u16,
+        count: usize,
+    },
+    Absent,
+}
+
+// What is written of a Q.
+pub struct Wrote {
+    pub entry: u16,
+    pub count: usize,
+}
+
+// A place of the body as a place of the payload.
+pub fn in_payload(at: BodyOffset) -> PayloadOffset
+    requires { ⌜ at .0 < 2 ^ 32 ⌝ }
+    ensures { λ r. ⌜ r .0 ≡ inPayload (at .0) ⌝ }
+{
+    at.in_payload(PayloadOffset(CMD_HEADER))
+}
+
+fn wide(x: u8) -> u64
+    ensures { λ r. ⌜ r ≡ x ⌝ }
+    ensures { λ r. ⌜ r < 256 ⌝ }
+{
+    x as u64
+}
+
+fn as_u16(x: u8) -> u16
+    ensures { λ r. ⌜ r ≡ x ⌝ }
+{
+    x as u16
+}
+
+// A number of 1 to 8 bytes, the first highest.
+pub fn read_uint(bytes: &[u8]) -> Uint
+    ensures { λ r. ⌜ r ≡ valueOf (now (bytes .entry)) ⌝ }
+{
+    if bytes.len() < 1 {
+        return Uint::Not;
+    }
+    if 8 < bytes.len() {
+        return Uint::Not;
+    }
+    let mut v: u64 = 0;
+    let mut i: usize = 0;
+    while i < bytes.len() {
+        v = v * 256 + wide(bytes[i]);
+        i += 1;
+    }
+    Uint::Is(v)
+}
+
+fn low_byte(v: u64) -> u16
+    ensures { λ r. ⌜ r ≡ v % 256 ⌝ }
+{
+    (v % 256) as u16
+}
+
+// The entry that a value is for those after it: its low byte, or 256 without value.
+fn entry_of(value: Uint) -> u16
+    ensures { λ r. ⌜ earlier r ≡ entryOf value ⌝ }
+{
+    let Uint::Is(v) = value else {
+        return 256;
+    };
+    low_byte(v)
+}
+
+// The line of the K that names a Q's value, or 0.
+fn const_line(text: &[u8], q: Loaded, value: Uint) -> u64
+    requires { ⌜ Stands (now text) q ⌝ }
+    ensures { λ r. ⌜ r ≡ constLine (fieldIn (now (text .entry)) q) value ⌝ }
+{
+    let Uint::Is(v) = value else {
+        return 0;
+    };
+    if q.named != 1 {
+        return 0;
+    }
+    command_class::find_const(text, q.next(), low_byte(v)) as u64
+}
+
+fn valued_of(value: Uint) -> u64
+    ensures { λ r. ⌜ r ≡ valued value ⌝ }
+{
+    match value {
+        Uint::Is(_) => 1,
+        Uint::Not => 0,
+    }
+}
+
+fn or_zero(value: Uint) -> u64
+    ensures { λ r. ⌜ r ≡ orZero value ⌝ }
+{
+    match value {
+        Uint::Is(v) => v,
+        Uint::Not => 0,
+    }
+}
+
+// The row of a Q that takes these bytes.
+fn param_row(text: &[u8], q: Loaded, bytes: &[u8], start: PayloadOffset, parent: u64) -> Row
+    requires { ⌜ (Stands (now text) q) × (start .0 + length (now bytes) < 2 ^ 63) ⌝ }
+    ensures { λ r. ⌜ r ≡ rowOf (fieldIn (now (text .entry)) q) parent (start .0) (now (bytes .entry)) ⌝ }
+{
+    let value = read_uint(bytes);
+    Row {
+        kind: 0,
+        line: q.line as u64,
+        parent,
+        start: start.0 as u64,
+        end: (start.0 + bytes.len()) as u64,
+        valued: valued_of(value),
+        value: or_zero(value),
+        named: const_line(text, q, value),
+        number: 0,
+    }
+}
+
+// The value of a T, S or U line of the byte b.
+fn bit_value(line: Line, b: u16) -> u64
+    ensures { λ r. ⌜ r ≡ bitNumber b line ⌝ }
+{
+    if line.kind != b'T' {
+        return command_lengths::mask_shift(b, line.mask, BitOffset(line.shift)) as u64;
+    }
+    if b & line.mask == 0 {
+        return 0;
+    }
+    1
+}
+
+// The row of a T, S or U line, with its number in the text.
+fn bit_row(line: Line, number: usize, b: u16, start: PayloadOffset, parent: u64) -> Row
+    requires { ⌜ start .0 < 2 ^ 62 ⌝ }
+    ensures { λ r. ⌜ r ≡ bitRow number parent (start .0) (bitNumber b line) ⌝ }
+{
+    Row {
+        kind: 1,
+        line: number as u64,
+        parent,
+        start: start.0 as u64,
+        end: (start.0 + 1) as u64,
+        valued: 1,
+        value: bit_value(line, b),
+        named: 0,
+        number: 0,
+    }
+}
+
+fn is_bits(kind: u8) -> bool
+    ensures { λ r. ⌜ r ≡ among 84 83 85 kind ⌝ }
+{
+    if kind == b'T' {
+        return true;
+    }
+    if kind == b'S' {
+        return true;
+    }
+    kind == b'U'
+}
+
+// The bit children of the byte b, which stands at `start`. `rows` is the table from their first row on.
+fn decode_bits(
+    text: &[u8],
+    q: Loaded,
+    b: u16,
+    start: PayloadOffset,
+    parent: u64,
+    rows: &mut [u64],
+) -> usize
+    requires { ⌜ (Stands (now text) q) × (start .0 < 2 ^ 62) ⌝ }
+    ensures { λ r. ⌜ Writes (now (rows .entry)) 0 (bitRows b parent (start .0) (under (from (now (text .entry)) (after q)))) (now (rows .exit)) r ⌝ }
+    ensures { λ r. ⌜ r < 65536 ⌝ }
+{
+    let total = q.bits as usize;
+    if rows.len() < WIDTH {
+        return total;
+    }
+    let mut place = q.next();
+    let mut k: usize = 0;
+    while k < total {
+        let read = command_class::read_at(text, place);
+        let line = read.row;
+        if is_bits(line.kind) {
+            command_rows::write_row(rows, k, bit_row(line, place.line, b, start, parent));
+            k += 1;
+            place = read.next;
+            continue;
+        }
+        place = read.next;
+    }
+    total
+}
+
+// The children of a Q that takes these bytes, from row 1 of `rows` on.
+fn write_children(
+    text: &[u8],
+    q: Loaded,
+    bytes: &[u8],
+    start: PayloadOffset,
+    parent: u64,
+    rows: &mut [u64],
+) -> usize
+    requires { ⌜ (Stands (now text) q) × (start .0 < 2 ^ 62) ⌝ }
+    ensures { λ r. ⌜ Writes (now (rows .entry)) 1 (childRows (fieldIn (now (text .entry)) q) parent (start .0) (now (bytes .entry))) (now (rows .exit)) r ⌝ }
+    ensures { λ r. ⌜ r < 65536 ⌝ }
+{
+    if bytes.len() != 1 {
+        return 0;
+    }
+    let b = as_u16(bytes[0]);
+    let rest = command_rows::row_at(1, rows.len());
+    decode_bits(text, q, b, start, parent, &mut rows[rest..])
+}
+
+// Writes a Q that takes `size` bytes. Its own row is row n, and `rows` is the table from there on.
+fn write_param(
+    text: &[u8],
+    q: Loaded,
+    body: &[u8],
+    at: BodyOffset,
+    size: usize,
+    parent: u64,
+    rows: &mut [u64],
+    n: usize,
+) -> Wrote
+    requires { ⌜ (Stands (now text) q) × (length (now body) < 65536) × (at .0 + size ≤ length (now body)) × (n < 2 ^ 50) ⌝ }
+    ensures { λ r. ⌜ WritesParam (now (body .entry)) (fieldIn (now (text .entry)) q) (at .0) size n parent (now (rows .entry)) (now (rows .exit)) r ⌝ }
+{
+    let from = at.0;
+    let end = from + size;
+    let bytes = &body[from..end];
+    let start = in_payload(at);
+    command_rows::write_row(rows, 0, param_row(text, q, bytes, start, parent));
+    let children = write_children(text, q, bytes, start, (n + 1) as u64, rows);
+    Wrote {
+        entry: entry_of(read_uint(bytes)),
+        count: children + 1,
+    }
+}
+
+// How many bytes of the body remain at a place.
+pub fn remaining(body: &[u8], at: BodyOffset) -> usize
+    ensures { λ r. ⌜ r ≡ length (now (body .entry)) - at .0 ⌝ }
+{
+    if at.0 < body.len() {
+        return body.len() - at.0;
+    }
+    0
+}
+
+// Reads a Q at a place of the body, after the entries `es` of its list. Its own row is row n, and `rows` is the table from there on.
+pub fn decode_param(
+    text: &[u8],
+    q: Loaded,
+    body: &[u8],
+    at: BodyOffset,
+    es: &[u16],
+    parent: u64,
+    rows: &mut [u64],
+    n: usize,
+) -> Param
+    requires { ⌜ (Stands (now text) q) × (length (now body) < 65536) × (n < 2 ^ 50) ⌝ }
+    ensures { λ r. ⌜ ReadsParam (now (body .entry)) (fieldIn (now (text .entry)) q) (entries (now (es .entry))) (at .0) n parent (now (rows .entry)) 0 (now (rows .exit)) r ⌝ }
+{
+    let rest = remaining(body, at);
+    let Size::Bytes(size) = command_lengths::size_of(
+        q.optionaloffs,
+        q.optionalmask,
+        q.rule(),
+        es,
+        rest,
+    ) else {
+        return Param::Absent;
+    };
+    let wrote = write_param(text, q, body, at, size, parent, rows, n);
+    Param::Read {
+        end: BodyOffset(at.0 + size),
+        entry: wrote.entry,
+        count: wrote.count,
+    }
+}

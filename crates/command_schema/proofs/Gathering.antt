@@ -1,0 +1,133 @@
+-- Laws of gathering the lines under a Q. Assumes nothing.
+use mathlib.Core.Path.{_≡_, refl, sym, ap, _∙_}
+use mathlib.Core.Bool.{Bool, true, false, cond, not, _&&_, _||_}
+use mathlib.Core.List.{List, [], _∷_}
+use Prim.Native.Nat.{ℕ, suc, _+_, _-_, _≤_, _<_}
+use native.Mathlib.Omega.{arith}
+use lib.Dec.{eqb}
+use lib.ListN.{length}
+use Rattle.text.specs.Records.{Readable}
+use Rattle.text.specs.declared.Place.{Place}
+use Rattle.text.proofs.Reading.{rest-end}
+use Rattle.command_text.specs.Form.{Record, param, group, variant, array, bitFlag, bitField, fieldEnum, const, bitmask}
+use Rattle.command_text.specs.Rules.{begins, rules}
+use Rattle.command_class.specs.Definition.{Item, numbered, ends, under, letter}
+use Rattle.command_class.specs.Find.{from, among, orMissing, Says, IsRead, Begins}
+use Rattle.command_class.specs.declared.Row.{Row}
+use Rattle.command_class.specs.declared.Read.{Read}
+use Rattle.command_schema.specs.Heads.{Head, onto, heads}
+use Rattle.command_schema.specs.Loaded.{gatheredNone, withVariant, withArray, withBitmask, withBits, noted, notedRow, gathered, Gathers}
+use Rattle.command_schema.specs.declared.Gathered.{Gathered}
+use Rattle.command_schema.specs.declared.Under.{Under}
+
+-- the numbers of a line say what the line says
+noted-row : (g : Gathered) (x : Record) (r : Row) → r .kind ≡ letter x → Says x r → notedRow g r ≡ noted g x
+noted-row g (param q) r k s = rw k refl
+noted-row g (group q) r k s = rw k refl
+noted-row g (variant v) r k s = rw (k, s .0, s .1, s .2, s .3) refl
+noted-row g (array n a) r k s = rw (k, s .0, s .1) refl
+noted-row g (bitFlag m n) r k s = rw k refl
+noted-row g (bitField b) r k s = rw k refl
+noted-row g (fieldEnum b) r k s = rw k refl
+noted-row g (const v n) r k s = rw k refl
+noted-row g (bitmask n) r k s = rw (k, s) refl
+
+-- one line counts at most once
+either : (b : Bool) (x y : Gathered) (n : ℕ) → x .bits ≤ n → y .bits ≤ n → cond b x y .bits ≤ n
+either true x y n h k = h
+either false x y n h k = k
+
+few-bits : (g : Gathered) (x : Record) → noted g x .bits ≤ g .bits + 1
+few-bits g (param q) = omega arith
+few-bits g (group q) = omega arith
+few-bits g (variant v) = either (eqb (g .variant .paramoffs) 256) _ g (g .bits + 1) (omega arith) (omega arith)
+few-bits g (array n a) = either (eqb (g .array .len) 256) _ g (g .bits + 1) (omega arith) (omega arith)
+few-bits g (bitFlag m n) = omega arith
+few-bits g (bitField b) = omega arith
+few-bits g (fieldEnum b) = omega arith
+few-bits g (const v n) = omega arith
+few-bits g (bitmask n) = either (eqb (g .bitmask) 257) _ g (g .bits + 1) (omega arith) (omega arith)
+
+-- what is gathered so far, and what is left at the place p
+pub record Gathering (t : List ℕ) (p₀ : Place) (g : Gathered) (p : Place) : Type 0 where
+  pub readable : Readable rules t p
+  pub so : gathered gatheredNone (under (from t p₀)) ≡ gathered g (under (from t p))
+  pub heads-left : heads (from t p₀) ≡ heads (from t p)
+  pub on : p₀ .at ≤ p .at
+  pub few : g .bits ≤ p .at
+
+pub gathering-start : (t : List ℕ) (p : Place) (g : Gathered) → Readable rules t p → g ≡ gatheredNone → Gathering t p g p
+gathering-start t p g r e = rw e (record { readable = r; so = refl; heads-left = refl; on = omega arith; few = omega arith })
+
+module _ (t : List ℕ) (p₀ : Place) (g : Gathered) (p : Place) (k : Gathering t p₀ g p) where
+  none-left : under (from t p) ≡ [] → Gathers t p₀ (record { gathered = g; next = p })
+  unfolding gathered
+  none-left e = record { all = sym (k .so ∙ ap (gathered g) e); heads-left = k .heads-left; readable = k .readable; on = k .on; few = k .few }
+
+  pub gathering-end : length t ≤ p .at → Gathers t p₀ (record { gathered = g; next = p })
+  gathering-end h = none-left (ap (λ (is : List Item). under is) (ap (numbered (p .line)) (rest-end rules t p h)))
+
+  module _ (kind : ℕ) (begin : Begins t p kind) (x : Bool) (is-x : x ≡ among 81 71 71 kind) where
+    ending : x ≡ begins (begin .said)
+    ending = is-x ∙ ap (among 81 71 71) (begin .kind) ∙ by-record (begin .said)
+      where
+        by-record : (r : Record) → among 81 71 71 (letter r) ≡ begins r
+        by-record (param q) = refl
+        by-record (group q) = refl
+        by-record (variant v) = refl
+        by-record (array n a) = refl
+        by-record (bitFlag m n) = refl
+        by-record (bitField b) = refl
+        by-record (fieldEnum b) = refl
+        by-record (const v n) = refl
+        by-record (bitmask n) = refl
+
+    pub gathering-stop : x ≡ true → Gathers t p₀ (record { gathered = g; next = p })
+    gathering-stop e = none-left (rw (begin .lines, sym ending ∙ e))
+
+    module _ (read : Read) (is-read : IsRead t p read) (other : x ≡ false) where
+      same : begin .said ≡ is-read .said
+      same = let z : record { line = p .line; says = begin .said } ∷ begin .others ≡ record { line = p .line; says = is-read .said } ∷ from t (read .next) = sym (begin .lines) ∙ is-read .lines in
+          let y : _≡_ {A = Item} (record { line = p .line; says = begin .said }) (record { line = p .line; says = is-read .said }) = cc in
+          ap (λ (i : Item). i .says) y
+
+      item : begins (is-read .said) ≡ false
+      item = ap begins (sym same) ∙ sym ending ∙ other
+
+      no-head : (y : Record) → begins y ≡ false → (n : ℕ) (is : List Item) (hs : List Head) → onto n y is hs ≡ hs
+      no-head (param q) e n is hs = absurd (let z : _≡_ {A = ℕ} 0 1 = cc in omega arith)
+      no-head (group q) e n is hs = absurd (let z : _≡_ {A = ℕ} 0 1 = cc in omega arith)
+      no-head (variant v) e n is hs = refl
+      no-head (array l a) e n is hs = refl
+      no-head (bitFlag m l) e n is hs = refl
+      no-head (bitField b) e n is hs = refl
+      no-head (fieldEnum b) e n is hs = refl
+      no-head (const v l) e n is hs = refl
+      no-head (bitmask l) e n is hs = refl
+
+      under-is : under (from t p) ≡ record { line = p .line; says = is-read .said } ∷ under (from t (read .next))
+      under-is = rw (is-read .lines, item) refl
+
+      heads-is : heads (from t p) ≡ heads (from t (read .next))
+      unfolding heads
+      heads-is = rw (is-read .lines, no-head (is-read .said) item (p .line) (from t (read .next)) (heads (from t (read .next)))) refl
+
+      pub gathering-few : length t ≤ 60000 → p .at < length t → g .bits < 65535
+      gathering-few short inside = let f = k .few in omega arith
+
+      pub gathering-next : (g′ : Gathered) → g′ ≡ notedRow g (read .row) → Gathering t p₀ g′ (read .next)
+      unfolding gathered
+      gathering-next g′ e =
+          let r : g′ ≡ noted g (is-read .said) = e ∙ noted-row g (is-read .said) (read .row) (is-read .kind) (is-read .says) in
+          record {
+            readable = is-read .next;
+            so = rw (r, k .so, under-is) refl;
+            heads-left = k .heads-left ∙ heads-is;
+            on = let a = k .on in let b = is-read .on in omega arith;
+            few = let a = few-bits g (is-read .said) in let b = is-read .on in let f = k .few in rw r (omega arith);
+          }
+
+      pub gathering-less : length t - read .next .at < length t - p .at
+      gathering-less = let a = is-read .on in let b = is-read .next .inn .at-in in omega arith
+
+pub ruleset gather-laws = (gathering-start, gathering-end, gathering-stop, gathering-few, gathering-next, gathering-less)

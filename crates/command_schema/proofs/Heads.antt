@@ -1,0 +1,61 @@
+-- The Qs and Gs of a text, one after the other, make up its definition. Assumes nothing.
+use mathlib.Core.Path.{_≡_, refl, ap}
+use mathlib.Core.Bool.{Bool, cond}
+use mathlib.Core.List.{List, [], _∷_}
+use Prim.Native.Nat.{ℕ, suc}
+use lib.Dec.{eqb}
+use lib.ListN.{length}
+use Rattle.text.specs.Text.{lines}
+use Rattle.text.specs.Records.{records}
+use Rattle.command_text.specs.Form.{Record, param, group, variant, array, bitFlag, bitField, fieldEnum, const, bitmask, form}
+use Rattle.command_text.specs.Rules.{count}
+use Rattle.command_class.specs.Definition.{Parameter, Entry, single, repeated, numbered, under, membersAt, entriesAt, definition}
+use Rattle.command_schema.specs.Heads.{heads, headsOf, membersOf, entriesOf}
+
+heads-members : (n : ℕ) (rs : List Record) → membersAt n rs ≡ membersOf (heads (numbered n rs))
+unfolding heads membersOf
+heads-members n [] = refl
+heads-members n (param q ∷ rs) = ap (λ (ps : List Parameter). cond (eqb (q .level) 1) (record { line = n; says = q; items = under (numbered (suc n) rs) } ∷ ps) []) (heads-members (suc n) rs)
+heads-members n (group g ∷ rs) = refl
+heads-members n (variant s ∷ rs) = heads-members (suc n) rs
+heads-members n (array l a ∷ rs) = heads-members (suc n) rs
+heads-members n (bitFlag m l ∷ rs) = heads-members (suc n) rs
+heads-members n (bitField b ∷ rs) = heads-members (suc n) rs
+heads-members n (fieldEnum b ∷ rs) = heads-members (suc n) rs
+heads-members n (const v l ∷ rs) = heads-members (suc n) rs
+heads-members n (bitmask l ∷ rs) = heads-members (suc n) rs
+
+heads-entries : (n : ℕ) (rs : List Record) → entriesAt n rs ≡ entriesOf (heads (numbered n rs))
+unfolding heads entriesOf
+heads-entries n [] = refl
+heads-entries n (param q ∷ rs) =
+    ap (λ (ds : List Entry). cond (eqb (q .level) 0) (single (record { line = n; says = q; items = under (numbered (suc n) rs) }) ∷ ds) ds) (heads-entries (suc n) rs)
+heads-entries n (group g ∷ rs) =
+    let ms = heads-members (suc n) rs in
+    let ds = heads-entries (suc n) rs in
+    rw (ms, ds) refl
+heads-entries n (variant s ∷ rs) = heads-entries (suc n) rs
+heads-entries n (array l a ∷ rs) = heads-entries (suc n) rs
+heads-entries n (bitFlag m l ∷ rs) = heads-entries (suc n) rs
+heads-entries n (bitField b ∷ rs) = heads-entries (suc n) rs
+heads-entries n (fieldEnum b ∷ rs) = heads-entries (suc n) rs
+heads-entries n (const v l ∷ rs) = heads-entries (suc n) rs
+heads-entries n (bitmask l ∷ rs) = heads-entries (suc n) rs
+
+-- the definition of a text
+pub definition-heads : (t : List ℕ) → definition t ≡ entriesOf (headsOf t)
+definition-heads t = heads-entries 1 (records form (lines t))
+
+-- how many there are
+pub heads-count : (n : ℕ) (rs : List Record) → length (heads (numbered n rs)) ≡ count rs
+unfolding heads
+heads-count n [] = refl
+heads-count n (param q ∷ rs) = ap suc (heads-count (suc n) rs)
+heads-count n (group g ∷ rs) = ap suc (heads-count (suc n) rs)
+heads-count n (variant s ∷ rs) = heads-count (suc n) rs
+heads-count n (array l a ∷ rs) = heads-count (suc n) rs
+heads-count n (bitFlag m l ∷ rs) = heads-count (suc n) rs
+heads-count n (bitField b ∷ rs) = heads-count (suc n) rs
+heads-count n (fieldEnum b ∷ rs) = heads-count (suc n) rs
+heads-count n (const v l ∷ rs) = heads-count (suc n) rs
+heads-count n (bitmask l ∷ rs) = heads-count (suc n) rs

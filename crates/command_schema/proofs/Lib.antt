@@ -1,0 +1,6 @@
+pub mod Laws
+pub mod Heads
+pub mod Gathering
+pub mod Resolving
+pub mod Loading
+pub mod Told
