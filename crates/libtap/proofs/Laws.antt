@@ -1,23 +1,81 @@
 -- Laws of the answers as C has them. Assumes nothing.
 use mathlib.Core.Path.{_≡_, refl, ap, _∙_}
+use mathlib.Core.Bool.{true, false}
 use mathlib.Core.List.{List}
-use Prim.Native.Nat.{ℕ}
+use Prim.Native.Nat.{ℕ, _+_, _-_}
+use native.Mathlib.Omega.{arith}
+use lib.ListN.{getD}
 use Rattle.refusal.specs.declared.Refusal.{Refusal}
 use Rattle.refusal.specs.Refusal.{numberOf, carriedBy}
+use Rattle.records.specs.declared.Counted.{Counted}
+use Rattle.records.specs.declared.Counted.the-variants.{Records, Refused as Uncounted}
+use Rattle.records.specs.declared.Span.{Span}
+use Rattle.records.specs.Records.{spanOf}
+use Rattle.records.specs.Steps.{IsBody}
+use Rattle.frame.specs.declared.PtiFrame.{PtiFrame}
+use Rattle.frame.specs.declared.Parsed.{Parsed}
+use Rattle.frame.specs.declared.Parsed.the-variants.{Frame, Refused as NoFrame}
 use Rattle.pti.specs.declared.payload.Frames.{Frames}
 use Rattle.pti.specs.declared.payload.Frames.the-variants.{Rows, Refused}
-use Rattle.pti.specs.Payload.{Parses}
+use Rattle.pti.specs.Payload.{rowOf, Parses}
 use Rattle.text.specs.declared.Verdict.{Verdict}
 use Rattle.text.specs.declared.Verdict.the-variants.{Accepted, Refused as Unfit}
+use Rattle.bits.specs.declared.Bits.{Bits}
+use Rattle.bits.specs.declared.Bits.the-variants.{Value, Declined}
+use Rattle.header.specs.declared.DecodedHeader.{DecodedHeader}
+use Rattle.header.specs.declared.Decoded.{Decoded}
+use Rattle.header.specs.declared.Decoded.the-variants as header
+use Rattle.header.specs.Decode.{Decodes}
+use Rattle.records.specs.declared.PayloadOffset.{PayloadOffset}
+use Rattle.command.specs.declared.Params.{Params}
+use Rattle.command.specs.declared.Params.the-variants as command
+use Rattle.command.specs.Answer.{Decodes as DecodesParams}
 use Rattle.libtap.specs.declared.TapAnswer.{TapAnswer}
-use Rattle.libtap.specs.Answers.{told, judged, Told}
+use Rattle.libtap.specs.declared.frames.TapFrame.{TapFrame}
+use Rattle.libtap.specs.declared.headers.TapBits.{TapBits}
+use Rattle.libtap.specs.declared.headers.TapHeader.{TapHeader}
+use Rattle.libtap.specs.declared.commands.TapParams.{TapParams}
+use Rattle.libtap.specs.Answers.{told, judged, counted, part, framed, toldFrame, Told}
+use Rattle.libtap.specs.Headers.{toldBits, headed, toldHeader, ToldHeader}
+use Rattle.libtap.specs.Commands.{toldParams, ToldParams}
 
+-- ---- frames
 pub tells-rows : (f : Frames) (n : ℕ) → f ≡ Rows n → record { refusal = 0; value = n } ≡ told f
 tells-rows f n e = rw e refl
 
 pub tells-refusal : (f : Frames) (x : Refusal) (number carried : ℕ) → f ≡ Refused x → number ≡ numberOf x → carried ≡ carriedBy x → record { refusal = number; value = carried } ≡ told f
 tells-refusal f x number carried e is-number is-carried = rw (e, is-number, is-carried) refl
 
+pub told-all : (s t : List ℕ) (f : Frames) (r : TapAnswer) (t′ : List ℕ) → Parses s t f t′ → r ≡ told f → Told s t r t′
+told-all s t f r t′ p is-r = record { answer = is-r ∙ ap told (p .answer); table = rw (p .answer) at (p .table) }
+
+pub counts : (c : Counted) (n : ℕ) → c ≡ Records n → record { refusal = 0; value = n } ≡ counted c
+counts c n e = rw e refl
+
+pub counts-refusal : (c : Counted) (x : Refusal) (number carried : ℕ) → c ≡ Uncounted x → number ≡ numberOf x → carried ≡ carriedBy x → record { refusal = number; value = carried } ≡ counted c
+counts-refusal c x number carried e is-number is-carried = rw (e, is-number, is-carried) refl
+
+pub counts-all : (c d : Counted) (r : TapAnswer) → c ≡ d → r ≡ counted c → r ≡ counted d
+counts-all c d r e is-r = rw e at is-r
+
+pub parts : (s : List ℕ) (k : ℕ) (b : Span) → IsBody s k b → record { start = b .start .0; length = b .end .0 - b .start .0 } ≡ part (spanOf s k)
+parts s k b body = rw (body .is) refl
+
+pub framed-row : (f : PtiFrame) (row : List ℕ) → row ≡ rowOf 0 f
+    → record { refusal = 0; value = 0; direction = getD row 0 0; region = getD row 1 0; channel = getD row 2 0; rate = getD row 3 0; rssi = getD row 4 0; beams = getD row 5 0; start = getD row 6 0; length = getD row 7 0 } ≡ framed f
+framed-row f row e = let z : 0 + f .start .0 ≡ f .start .0 = omega arith in rw (e, z) refl
+
+pub frames : (p : Parsed) (f : PtiFrame) (r : TapFrame) → p ≡ Frame f → r ≡ framed f → r ≡ toldFrame p
+frames p f r e is-r = rw e is-r
+
+pub frames-refusal : (p : Parsed) (x : Refusal) (number carried : ℕ) → p ≡ NoFrame x → number ≡ numberOf x → carried ≡ carriedBy x
+    → record { refusal = number; value = carried; direction = 0; region = 0; channel = 0; rate = 0; rssi = 0; beams = 0; start = 0; length = 0 } ≡ toldFrame p
+frames-refusal p x number carried e is-number is-carried = rw (e, is-number, is-carried) refl
+
+pub frames-all : (p q : Parsed) (r : TapFrame) → p ≡ q → r ≡ toldFrame p → r ≡ toldFrame q
+frames-all p q r e is-r = rw e at is-r
+
+-- ---- texts
 pub tells-accepted : (v : Verdict) → v ≡ Accepted → record { refusal = 0; value = 0 } ≡ judged v
 tells-accepted v e = rw e refl
 
@@ -27,7 +85,36 @@ tells-unfit v x number carried e is-number is-carried = rw (e, is-number, is-car
 pub tells-verdict : (v w : Verdict) (r : TapAnswer) → v ≡ w → r ≡ judged v → r ≡ judged w
 tells-verdict v w r e is-r = rw e at is-r
 
-pub told-all : (s t : List ℕ) (f : Frames) (r : TapAnswer) (t′ : List ℕ) → Parses s t f t′ → r ≡ told f → Told s t r t′
-told-all s t f r t′ p is-r = record { answer = is-r ∙ ap told (p .answer); table = rw (p .answer) at (p .table) }
+-- ---- headers
+pub reads-value : (b : Bits) (n : ℕ) → b ≡ Value n → record { «is_read» = true; value = n } ≡ toldBits b
+reads-value b n e = rw e refl
 
-pub ruleset laws = (tells-rows, tells-refusal, tells-accepted, tells-unfit, tells-verdict, told-all)
+pub reads-none : (b : Bits) → b ≡ Declined → record { «is_read» = false; value = 0 } ≡ toldBits b
+reads-none b e = rw e refl
+
+pub reads-all : (b c : Bits) (r : TapBits) → b ≡ c → r ≡ toldBits b → r ≡ toldBits c
+reads-all b c r e is-r = rw e at is-r
+
+pub heads : (d : Decoded) (h : DecodedHeader) (r : TapHeader) → d ≡ header.Header h → r ≡ headed h → r ≡ toldHeader d
+heads d h r e is-r = rw e is-r
+
+pub heads-refusal : (d : Decoded) (x : Refusal) (number carried : ℕ) → d ≡ header.Refused x → number ≡ numberOf x → carried ≡ carriedBy x
+    → record { refusal = number; value = carried; number = 0; key = 0; payload = 0; rows = 0; right = false; ack = false; routed = false; multicast = false; error = false } ≡ toldHeader d
+heads-refusal d x number carried e is-number is-carried = rw (e, is-number, is-carried) refl
+
+pub heads-all : (text mpdu : List ℕ) (region speed : ℕ) (t : List ℕ) (d : Decoded) (r : TapHeader) (t′ : List ℕ) → Decodes text mpdu region speed t d t′ → r ≡ toldHeader d
+    → ToldHeader text mpdu region speed t r t′
+heads-all text mpdu region speed t d r t′ so is-r = record { answer = d; decodes = so; told = is-r }
+
+-- ---- commands
+pub params : (p : Params) (n : ℕ) (remainder : PayloadOffset) → p ≡ command.Rows n remainder → record { refusal = 0; value = 0; rows = n; remainder = remainder .0 } ≡ toldParams p
+params p n remainder e = rw e refl
+
+pub params-refusal : (p : Params) (x : Refusal) (number carried : ℕ) → p ≡ command.Refused x → number ≡ numberOf x → carried ≡ carriedBy x
+    → record { refusal = number; value = carried; rows = 0; remainder = 0 } ≡ toldParams p
+params-refusal p x number carried e is-number is-carried = rw (e, is-number, is-carried) refl
+
+pub params-all : (text payload t : List ℕ) (p : Params) (r : TapParams) (t′ : List ℕ) → DecodesParams text payload t p t′ → r ≡ toldParams p → ToldParams text payload t r t′
+params-all text payload t p r t′ so is-r = record { answer = p; decodes = so; told = is-r }
+
+pub ruleset laws = (tells-rows, tells-refusal, told-all, counts, counts-refusal, counts-all, parts, framed-row, frames, frames-refusal, frames-all, tells-accepted, tells-unfit, tells-verdict, reads-value, reads-none, reads-all, heads, heads-refusal, heads-all, params, params-refusal, params-all)

@@ -50,7 +50,7 @@ fn beams_number(beams: Beams) -> u64
 }
 
 // The row of a frame whose body starts at a place of the payload.
-fn row_of(frame: PtiFrame, body: PayloadOffset) -> [u64; 8]
+pub fn row_of(frame: PtiFrame, body: PayloadOffset) -> [u64; 8]
     requires { ⌜ body .0 + frame .start .0 < 2 ^ 64 ⌝ }
     ensures { λ r. ⌜ r ≡ rowOf (body .0) frame ⌝ }
 {

@@ -19,7 +19,7 @@ use Rattle.records.specs.Records.{stands, recordAt, bodyOf, upTo, bodies
 use Rattle.records.specs.declared.Counted.the-variants.{Records, Refused}
 use Rattle.refusal.specs.declared.Refusal.the-variants.{TooLong}
 use denote.Ref.{RefT, ptr, now}
-use Rattle.records.specs.Steps.{Leads, Follows}
+use Rattle.records.specs.Steps.{IsBody, Leads, Follows}
 
 -- ---- what stands at a place, test by test
 module _ (s : List ℕ) (at : ℕ) where
@@ -180,19 +180,22 @@ pub record Seeking (s : List ℕ) (k left at : ℕ) : Type 0 where
 pub seeking-starts : (s : List ℕ) (k : ℕ) → Seeking s k k 1
 seeking-starts s k = record { same = refl; low = omega arith }
 
-pub span-none : (s : List ℕ) (k : ℕ) → 65535 < length s → spanOf s k ≡ (0, 0)
-span-none s k long = rw (lt-leb (length s) 65535 long) refl
+abbrev nowhere : Span
+nowhere = record { start = record { 0 = 0 }; end = record { 0 = 0 } }
+
+pub body-long : (s : List ℕ) (k : ℕ) → 65535 < length s → IsBody s k nowhere
+body-long s k long = record { is = rw (lt-leb (length s) 65535 long) refl; ordered = omega arith; inside = omega arith }
 
 module _ (s : List ℕ) (k left at : ℕ) (r : Next) (w : Seeking s k left at) (follows : Follows s at r) where
-  pub span-past : r ≡ NoMore → length s ≤ 65535 → spanOf s k ≡ (0, 0)
-  span-past e short =
+  pub body-past : r ≡ NoMore → length s ≤ 65535 → IsBody s k nowhere
+  body-past e short =
       let none : bodiesFrom s at ≡ [] = rw e at follows in
-      rw (le-leb (length s) 65535 short) (sym (w .same) ∙ rw none)
+      record { is = rw (le-leb (length s) 65535 short) (sym (w .same) ∙ rw none); ordered = omega arith; inside = omega arith }
 
-  pub span-here : (b : Span) → r ≡ Body b → left ≡ 0 → length s ≤ 65535 → spanOf s k ≡ (b .start .0, b .end .0 - b .start .0)
-  span-here b is-b e short =
+  pub body-here : (b : Span) → r ≡ Body b → left ≡ 0 → length s ≤ 65535 → IsBody s k b
+  body-here b is-b e short =
       let l = led s at r b follows is-b in
-      rw (le-leb (length s) 65535 short) (sym (w .same) ∙ rw (l .first, e))
+      record { is = rw (le-leb (length s) 65535 short) (sym (w .same) ∙ rw (l .first, e)); ordered = l .ordered; inside = omega (arith, l .inside) }
 
   pub seeking-more : (b : Span) → r ≡ Body b → (left ≡ 0 → ⊥) → Seeking s k (left - 1) (b .end .0 + 2)
   seeking-more b is-b some =
@@ -200,8 +203,8 @@ module _ (s : List ℕ) (k left at : ℕ) (r : Next) (w : Seeking s k left at) (
       record { same = sym (later (b .start .0, b .end .0 - b .start .0) (bodiesFrom s (b .end .0 + 2)) left some) ∙ (rw (l .first) at (w .same)); low = omega arith }
 
 -- a part of the payload is body k, once its place and its length are
-pub shown : (s r : RefT (List ℕ)) (start size : ℕ) (b : ℕ × ℕ) → b ≡ (start, size) → ptr r .0 ≡ ptr s .0 → ptr r .1 ≡ ptr s .1 + start → now r ≡ take size (drop start (now s)) → PartOf s r b
-shown s r start size b is block place bytes = rw is (record { block = block; place = place; bytes = bytes })
+pub shown : (s r : RefT (List ℕ)) (k : ℕ) (b : Span) → IsBody (now s) k b → ptr r .0 ≡ ptr s .0 → ptr r .1 ≡ ptr s .1 + b .start .0 → now r ≡ take (b .end .0 - b .start .0) (drop (b .start .0) (now s)) → PartOf s r (spanOf (now s) k)
+shown s r k b body block place bytes = rw (body .is) (record { block = block; place = place; bytes = bytes })
 
 -- what the proofs of the functions go by
-pub ruleset laws = (stop-few, stop-past, stop-end, stop-open, stop-close, goes-on, nearer, start-fits, end-fits, next-fits, passing-starts, no-more, passing-more, leads, body-nearer, body-ordered, body-inside, after-fits, counting-starts, counted-none, counted-all, counting-more, count-fits, seeking-starts, span-none, span-past, span-here, seeking-more)
+pub ruleset laws = (stop-few, stop-past, stop-end, stop-open, stop-close, goes-on, nearer, start-fits, end-fits, next-fits, passing-starts, no-more, passing-more, leads, body-nearer, body-ordered, body-inside, after-fits, counting-starts, counted-none, counted-all, counting-more, count-fits, seeking-starts, body-long, body-past, body-here, seeking-more)

@@ -3,7 +3,7 @@ use refusal::Refusal;
 ghost use mathlib.Core.Path.{_≡_};
 ghost use Prim.Native.Nat.{_<_, _+_, _^_};
 ghost use Rattle.records.specs.Records.{recordAt, countedOf, spanOf, PartOf};
-ghost use Rattle.records.specs.Steps.{Follows};
+ghost use Rattle.records.specs.Steps.{Follows, IsBody};
 
 // The most bytes that a payload may have.
 const LONGEST: usize = 65535;
@@ -110,25 +110,39 @@ pub fn count_records(payload: &[u8]) -> Counted
     }
 }
 
-// Body k of a payload, from 0, as a part of the payload itself; an empty part where there is none or the payload is too long.
-pub fn record_body(payload: &[u8], k: usize) -> &[u8]
-    ensures { λ r. ⌜ PartOf (payload .entry) r (spanOf (now (payload .entry)) k) ⌝ }
+// Where body k of a payload lies, from 0; an empty span at its start where there is none or the payload is too long.
+pub fn find_body(payload: &[u8], k: usize) -> Span
+    ensures { λ r. ⌜ IsBody (now (payload .entry)) k r ⌝ }
 {
     if LONGEST < payload.len() {
-        return &payload[..0];
+        return Span {
+            start: PayloadOffset(0),
+            end: PayloadOffset(0),
+        };
     }
     let mut left: usize = k;
     let mut at: usize = 1;
     loop {
         let Next::Body(span) = next_body(payload, at) else {
-            return &payload[..0];
+            return Span {
+                start: PayloadOffset(0),
+                end: PayloadOffset(0),
+            };
         };
         if left == 0 {
-            let start = span.start.0;
-            let end = span.end.0;
-            return &payload[start..end];
+            return span;
         }
         left -= 1;
         at = span.end.0 + 2;
     }
+}
+
+// Body k of a payload, from 0, as a part of the payload itself; an empty part where there is none or the payload is too long.
+pub fn record_body(payload: &[u8], k: usize) -> &[u8]
+    ensures { λ r. ⌜ PartOf (payload .entry) r (spanOf (now (payload .entry)) k) ⌝ }
+{
+    let span = find_body(payload, k);
+    let start = span.start.0;
+    let end = span.end.0;
+    &payload[start..end]
 }

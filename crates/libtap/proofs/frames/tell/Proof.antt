@@ -1,34 +1,27 @@
--- `libtap::tell` meets its contract, by the laws of the crate. Assumes nothing.
+-- `libtap::frames::tell` meets its contract, by the laws of the crate. Assumes nothing.
 use Rattle.libtap.proofs.Laws.{laws}
 use borrow.Author.Needs.{needs}
-use Rattle.libtap.proofs.tell.Statement.{statement}
-use Rattle.libtap.proofs.tell.Tie as tie
+use Rattle.libtap.proofs.frames.tell.Statement.{statement}
+use Rattle.libtap.proofs.frames.tell.Tie as tie
 
--- src/lib.rt:24:22
 enum-known-frames : tie.Need-enum-known-frames
 enum-known-frames c = search (needs, laws)
 
--- src/lib.rt:28:25
 enum-known-frames-2 : tie.Need-enum-known-frames-2
 enum-known-frames-2 c = search (needs, laws)
 
--- src/lib.rt:29:22
 number-requires : tie.Need-number-requires
 number-requires c κs = search (needs, laws)
 
--- src/lib.rt:29:22
 cast-t7 : tie.Need-cast-t7
 cast-t7 c = search (needs, laws)
 
--- src/lib.rt:30:20
 carried-requires : tie.Need-carried-requires
 carried-requires c κs = search (needs, laws)
 
--- src/lib.rt:20:1
 returns : tie.Need-returns
 returns c = search (needs, laws)
 
--- src/lib.rt:20:1
 returns-2 : tie.Need-returns-2
 returns-2 c = search (needs, laws)
 

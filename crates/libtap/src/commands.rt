@@ -1,0 +1,44 @@
+// The call on a command.
+use command::Params;
+use command::decode_params;
+ghost use mathlib.Core.Path.{_≡_};
+ghost use Rattle.libtap.specs.Commands.{toldParams, ToldParams};
+
+// A command's parameters as C has them: where `refusal` is 0, how many rows there are, and where the remainder starts in the payload.
+#[repr(C)]
+pub struct TapParams {
+    pub refusal: u64,
+    pub value: u64,
+    pub rows: u64,
+    pub remainder: u64,
+}
+
+fn tell_params(params: Params) -> TapParams
+    ensures { λ r. ⌜ r ≡ toldParams params ⌝ }
+{
+    match params {
+        Params::Rows { count, remainder } => TapParams {
+            refusal: 0,
+            value: 0,
+            rows: count as u64,
+            remainder: remainder.0 as u64,
+        },
+        Params::Refused(refusal) => TapParams {
+            refusal: refusal.number() as u64,
+            value: refusal.carried() as u64,
+            rows: 0,
+            remainder: 0,
+        },
+    }
+}
+
+// The parameters of a command by its text, into the table, nine numbers a row: kind (0 parameter, 1 bit child, 2 repetition), line in the
+// text from 1, parent row + 1 or 0, start, end, 1 if valued, value, line of the K that names it or 0, number of a repetition. Refusals 1 to
+// 5 and 8.
+#[no_mangle]
+pub extern "C" fn tap_decode_params(text: &[u8], payload: &[u8], rows: &mut [u64]) -> TapParams
+    ensures { λ r. ⌜ ToldParams (now (text .entry)) (now (payload .entry)) (now (rows .entry)) r (now (rows .exit)) ⌝ }
+{
+    let params = decode_params(text, payload, rows);
+    tell_params(params)
+}

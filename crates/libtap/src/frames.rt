@@ -1,0 +1,164 @@
+// The calls on payloads and records.
+use crate::TapAnswer;
+use frame::Parsed;
+use frame::PtiFrame;
+use pti::parse_payload;
+use pti::payload::Frames;
+use pti::payload::row_of;
+use records::Counted;
+use records::PayloadOffset;
+use records::find_body;
+ghost use mathlib.Core.Path.{_≡_};
+ghost use Rattle.radio.specs.Speed.{rateOf};
+ghost use Rattle.radio.specs.Beam.{beamsOf};
+ghost use Rattle.records.specs.Records.{countedOf, spanOf};
+ghost use Rattle.frame.specs.Frame.{parsedOf};
+ghost use Rattle.libtap.specs.Answers.{told, Told, counted, part, framed, toldFrame};
+
+// A frame as C has it: where `refusal` is 0, the eight numbers of its row, `start` in the record's body.
+#[repr(C)]
+pub struct TapFrame {
+    pub refusal: u64,
+    pub value: u64,
+    pub direction: u64,
+    pub region: u64,
+    pub channel: u64,
+    pub rate: u64,
+    pub rssi: u64,
+    pub beams: u64,
+    pub start: u64,
+    pub length: u64,
+}
+
+// A part of the caller's bytes: where it starts in them, and its length.
+#[repr(C)]
+pub struct TapPart {
+    pub start: u64,
+    pub length: u64,
+}
+
+// The rate of a channel in a PTI region: 0 is 9.6 kbit/s, 1 is 40, 2 is 100, 3 is Long Range.
+#[no_mangle]
+pub extern "C" fn tap_speed_for(channel: usize, region: usize) -> u8
+    ensures { λ r. ⌜ r ≡ rateOf channel region ⌝ }
+{
+    pti::speed_for(channel, region)
+}
+
+// How often a beam repeats in the middle bytes of a record.
+#[no_mangle]
+pub extern "C" fn tap_beam_count(rate: u8, middle: &[u8]) -> usize
+    ensures { λ r. ⌜ r ≡ beamsOf rate (now (middle .entry)) ⌝ }
+{
+    pti::beam_count(rate, middle)
+}
+
+fn tell_count(count: Counted) -> TapAnswer
+    ensures { λ r. ⌜ r ≡ counted count ⌝ }
+{
+    match count {
+        Counted::Records(n) => TapAnswer {
+            refusal: 0,
+            value: n as u64,
+        },
+        Counted::Refused(refusal) => TapAnswer {
+            refusal: refusal.number() as u64,
+            value: refusal.carried() as u64,
+        },
+    }
+}
+
+// How many bodies a payload has, or refusal 4.
+#[no_mangle]
+pub extern "C" fn tap_count_records(payload: &[u8]) -> TapAnswer
+    ensures { λ r. ⌜ r ≡ counted (countedOf (now (payload .entry))) ⌝ }
+{
+    let count = pti::count_records(payload);
+    tell_count(count)
+}
+
+// Body k of a payload, from 0, as a part of the payload; an empty part where there is none or the payload is too long.
+#[no_mangle]
+pub extern "C" fn tap_record_body(payload: &[u8], k: usize) -> TapPart
+    ensures { λ r. ⌜ r ≡ part (spanOf (now (payload .entry)) k) ⌝ }
+{
+    let body = find_body(payload, k);
+    let start = body.start.0;
+    let end = body.end.0;
+    TapPart {
+        start: start as u64,
+        length: (end - start) as u64,
+    }
+}
+
+fn tell_row(frame: PtiFrame) -> TapFrame
+    ensures { λ r. ⌜ r ≡ framed frame ⌝ }
+{
+    let row = row_of(frame, PayloadOffset(0));
+    TapFrame {
+        refusal: 0,
+        value: 0,
+        direction: row[0],
+        region: row[1],
+        channel: row[2],
+        rate: row[3],
+        rssi: row[4],
+        beams: row[5],
+        start: row[6],
+        length: row[7],
+    }
+}
+
+fn tell_frame(parsed: Parsed) -> TapFrame
+    ensures { λ r. ⌜ r ≡ toldFrame parsed ⌝ }
+{
+    match parsed {
+        Parsed::Frame(frame) => tell_row(frame),
+        Parsed::Refused(refusal) => TapFrame {
+            refusal: refusal.number() as u64,
+            value: refusal.carried() as u64,
+            direction: 0,
+            region: 0,
+            channel: 0,
+            rate: 0,
+            rssi: 0,
+            beams: 0,
+            start: 0,
+            length: 0,
+        },
+    }
+}
+
+// The frame of a single record's body, or refusal 4 or 9.
+#[no_mangle]
+pub extern "C" fn tap_parse_record(body: &[u8]) -> TapFrame
+    ensures { λ r. ⌜ r ≡ toldFrame (parsedOf (now (body .entry))) ⌝ }
+{
+    let parsed = pti::parse_record(body);
+    tell_frame(parsed)
+}
+
+fn tell(frames: Frames) -> TapAnswer
+    ensures { λ r. ⌜ r ≡ told frames ⌝ }
+{
+    match frames {
+        Frames::Rows(n) => TapAnswer {
+            refusal: 0,
+            value: n as u64,
+        },
+        Frames::Refused(refusal) => TapAnswer {
+            refusal: refusal.number() as u64,
+            value: refusal.carried() as u64,
+        },
+    }
+}
+
+// Every frame of a payload into a table, eight numbers a row: direction (0 Rx, 1 Tx), region, channel, rate, RSSI byte, beam count or
+// 0 for none, MPDU start in the payload, MPDU length. Answers the rows, or refusal 4 or 8.
+#[no_mangle]
+pub extern "C" fn tap_parse_payload(payload: &[u8], table: &mut [u64]) -> TapAnswer
+    ensures { λ r. ⌜ Told (now (payload .entry)) (now (table .entry)) r (now (table .exit)) ⌝ }
+{
+    let frames = parse_payload(payload, table);
+    tell(frames)
+}

@@ -1,0 +1,42 @@
+// The checks of definition texts.
+use crate::TapAnswer;
+use command_text::check_command_text;
+use frame_text::check_frame_text;
+use text::Verdict;
+ghost use mathlib.Core.Path.{_≡_};
+ghost use Rattle.frame_text.specs.Rules.{verdict as frameVerdict};
+ghost use Rattle.command_text.specs.Rules.{verdict as commandVerdict};
+ghost use Rattle.libtap.specs.Answers.{judged};
+
+fn tell_verdict(verdict: Verdict) -> TapAnswer
+    ensures { λ r. ⌜ r ≡ judged verdict ⌝ }
+{
+    match verdict {
+        Verdict::Accepted => TapAnswer {
+            refusal: 0,
+            value: 0,
+        },
+        Verdict::Refused(refusal) => TapAnswer {
+            refusal: refusal.number() as u64,
+            value: refusal.carried() as u64,
+        },
+    }
+}
+
+// Is this frame text accepted? Answers 0, or refusal 1, 2 or 3 with its line.
+#[no_mangle]
+pub extern "C" fn tap_check_frame_text(text: &[u8]) -> TapAnswer
+    ensures { λ r. ⌜ r ≡ judged (frameVerdict (now (text .entry))) ⌝ }
+{
+    let verdict = check_frame_text(text);
+    tell_verdict(verdict)
+}
+
+// Is this command text accepted? Answers 0, or refusal 1, 2 or 3 with its line.
+#[no_mangle]
+pub extern "C" fn tap_check_command_text(text: &[u8]) -> TapAnswer
+    ensures { λ r. ⌜ r ≡ judged (commandVerdict (now (text .entry))) ⌝ }
+{
+    let verdict = check_command_text(text);
+    tell_verdict(verdict)
+}

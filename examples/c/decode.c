@@ -1,0 +1,125 @@
+/* decode FRAME-TEXT COMMAND-TEXT PAYLOAD: the frames of a PTI payload, each with its header's fields by a frame text and, where it carries a
+ * command, with its parameters by a command text. The three are files: two definition texts, and the payload in hex. All memory is static,
+ * as on a handheld. examples/c/run builds it and runs it. */
+#include <stdio.h>
+#include <stdlib.h>
+
+#include "libtap.h"
+
+enum { LONGEST_TEXT = 60000, LONGEST_PAYLOAD = 65535, FRAMES = 2978, HEADER_ROWS = 128, COMMAND_ROWS = 4096 };
+
+static uint8_t frame_text[LONGEST_TEXT + 1];
+static uint8_t command_text[LONGEST_TEXT + 1];
+static uint8_t payload[LONGEST_PAYLOAD + 1];
+static uint64_t frames[FRAMES * TAP_FRAME_WIDTH];
+static uint64_t header_rows[HEADER_ROWS * TAP_HEADER_WIDTH];
+static uint64_t command_rows[COMMAND_ROWS * TAP_COMMAND_WIDTH];
+
+/* A whole file: one byte more than the longest that a call takes, so that it can say that it is too long. */
+static size_t read_file(const char *name, uint8_t *bytes, size_t room) {
+    FILE *file = fopen(name, "rb");
+    if (!file) {
+        perror(name);
+        exit(2);
+    }
+    size_t length = fread(bytes, 1, room, file);
+    fclose(file);
+    return length;
+}
+
+/* The bytes of a file of hex digits. */
+static size_t read_hex(const char *name, uint8_t *bytes, size_t room) {
+    FILE *file = fopen(name, "r");
+    if (!file) {
+        perror(name);
+        exit(2);
+    }
+    size_t length = 0;
+    unsigned byte;
+    while (length < room && fscanf(file, "%2x", &byte) == 1) {
+        bytes[length++] = (uint8_t)byte;
+    }
+    fclose(file);
+    return length;
+}
+
+/* The F code of a PTI region (definitions/README.md, "Regions"). */
+static uint64_t code_of(uint64_t region) {
+    static const uint8_t codes[16] = {255, 0, 1, 2, 3, 5, 5, 32, 7, 6, 33, 8, 9, 9, 9, 11};
+    return region < 16 ? codes[region] : 255;
+}
+
+static void print_refusal(uint64_t refusal, uint64_t value) {
+    printf("refused %llu %llu\n", (unsigned long long)refusal, (unsigned long long)value);
+}
+
+static void print_numbers(const char *what, const uint64_t *row, int count) {
+    printf("%s", what);
+    for (int i = 0; i < count; i++) {
+        printf(" %llu", (unsigned long long)row[i]);
+    }
+    printf("\n");
+}
+
+static void show_command(const uint8_t *bytes, size_t length, size_t text_length) {
+    TapParams params = tap_decode_params(command_text, text_length, bytes, length, command_rows, sizeof command_rows / sizeof *command_rows);
+    if (params.refusal) {
+        printf("  command ");
+        print_refusal(params.refusal, params.value);
+        return;
+    }
+    printf("  command %02x %02x, remainder at %llu\n", bytes[0], bytes[1], (unsigned long long)params.remainder);
+    for (uint64_t i = 0; i < params.rows; i++) {
+        print_numbers("    parameter", command_rows + i * TAP_COMMAND_WIDTH, TAP_COMMAND_WIDTH);
+    }
+}
+
+static void show_frame(const uint64_t *frame, size_t frame_text_length, size_t command_text_length) {
+    const uint8_t *mpdu = payload + frame[6];
+    size_t length = frame[7];
+    uint64_t rate = frame[3];
+    print_numbers("frame", frame, TAP_FRAME_WIDTH);
+    TapHeader header = tap_decode_header(frame_text, frame_text_length, mpdu, length, code_of(frame[1]), rate, header_rows,
+                                         sizeof header_rows / sizeof *header_rows);
+    if (header.refusal) {
+        printf("  header ");
+        print_refusal(header.refusal, header.value);
+        return;
+    }
+    printf("  header %llu, key %llu, %s%s, payload at %llu, checksum %s\n", (unsigned long long)header.number,
+           (unsigned long long)header.key, header.routed ? "routed" : "direct", header.ack ? " ack" : "", (unsigned long long)header.payload,
+           header.right ? "right" : "wrong");
+    for (uint64_t i = 0; i < header.rows; i++) {
+        print_numbers("    field", header_rows + i * TAP_HEADER_WIDTH, TAP_HEADER_WIDTH);
+    }
+    size_t checksum = rate < 2 ? 1 : 2;
+    if (header.payload + checksum + 2 <= length) {
+        show_command(mpdu + header.payload, length - checksum - header.payload, command_text_length);
+    }
+}
+
+int main(int count, char **words) {
+    if (count != 4) {
+        fprintf(stderr, "usage: decode FRAME-TEXT COMMAND-TEXT PAYLOAD\n");
+        return 2;
+    }
+    size_t frame_text_length = read_file(words[1], frame_text, sizeof frame_text);
+    size_t command_text_length = read_file(words[2], command_text, sizeof command_text);
+    size_t payload_length = read_hex(words[3], payload, sizeof payload);
+
+    TapAnswer verdict = tap_check_frame_text(frame_text, frame_text_length);
+    if (!verdict.refusal) {
+        verdict = tap_check_command_text(command_text, command_text_length);
+    }
+    TapAnswer parsed = verdict.refusal ? verdict : tap_parse_payload(payload, payload_length, frames, sizeof frames / sizeof *frames);
+    if (parsed.refusal) {
+        print_refusal(parsed.refusal, parsed.value);
+        return 1;
+    }
+    printf("%llu records\n", (unsigned long long)tap_count_records(payload, payload_length).value);
+    for (uint64_t i = 0; i < parsed.value; i++) {
+        show_frame(frames + i * TAP_FRAME_WIDTH, frame_text_length, command_text_length);
+    }
+    printf("ok\n");
+    return 0;
+}

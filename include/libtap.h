@@ -1,0 +1,147 @@
+/* libtap: the tap's calls for C. Build the library with `rt staticlib libtap`.
+ *
+ * Every call takes every input, ends, keeps to the memory that it is lent, and allocates nothing. A slice passes as its pointer and
+ * its length: of bytes in bytes, of a table in numbers. A refusal writes to no table; an answer leaves rows past its last untouched.
+ *
+ * Refusals, by document 01's numbers, and the `value` that each carries:
+ *
+ *   0  none
+ *   1  a line of the text isn't one of the forms                                    the line, from 1
+ *   2  a limit of the text is passed                                                the line; 0 for the text's length
+ *   3  a line of the text has no owner or parent; P with a size path below
+ *      level 0; shift over 7                                                        the line
+ *   4  payload over 65,535 bytes; record body, MPDU or command payload over 2,048   the length
+ *   5  MPDU or command payload under 2 bytes                                        the length
+ *   6  no base header with the key                                                  the key
+ *   7  no candidate holds                                                           0
+ *   8  the answer has more rows than the table                                      the rows needed
+ *   9  a record is not a frame                                                      0
+ */
+#ifndef LIBTAP_H
+#define LIBTAP_H
+
+#include <stdbool.h>
+#include <stddef.h>
+#include <stdint.h>
+
+#ifdef __cplusplus
+extern "C" {
+#endif
+
+/* The numbers of a row. */
+#define TAP_FRAME_WIDTH 8
+#define TAP_HEADER_WIDTH 7
+#define TAP_COMMAND_WIDTH 9
+
+/* `refusal` is 0 and `value` the number that the call answers, or `refusal` is a number of the table above and `value` what it carries. */
+typedef struct {
+    uint64_t refusal;
+    uint64_t value;
+} TapAnswer;
+
+/* ---- payloads, records, frames ---- */
+
+/* The frame of a single record. `direction` is 0 for Rx, 1 for Tx; `region` is the PTI's; `rate` is 0 for 9.6 kbit/s, 1 for 40, 2 for
+ * 100, 3 for Long Range; `rssi` is its byte, the two's complement; `beams` is 0 for a frame that is no beam; the MPDU is `length` bytes
+ * from `start` of the record's body on. */
+typedef struct {
+    uint64_t refusal;
+    uint64_t value;
+    uint64_t direction;
+    uint64_t region;
+    uint64_t channel;
+    uint64_t rate;
+    uint64_t rssi;
+    uint64_t beams;
+    uint64_t start;
+    uint64_t length;
+} TapFrame;
+
+/* A part of the caller's bytes: where it starts in them, and its length. */
+typedef struct {
+    uint64_t start;
+    uint64_t length;
+} TapPart;
+
+/* The rate of a channel in a PTI region. 0 for what the tables do not have. */
+uint8_t tap_speed_for(size_t channel, size_t region);
+
+/* How often a beam repeats in the middle bytes of a record. */
+size_t tap_beam_count(uint8_t rate, const uint8_t *middle, size_t middle_length);
+
+/* How many bodies a payload has. Refuses by 4. */
+TapAnswer tap_count_records(const uint8_t *payload, size_t payload_length);
+
+/* Body k of a payload, from 0; an empty part where there is none or the payload is too long. */
+TapPart tap_record_body(const uint8_t *payload, size_t payload_length, size_t k);
+
+/* The frame of a record's body. Refuses by 4 and 9. */
+TapFrame tap_parse_record(const uint8_t *body, size_t body_length);
+
+/* Every frame of a payload, a row each: direction, region, channel, rate, RSSI byte, beam count or 0, MPDU start in the payload, MPDU
+ * length. Answers how many rows. Refuses by 4 and 8. */
+TapAnswer tap_parse_payload(const uint8_t *payload, size_t payload_length, uint64_t *table, size_t table_length);
+
+/* ---- definition texts ---- */
+
+/* Is the text accepted? Refuses by 1, 2 and 3. */
+TapAnswer tap_check_frame_text(const uint8_t *text, size_t text_length);
+TapAnswer tap_check_command_text(const uint8_t *text, size_t text_length);
+
+/* ---- headers ---- */
+
+/* `is_read` is false where there is no value. */
+typedef struct {
+    bool is_read;
+    uint64_t value;
+} TapBits;
+
+/* The H's number among the text's H lines, from 0, and its key; the payload starts at byte `payload` of the MPDU; how many rows there
+ * are; whether the checksum or CRC is right; the H's flags. */
+typedef struct {
+    uint64_t refusal;
+    uint64_t value;
+    uint64_t number;
+    uint64_t key;
+    uint64_t payload;
+    uint64_t rows;
+    bool right;
+    bool ack;
+    bool routed;
+    bool multicast;
+    bool error;
+} TapHeader;
+
+/* The number that `width` bits form from the bit `start` on, the first bit highest: width 1 to 64, within the bytes. */
+TapBits tap_read_bits(const uint8_t *data, size_t data_length, uint64_t start, uint64_t width);
+
+/* Is the MPDU's last byte its checksum (speeds 0 and 1), or are its last two its CRC (above)? */
+bool tap_check_crc(const uint8_t *mpdu, size_t mpdu_length, uint64_t speed);
+
+/* The header of an MPDU, a row for each field, depth first: the P's number among the text's P lines from 0, parent row + 1 or 0, start
+ * bit, bits, 1 if it has a value, the value or 0, the symbol's E within its set, from 0, + 1 or 0. `region` is an F's code, which a PTI
+ * region number isn't. Refuses by 1 to 8. At most 128 rows. */
+TapHeader tap_decode_header(const uint8_t *text, size_t text_length, const uint8_t *mpdu, size_t mpdu_length, uint64_t region,
+                            uint64_t speed, uint64_t *rows, size_t rows_length);
+
+/* ---- commands ---- */
+
+/* How many rows there are, and where the bytes that no parameter takes start in the payload. */
+typedef struct {
+    uint64_t refusal;
+    uint64_t value;
+    uint64_t rows;
+    uint64_t remainder;
+} TapParams;
+
+/* The parameters of a command, whose payload starts with its class and command bytes, a row each: kind (0 parameter, 1 bit child, 2
+ * repetition of a group), line in the text from 1, parent row + 1 or 0, start and end in the payload, 1 if it has a value, the value or
+ * 0, line of the K that names it or 0, number of a repetition from 0. Refuses by 1 to 5 and 8. */
+TapParams tap_decode_params(const uint8_t *text, size_t text_length, const uint8_t *payload, size_t payload_length, uint64_t *rows,
+                            size_t rows_length);
+
+#ifdef __cplusplus
+}
+#endif
+
+#endif
