@@ -1,19 +1,20 @@
-//! Links the static library that `rt staticlib libtap` leaves, and the C loop `src/floor.c`.
+//! Links the static libraries that `rt staticlib` leaves of `libtap`, `bench_walks` and
+//! `bench_commands`, and the C loop `src/floor.c`.
 
 use std::env::var;
 use std::process::Command;
 
 fn main() {
-    link_library();
+    ["libtap", "bench_walks", "bench_commands"].into_iter().for_each(link_library);
     link_floor();
 }
 
-fn link_library() {
+fn link_library(name: &str) {
     let root = var("CARGO_MANIFEST_DIR").expect("cargo sets it");
     let folder = format!("{root}/../target/staticlib");
-    println!("cargo::rerun-if-changed={folder}/liblibtap.a");
+    println!("cargo::rerun-if-changed={folder}/lib{name}.a");
     println!("cargo::rustc-link-search=native={folder}");
-    println!("cargo::rustc-link-lib=static=libtap");
+    println!("cargo::rustc-link-lib=static={name}");
 }
 
 /// Compiles the loop as it stands: neither vectorised nor unrolled.

@@ -91,7 +91,8 @@ fn judge(case: &Case) {
 
 fn compare(cases: &[Case]) {
     println!("\n                         of a text, in the mean");
-    println!("text              texts   bytes  lines     C ns    ours ns  ours / C");
+    let unit = clock::unit();
+    println!("{unit:5} of a check    texts   bytes  lines        C       ours  ours / C");
     for case in cases {
         let [floor, ours] = clock::time([floor(case), ours(case)]);
         let (name, texts, ratio) = (case.name, case.texts.len(), ours.ratio_to(&floor));
@@ -106,7 +107,7 @@ fn compare(cases: &[Case]) {
 /// How our time grows with the text.
 fn grow(cases: &[Case; 3]) {
     let times = clock::time(cases.each_ref().map(ours));
-    println!("\n{:16}  bytes  ns per byte  against the first", cases[0].name);
+    println!("\n{:16}  bytes  {} per byte  against the first", cases[0].name, clock::unit());
     for (case, time) in cases.iter().zip(&times) {
         let length = case.bytes() / case.texts.len();
         let a_byte = time.median() / case.bytes() as f64;
@@ -129,7 +130,7 @@ fn measure_stack(cases: &[Case]) {
 fn stack_taken(check: Check, text: &[u8]) -> usize {
     let (call, at) = (check as *const (), text.as_ptr() as usize);
     // SAFETY: as in `ours::verdict`.
-    unsafe { stack::taken(call, [at, text.len(), 0, 0]) }
+    unsafe { stack::taken(call, &[at, text.len()]) }
 }
 
 fn floor(case: &Case) -> Side<'_> {

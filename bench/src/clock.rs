@@ -1,13 +1,18 @@
-//! Times on a machine that others use too: many short rounds, the sides in turn, and medians.
+//! What a call costs: time, on a machine that others use too, by many short rounds, the sides in
+//! turn, and medians; or, under an emulator that counts them, instructions.
 
 use std::hint::black_box;
 use std::time::{Duration, Instant};
+
+use crate::counter;
 
 /// How long a side's turn in a round takes at least.
 const TURN: Duration = Duration::from_micros(200);
 const ROUNDS: usize = 501;
 /// At how many depths of the stack the rounds run.
 const DEPTHS: usize = 100;
+/// How many calls are counted.
+const COUNTED: u32 = 20;
 
 /// Makes its call so many times.
 pub type Side<'a> = Box<dyn FnMut(u32) + 'a>;
@@ -16,34 +21,73 @@ pub fn side<'a>(mut call: impl FnMut() + 'a) -> Side<'a> {
     Box::new(move |times| (0..times).for_each(|_| call()))
 }
 
-/// The nanoseconds that a side's call took, round by round.
-pub struct Times(Vec<f64>);
+/// What a side's call cost, round by round: nanoseconds, or instructions.
+pub struct Costs(Vec<f64>);
 
-impl Times {
+impl Costs {
     pub fn median(&self) -> f64 {
         median(self.0.clone())
     }
 
     /// The median of the rounds' ratios to the other side: what slows the machine down for a while
     /// slows both sides of a round.
-    pub fn ratio_to(&self, other: &Times) -> f64 {
+    pub fn ratio_to(&self, other: &Costs) -> f64 {
         median(self.0.iter().zip(&other.0).map(|(ours, others)| ours / others).collect())
     }
 }
 
-/// The times of each side. The order of turns is the other way round in every second round.
-pub fn time<const N: usize>(mut sides: [Side; N]) -> [Times; N] {
+/// What costs are counted in.
+pub fn unit() -> &'static str {
+    if counter::is_there() { "instr" } else { "ns" }
+}
+
+/// What each side's call costs.
+pub fn time<const N: usize>(mut sides: [Side; N]) -> [Costs; N] {
+    if counter::is_there() {
+        return sides.map(|mut side| Costs(vec![counted(&mut side)]));
+    }
     let calls = sides.each_mut().map(calls_in_a_turn);
-    let mut times = [const { Vec::new() }; N];
+    rounds(calls, |i, calls| time_of(&mut sides[i], calls).as_nanos() as f64)
+}
+
+/// The same where a side does something once, too, before its first call: what as many calls more
+/// cost.
+pub fn time_more<const N: usize>(mut sides: [Side; N]) -> [Costs; N] {
+    if counter::is_there() {
+        return sides.map(|mut side| Costs(vec![counted(&mut side)]));
+    }
+    let calls = sides.each_mut().map(calls_in_a_turn);
+    rounds(calls, |i, calls| {
+        let once = time_of(&mut sides[i], calls).as_nanos() as f64;
+        time_of(&mut sides[i], 2 * calls).as_nanos() as f64 - once
+    })
+}
+
+/// The instructions of a call: what further calls take, after some.
+fn counted(side: &mut Side) -> f64 {
+    side(COUNTED);
+    let mut count = |calls| {
+        let start = counter::count();
+        side(calls);
+        (counter::count() - start) as f64
+    };
+    let once = count(COUNTED);
+    (count(2 * COUNTED) - once) / f64::from(COUNTED)
+}
+
+/// What each side costs, where `cost` is that of so many calls of side i. The order of turns is the
+/// other way round in every second round.
+fn rounds<const N: usize>(calls: [u32; N], mut cost: impl FnMut(usize, u32) -> f64) -> [Costs; N] {
+    let mut costs = [const { Vec::new() }; N];
     for round in 0..ROUNDS {
         for turn in 0..N {
             let i = if round % 2 == 0 { turn } else { N - 1 - turn };
-            let mut taken = Duration::ZERO;
-            deeper(round % DEPTHS, &mut || taken = time_of(&mut sides[i], calls[i]));
-            times[i].push(taken.as_nanos() as f64 / f64::from(calls[i]));
+            let mut taken = 0.0;
+            deeper(round % DEPTHS, &mut || taken = cost(i, calls[i]));
+            costs[i].push(taken / f64::from(calls[i]));
         }
     }
-    times.map(Times)
+    costs.map(Costs)
 }
 
 /// Runs this so many calls further down the stack. Where the stack happens to lie can double the

@@ -1,9 +1,15 @@
-//! Times the static library's calls, each against its measure, in one process, and measures their
-//! stack: `parse_payload` against that of zniff-rs, the checks of definition texts against a C loop.
+//! What the library's calls cost, each against its measure, in one process, and the stack they take:
+//! `parse_payload`, `decode_header` and `decode_params` against zniff-rs, the checks of definition
+//! texts against a C loop.
 
 mod check;
 mod clock;
+mod commands;
+mod counter;
+mod frames;
+mod headers;
 mod ours;
+mod params;
 mod parse;
 mod payloads;
 mod stack;
@@ -12,4 +18,6 @@ mod texts;
 fn main() {
     parse::run();
     check::run();
+    headers::run();
+    params::run();
 }

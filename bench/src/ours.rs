@@ -28,6 +28,182 @@ unsafe extern "C" {
     pub fn tap_check_command_text(text: *const u8, text_length: usize) -> TapAnswer;
 }
 
+/// Where a walk over loaded lines ends, and its rows.
+#[repr(C)]
+pub struct BenchWalked {
+    pub bit: u64,
+    pub rows: u64,
+}
+
+// The crate `bench_walks`: each call is made so many times. An answer is a number of rows, or 1,000
+// and the refusal's number.
+unsafe extern "C" {
+    pub fn bench_decode_header(
+        text: *const u8,
+        text_length: usize,
+        mpdu: *const u8,
+        mpdu_length: usize,
+        region: u64,
+        speed: u64,
+        rows: *mut u64,
+        rows_length: usize,
+        times: u64,
+    ) -> u64;
+    pub fn bench_decode_accepted(
+        text: *const u8,
+        text_length: usize,
+        mpdu: *const u8,
+        mpdu_length: usize,
+        region: u64,
+        speed: u64,
+        rows: *mut u64,
+        rows_length: usize,
+        times: u64,
+    ) -> u64;
+    fn bench_find(
+        text: *const u8,
+        text_length: usize,
+        region: u64,
+        speed: u64,
+        many: u64,
+        times: u64,
+    ) -> u64;
+    fn bench_read_base(
+        text: *const u8,
+        text_length: usize,
+        mpdu: *const u8,
+        mpdu_length: usize,
+        region: u64,
+        speed: u64,
+        times: u64,
+    ) -> u64;
+    fn bench_walk(
+        text: *const u8,
+        text_length: usize,
+        mpdu: *const u8,
+        mpdu_length: usize,
+        fields: *const u64,
+        fields_length: usize,
+        first: usize,
+        start: u64,
+        scratch: *mut u64,
+        scratch_length: usize,
+        n: usize,
+        times: u64,
+    ) -> BenchWalked;
+}
+
+// The crate `bench_commands`: an answer is a number of rows, or a million and the refusal's number.
+unsafe extern "C" {
+    pub fn bench_decode_params(
+        text: *const u8,
+        text_length: usize,
+        payload: *const u8,
+        payload_length: usize,
+        rows: *mut u64,
+        rows_length: usize,
+        times: u64,
+    ) -> u64;
+    pub fn bench_decode_params_accepted(
+        text: *const u8,
+        text_length: usize,
+        payload: *const u8,
+        payload_length: usize,
+        rows: *mut u64,
+        rows_length: usize,
+        times: u64,
+    ) -> u64;
+}
+
+/// A call for a command's parameters.
+pub type DecodeParams =
+    unsafe extern "C" fn(*const u8, usize, *const u8, usize, *mut u64, usize, u64) -> u64;
+
+/// The parameters of a command, so many times, into a table.
+pub fn decode_params(
+    call: DecodeParams,
+    text: &[u8],
+    payload: &[u8],
+    table: &mut [u64],
+    times: u32,
+) -> u64 {
+    let (rows, room) = (table.as_mut_ptr(), table.len());
+    let (text, length) = (text.as_ptr(), text.len());
+    // SAFETY: the slices are valid for the call, which writes inside the table alone.
+    unsafe { call(text, length, payload.as_ptr(), payload.len(), rows, room, u64::from(times)) }
+}
+
+/// A call for a header.
+pub type Decode =
+    unsafe extern "C" fn(*const u8, usize, *const u8, usize, u64, u64, *mut u64, usize, u64) -> u64;
+
+/// What a call is made with: a text, an MPDU, its region and speed.
+#[derive(Clone, Copy)]
+pub struct Asked<'a> {
+    pub text: &'a [u8],
+    pub mpdu: &'a [u8],
+    pub region: u64,
+    pub speed: u64,
+}
+
+impl Asked<'_> {
+    /// The header, so many times, into a table.
+    pub fn decode(self, call: Decode, table: &mut [u64], times: u32) -> u64 {
+        let Asked { text, mpdu, region, speed } = self;
+        let (rows, room) = (table.as_mut_ptr(), table.len());
+        let (text, length) = (text.as_ptr(), text.len());
+        let times = u64::from(times);
+        // SAFETY: the slices are valid for the call, which writes inside the table alone.
+        unsafe { call(text, length, mpdu.as_ptr(), mpdu.len(), region, speed, rows, room, times) }
+    }
+
+    /// Finds the base header and so many candidates. Answers how many there are.
+    pub fn find(self, many: usize, times: u32) -> u64 {
+        let Asked { text, region, speed, .. } = self;
+        // SAFETY: the slice is valid for the call, which only reads it.
+        unsafe {
+            bench_find(text.as_ptr(), text.len(), region, speed, many as u64, u64::from(times))
+        }
+    }
+
+    /// Loads and walks the base header. Answers its rows.
+    pub fn read_base(self, times: u32) -> u64 {
+        let Asked { text, mpdu, region, speed } = self;
+        let (text, length) = (text.as_ptr(), text.len());
+        let times = u64::from(times);
+        // SAFETY: the slices are valid for the call, which only reads them.
+        unsafe { bench_read_base(text, length, mpdu.as_ptr(), mpdu.len(), region, speed, times) }
+    }
+
+    /// Walks loaded lines from the line `first` on, from where another walk ended.
+    pub fn walk(
+        self,
+        fields: &[u64],
+        first: usize,
+        from: &BenchWalked,
+        scratch: &mut [u64],
+        times: u32,
+    ) -> BenchWalked {
+        // SAFETY: the slices are valid for the call, which writes inside the scratch table alone.
+        unsafe {
+            bench_walk(
+                self.text.as_ptr(),
+                self.text.len(),
+                self.mpdu.as_ptr(),
+                self.mpdu.len(),
+                fields.as_ptr(),
+                fields.len(),
+                first,
+                from.bit,
+                scratch.as_mut_ptr(),
+                scratch.len(),
+                from.rows as usize,
+                u64::from(times),
+            )
+        }
+    }
+}
+
 /// A check of definition texts.
 pub type Check = unsafe extern "C" fn(*const u8, usize) -> TapAnswer;
 

@@ -29,7 +29,8 @@ fn check(payloads: &[(&str, Vec<u8>)]) {
 }
 
 fn compare(payloads: &[(&str, Vec<u8>)]) {
-    println!("\npayload                     bytes  frames     Rust ns     ours ns  ours / Rust");
+    let unit = clock::unit();
+    println!("\n{unit} of a call             bytes  frames        Rust        ours  ours / Rust");
     for (name, payload) in payloads {
         let frames = pti::parse_payload(payload).len();
         let [rust, ours] = clock::time([rust(payload), ours(payload)]);
@@ -43,7 +44,7 @@ fn compare(payloads: &[(&str, Vec<u8>)]) {
 fn grow() {
     let payloads = [1, 4, 16, 64].map(|kib| payloads::frames(limits::PAYLOAD.min(kib << 10)));
     let times = clock::time(payloads.each_ref().map(|payload| ours(payload)));
-    println!("\nfull of frames: bytes  ours ns  ns per KiB, against the first");
+    println!("\nfull of frames: bytes  ours {}  per KiB, against the first", clock::unit());
     for (payload, time) in payloads.iter().zip(&times) {
         let (length, first) = (payload.len(), payloads[0].len());
         let per_kib = time.ratio_to(&times[0]) * first as f64 / length as f64;
@@ -62,7 +63,7 @@ fn stack_taken(payload: &[u8]) -> usize {
     let (call, mut table) = (ours::tap_parse_payload as *const (), ours::table());
     let (at, length) = (payload.as_ptr() as usize, payload.len());
     // SAFETY: as in `ours::parse_payload`.
-    unsafe { stack::taken(call, [at, length, table.as_mut_ptr() as usize, table.len()]) }
+    unsafe { stack::taken(call, &[at, length, table.as_mut_ptr() as usize, table.len()]) }
 }
 
 fn rust(payload: &[u8]) -> Side<'_> {

@@ -1,37 +1,48 @@
 -- Laws of the decoding calls. Assumes nothing.
-use mathlib.Core.Path.{_≡_, refl, sym, ap, _∙_, subst}
+use mathlib.Core.Path.{_≡_, refl, sym, _∙_, subst}
 use mathlib.Core.Bool.{Bool, true, false, cond}
-use mathlib.Core.List.{List, [], _∷_, _++_}
-use Prim.Native.Nat.{ℕ, _+_, _-_, _*_, _/_, _^_, _≤_, _<_}
+use mathlib.Core.List.{List, [], _++_}
+use Prim.Native.Nat.{ℕ, _-_, _*_, _/_, _^_, _≤_, _<_}
 use native.Mathlib.Omega.{arith}
-use lib.Dec.{leb, ltb}
+use lib.Dec.{leb}
 use lib.ListN.{length, take, drop, length-drop}
+use lib.Seq.{length-take-le}
 use borrow.Author.Tests.{le-leb, lt-leb, lt-ltb, le-ltb}
 use Rattle.laws.proofs.Lists.{tail}
 use Rattle.refusal.specs.declared.Refusal.{Refusal}
 use Rattle.refusal.specs.declared.Refusal.the-variants.{TooLong, TooShort, MoreRows}
 use Rattle.records.specs.declared.PayloadOffset.{PayloadOffset}
+use Rattle.text.specs.Text.{lines}
+use Rattle.text.specs.Records.{records}
 use Rattle.text.specs.declared.Verdict.{Verdict}
 use Rattle.text.specs.declared.Verdict.the-variants.{Accepted, Refused as NotAccepted}
+use Rattle.command_text.specs.Form.{form}
 use Rattle.command_text.specs.Rules.{verdict}
-use Rattle.command_class.specs.Definition.{Entry, definition}
+use Rattle.command_class.specs.Definition.{definition}
+use Rattle.command_class.proofs.Limits.{accepted-within}
 use Rattle.command_schema.specs.Heads.{headsOf, entriesOf}
 use Rattle.command_schema.specs.Loaded.{IsLoaded}
-use Rattle.command_schema.proofs.Heads.{definition-heads}
-use Rattle.command_schema.proofs.Told.{SmallEntries, entries-small}
-use Rattle.command_rows.specs.Rows.{written, table}
-use Rattle.command_rows.specs.declared.Row.{Row}
+use Rattle.command_schema.proofs.Heads.{definition-heads, heads-count}
+use Rattle.command_schema.proofs.Sizes.{heads-short}
+use Rattle.command_schema.proofs.Told.{SmallEntries, entries-small, accepted-small}
 use Rattle.command_rows.proofs.Laws.{written-full, written-table}
 use Rattle.command_param.specs.Param.{inPayload}
-use Rattle.command.specs.Walk.{Walked, walk}
-use Rattle.command.specs.Steps.{Gives}
-use Rattle.command.specs.Sum.{Adds}
-use Rattle.command.specs.Answer.{bodyOf, within, answerBy, onVerdict, answerOf, filled, tableAfter, Fills, AddsUp, DecodesBy, Decodes}
-use Rattle.command.specs.declared.Taken.{Taken}
+use Rattle.command_walk.specs.Walk.{Walked, walk}
+use Rattle.command_groups.specs.Steps.{Gives}
+use Rattle.command_walk.specs.Sum.{Adds}
+use Rattle.command.specs.Answer.{bodyOf, within, answerBy, answerOf, tableAfter, Fills, AddsUp, DecodesBy, Decodes}
+use Rattle.command_groups.specs.declared.Taken.{Taken}
 use Rattle.command.specs.declared.Params.{Params}
 use Rattle.command.specs.declared.Params.the-variants.{Rows, Refused}
-use Rattle.command.proofs.Bounds.{walk-inside}
-use Rattle.command.proofs.Sums.{walk-adds}
+use Rattle.command_walk.proofs.Bounds.{walk-most, walk-inside}
+use Rattle.command_walk.proofs.Sums.{walk-adds}
+
+-- ---- one pass
+pub body-rows : (w : Walked) (t t′ : List ℕ) (r : Taken) (p : PayloadOffset) → Gives w t 0 t′ r → length (w .rows) ≤ length t / 9 → p .0 ≡ inPayload (r .end .0) → Fills w t (Rows (r .count) p) t′
+unfolding within
+body-rows w t t′ r p wrote h ep =
+    let q : p .0 ≡ inPayload (w .end) = rw (wrote .end) at ep in
+    record { answer = rw (le-leb (length (w .rows)) (length t / 9) h, wrote .count, ← q) refl; table-is = wrote .rows ∙ written-table t (w .rows) h }
 
 -- ---- the two passes
 module _ (w : Walked) (t ys : List ℕ) (m : Taken) (first : Gives w [] 0 ys m) where
@@ -47,20 +58,31 @@ module _ (w : Walked) (t ys : List ℕ) (m : Taken) (first : Gives w [] 0 ys m) 
       let l : length t / 9 < m .count = rw z at h in
       record { answer = rw (lt-leb (length (w .rows)) (length t / 9) (omega arith), n) refl; table-is = rw z refl }
 
-  pub body-rows : (t′ : List ℕ) (r : Taken) (p : PayloadOffset) → Gives w (ys ++ t) 0 t′ r → m .count ≤ length (ys ++ t) / 9 → p .0 ≡ inPayload (r .end .0) → Fills w t (Rows (r .count) p) t′
-  unfolding within
-  body-rows t′ r p wrote h ep =
-      let z = nothing in
-      let n = first .count in
-      let l : m .count ≤ length t / 9 = rw z at h in
-      let f : t′ ≡ written t 0 (w .rows) = rw z at (wrote .rows) in
-      let q : p .0 ≡ inPayload (w .end) = rw (wrote .end) at ep in
-      record { answer = rw (le-leb (length (w .rows)) (length t / 9) (omega arith), wrote .count, ← q) refl; table-is = f ∙ written-table t (w .rows) (omega arith) }
+  pub body-fits : m .count ≤ length (ys ++ t) / 9 → length (w .rows) ≤ length (ys ++ t) / 9
+  body-fits h = let n = first .count in omega arith
+
+  pub body-wrote : (r : Params) (t′ : List ℕ) → Fills w (ys ++ t) r t′ → Fills w t r t′
+  body-wrote r t′ fills = rw nothing at fills
+
+-- a part from the start has as many numbers as it is cut to
+pub body-part : (t : List ℕ) (n : ℕ) → n ≤ length t → n ≡ length (take n t)
+body-part t n h = sym (length-take-le n t h)
 
 pub body-inside : (x l body : List ℕ) (count : ℕ) (t t′ : List ℕ) (r : Taken) → IsLoaded x l count → length body < 65536 → Gives (walk body (entriesOf (headsOf x))) t 0 t′ r → r .end .0 < 2 ^ 32
 body-inside x l body count t t′ r loaded h w = let i = walk-inside body (entriesOf (headsOf x)) (entries-small x l count loaded) in let e = w .end in omega arith
 
-pub ruleset body-laws = (body-needs, body-rows, body-inside)
+-- a byte has at most 34 rows of 9 numbers
+pub body-sure : (x l body : List ℕ) (count : ℕ) (t : List ℕ) → IsLoaded x l count → length body * 306 ≤ length t → length (walk body (entriesOf (headsOf x)) .rows) ≤ length t / 9
+body-sure x l body count t loaded h = let m = walk-most body (entriesOf (headsOf x)) (entries-small x l count loaded) in omega arith
+
+pub ruleset body-laws = (body-rows, body-needs, body-fits, body-wrote, body-part, body-inside, body-sure)
+
+-- ---- the table that a text is loaded into
+pub loaded-all : (x l : List ℕ) → verdict x ≡ Accepted → length l ≡ 3072 → length (headsOf x) * 12 ≤ length l
+loaded-all x l accepted size = let c = heads-count 1 (records form (lines x)) in let w = accepted-within x accepted .1 .lines in omega arith
+
+pub loaded-short : (x l : List ℕ) → length x ≤ 120 → length l ≡ 288 → length (headsOf x) * 12 ≤ length l
+loaded-short x l h size = let s = heads-short x in omega arith
 
 -- ---- by an accepted text
 module _ (x payload t : List ℕ) where
@@ -72,7 +94,7 @@ module _ (x payload t : List ℕ) where
   unfolding answerBy tableAfter
   accepted-short h u = record { answer = rw (le-ltb 2048 (length payload) h, lt-ltb (length payload) 2 u) refl; table-is = refl; adds = tt }
 
-  module _ (l : List ℕ) (count : ℕ) (loaded : IsLoaded x l count) (long : length payload ≤ 2048) (short : 2 ≤ length payload) where
+  module _ (accepted : verdict x ≡ Accepted) (long : length payload ≤ 2048) (short : 2 ≤ length payload) where
     -- the body as it is lent
     the-body : take (length payload - 2) (drop 2 payload) ≡ bodyOf payload
     the-body = tail payload 2
@@ -81,7 +103,7 @@ module _ (x payload t : List ℕ) where
     accepted-room = rw (the-body, length-drop) (omega arith)
 
     small : SmallEntries (definition x)
-    small = rw (definition-heads x) (entries-small x l count loaded)
+    small = rw (definition-heads x) (accepted-small x accepted)
 
     sums : (r : Params) → r ≡ within (walk (bodyOf payload) (definition x)) (length t) → AddsUp (definition x) payload r
     unfolding within
@@ -106,7 +128,7 @@ module _ (x payload t : List ℕ) where
           adds = sums r (f .answer);
         }
 
-pub ruleset accepted-laws = (accepted-long, accepted-short, accepted-room, accepted-fills)
+pub ruleset accepted-laws = (loaded-all, loaded-short, accepted-long, accepted-short, accepted-room, accepted-fills)
 
 -- ---- by any text
 module _ (x payload t : List ℕ) (v : Verdict) (is-v : v ≡ verdict x) where

@@ -3,7 +3,7 @@ use mathlib.Core.Path.{_≡_, refl, sym, ap, _∙_}
 use mathlib.Core.Bool.{Bool, true, false}
 use mathlib.Core.List.{List, [], _∷_, _++_}
 use Prim.Native.Nat.{ℕ, _+_, _-_, _^_, _≤_, _<_}
-use native.Mathlib.Nat.{add-zero, zero-add}
+use native.Mathlib.Nat.{zero-add}
 use native.Mathlib.Omega.{arith}
 use mir.Syntax.{w64}
 use mir.Val.{Fits}
@@ -15,27 +15,25 @@ use Rattle.command_lengths.specs.Entries.{entries}
 use Rattle.command_lengths.specs.Lengths.{least, repeats}
 use Rattle.command_lengths.specs.declared.Earlier.{Earlier}
 use Rattle.command_lengths.specs.declared.Earlier.the-variants.{NoValue}
-use Rattle.command_lengths.specs.declared.BitOffset.{BitOffset}
 use Rattle.command_lengths.specs.declared.Size.the-variants.{Missing}
 use Rattle.command_lengths.proofs.Laws.{repeats-first}
 use Rattle.command_schema.specs.Field.{fieldOf}
 use Rattle.command_schema.specs.Heads.{headsOf, membersOf, entriesOf}
 use Rattle.command_schema.specs.Loaded.{loadedAt, fieldIn, isOuter, Stands, TellsG, IsLoaded}
 use Rattle.command_schema.specs.declared.Loaded.{Loaded}
-use Rattle.command_schema.proofs.Told.{IsParam, OuterAt, GroupAt, outer-at, group-at, no-entry-at, none-at, members-small, entries-small}
+use Rattle.command_schema.proofs.Told.{OuterAt, GroupAt, outer-at, group-at, no-entry-at, none-at, members-small, entries-small}
 use Rattle.command_rows.specs.Rows.{written}
-use Rattle.command_rows.specs.declared.Row.{Row}
 use Rattle.command_rows.proofs.Laws.{written-none, length-written, written-more}
 use Rattle.command_param.specs.Param.{sizeAt, paramRows, paramEntry}
 use Rattle.command_param.specs.Steps.{IsRead, ReadsParam}
 use Rattle.command_param.specs.declared.Param.{Param}
 use Rattle.command_param.specs.declared.Param.the-variants.{Read, Absent}
-use Rattle.command.specs.Walk.{Walked, ended, after, repetitions, groupAt, outer, walk}
-use Rattle.command.specs.Steps.{Gives, GivesGroup}
-use Rattle.command.specs.declared.Repeated.{Repeated}
-use Rattle.command.proofs.Entries.{Kept, Free, KeptFree, kept-part, kept-start, free-start, kept-push, free-push, kept-none}
-use Rattle.command.proofs.Bounds.{Bound, size-facts, repetitions-bound, walk-few}
-use Rattle.command.proofs.Answers.{is-read, is-absent}
+use Rattle.command_walk.specs.Walk.{after, repetitions, groupAt, outer, walk}
+use Rattle.command_groups.specs.Steps.{Gives, GivesGroup}
+use Rattle.command_groups.specs.declared.Repeated.{Repeated}
+use Rattle.command_groups.proofs.Entries.{KeptFree, kept-part, kept-start, free-start, kept-push, free-push, kept-none}
+use Rattle.command_walk.proofs.Bounds.{size-facts, repetitions-bound, walk-few}
+use Rattle.command_groups.proofs.Answers.{is-read, is-absent}
 
 -- what is left of the outer list, from loaded row j on
 pub record Outer (t body : List ℕ) (d₀ d kept : List ℕ) (have at next j : ℕ) : Type 0 where

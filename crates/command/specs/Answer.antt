@@ -13,8 +13,8 @@ use Rattle.command_class.specs.Definition.{Entry, definition}
 use Rattle.command_rows.specs.Rows.{width, table}
 use Rattle.command_rows.specs.declared.Row.{Row}
 use Rattle.command_param.specs.Param.{inPayload}
-use Rattle.command.specs.Walk.{Walked, walk}
-use Rattle.command.specs.Sum.{Adds}
+use Rattle.command_walk.specs.Walk.{Walked, walk}
+use Rattle.command_walk.specs.Sum.{Adds}
 use Rattle.command.specs.declared.Params.{Params}
 use Rattle.command.specs.declared.Params.the-variants.{Rows, Refused}
 

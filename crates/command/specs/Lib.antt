@@ -1,4 +1,2 @@
-pub mod Walk
-pub mod Sum
 pub mod Answer
-pub mod Steps
+pub mod Examples

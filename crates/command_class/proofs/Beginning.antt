@@ -5,23 +5,25 @@ use mathlib.Core.List.{List, [], _∷_}
 use mathlib.Core.Option.{some}
 use Prim.Native.Nat.{ℕ, suc, _≤_, _<_}
 use native.Mathlib.Nat.{add-zero}
+use native.Mathlib.Numerals.{add-one}
 use native.Mathlib.Omega.{arith}
 use lib.Dec.{eqb}
 use lib.ListN.{length, getD, drop, length-drop}
 use lib.Seq.{getD-drop}
 use Rattle.text.specs.Text.{lines, fields}
 use Rattle.text.specs.Text as text
-use Rattle.text.specs.Place.{First, unended, ended, after, longer, first, left, kindOf}
+use Rattle.text.specs.Place.{First, unended, ended, after, longer, first, left, kindOf, Passes}
 use Rattle.text.specs.Judge.{judge}
 use Rattle.text.specs.Records.{records, rest, Readable}
 use Rattle.text.specs.declared.Place.{Place}
 use Rattle.text.specs.declared.Verdict.the-variants.{Accepted}
 use Rattle.text.proofs.Judging.{Reads, first-reads, split-some, judge-line}
 use Rattle.text.proofs.Reading.{Allowed, accepted-line, records-line}
+use Rattle.text.proofs.Passing.{Passed, passed}
 use Rattle.command_text.specs.Form.{Record, param, group, variant, array, bitFlag, bitField, fieldEnum, const, bitmask, form}
 use Rattle.command_text.specs.Rules.{rules}
 use Rattle.command_class.specs.Definition.{letter, numbered}
-use Rattle.command_class.specs.Find.{from, Begins}
+use Rattle.command_class.specs.Find.{from, Begins, Follows}
 use Rattle.command_class.proofs.Finding.{kind-letter}
 
 -- the kind of a line is its first byte
@@ -107,4 +109,14 @@ begins-at t p r inside =
       kind = sym (getD-drop (p .at) t 0 0 ∙ ap (λ (n : ℕ). getD t n 0) (add-zero (p .at))) ∙ sym b ∙ k;
     }
 
-pub ruleset begin-laws = (begins-at)
+pub follows-at : (t : List ℕ) (p q : Place) → Readable rules t p → p .at < length t → Passes t p q → Follows t p q
+follows-at t p q r inside pass =
+    let h : Passed rules t p q = passed rules t p q r inside pass in
+    record {
+      said = h .said;
+      lines = ap (numbered (p .line)) (h .rest-is) ∙ ap (λ (n : ℕ). record { line = p .line; says = h .said } ∷ numbered n (rest rules t q)) (sym (pass .count ∙ add-one (p .line)));
+      readable = h .next;
+      on = pass .on;
+    }
+
+pub ruleset begin-laws = (begins-at, follows-at)

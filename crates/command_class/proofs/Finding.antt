@@ -84,7 +84,7 @@ lined t p l readable inside step =
       next = h .next;
     }
 
-begins-kind : (r : Record) → begins r ≡ among 81 71 71 (letter r)
+pub begins-kind : (r : Record) → begins r ≡ among 81 71 71 (letter r)
 begins-kind (param q) = refl
 begins-kind (group g) = refl
 begins-kind (variant s) = refl

@@ -1,33 +1,29 @@
 -- Laws on reading the lines of an accepted command text as rows of numbers. Assumes nothing.
 use mathlib.Core.Path.{_≡_, refl, sym, ap, _∙_}
 use mathlib.Core.Bool.{Bool, true, false, cond, _&&_, _||_}
-use mathlib.Core.List.{List, [], _∷_}
+use mathlib.Core.List.{List, _∷_}
 use mathlib.Core.Option.{Option, none, some}
 use Prim.Native.Nat.{ℕ, _-_, _<_}
 use native.Mathlib.Omega.{arith}
 use lib.Dec.{eqb, leb}
 use lib.ListN.{length}
-use borrow.Author.Tests.{eqb-true, eq-eqb, ne-eqb}
+use borrow.Author.Tests.{eqb-true}
 use Rattle.text.specs.Text.{field, worth, decimal, upTo, value, missing, name, optionalUpTo, optionalValue, optional}
 use Rattle.text.specs.Text as text
-use Rattle.text.specs.Place.{cells, In, Steps, Has}
+use Rattle.text.specs.Place.{cells, Steps, Has}
 use Rattle.text.specs.Records.{isSome, Readable}
-use Rattle.text.specs.Listing.{listed, Stands, Next}
 use Rattle.text.specs.declared.Place.{Place}
 use Rattle.text.specs.declared.Line.{Line}
-use Rattle.text.specs.declared.Under.{Under}
-use Rattle.text.specs.declared.Under.the-variants.{At, Nothing}
 use Rattle.text.specs.declared.Number.the-variants.{Over}
 use Rattle.text.specs.declared.Number.the-variants as number
 use Rattle.text.specs.declared.Optional.{Optional}
 use Rattle.text.specs.declared.Optional.the-variants.{Given, Missing, Wrong}
 use Rattle.text.proofs.Laws.{cells-length}
 use Rattle.text.proofs.Tests.{and-left, and-right, value-of, optional-value-of}
-use Rattle.text.proofs.Listing.{found-at, found-in, found-inside}
 use Rattle.command_text.specs.Form.{Record, param, group, variant, array, bitFlag, bitField, fieldEnum, const, bitmask, typeOf, paramWords, paramCondition, paramFields, paramForm, paramOf, groupFields, groupForm, groupOf, variantFields, variantForm, sizeOf, arrayForm, asciiOf, namedForm, bitsFields, bitsForm, bitsOf, bitmaskForm, given, ofType, said, form}
 use Rattle.command_text.specs.Rules.{rules}
-use Rattle.command_class.specs.Definition.{Item, ends, under, letter, firstConst}
-use Rattle.command_class.specs.Find.{from, Good, ofKind, orMissing, optionalOr, Tells, IsRead}
+use Rattle.command_class.specs.Definition.{letter}
+use Rattle.command_class.specs.Find.{from, Good, orMissing, optionalOr, Tells, IsRead}
 use Rattle.command_class.specs.declared.Row.{Row}
 use Rattle.command_text.specs.declared.ParamType.{ParamType}
 use Rattle.command_text.specs.declared.ParamType.the-variants.{Byte}
@@ -182,7 +178,7 @@ module _ (t : List ℕ) (l : Line) (good : Good t l) where
         }
 
   -- T and K
-  named-value : namedForm fs ≡ true → value 255 (field 1 fs) ≡ worth 0 (field 1 fs)
+  pub named-value : namedForm fs ≡ true → value 255 (field 1 fs) ≡ worth 0 (field 1 fs)
   named-value e = value-of 255 (field 1 fs) (and-left (upTo 255 (field 1 fs)) (name (field 2 fs)) (and-right (eqb (length fs) 3) _ e))
 
   module _ (is : l .kind ≡ 84) where
@@ -196,7 +192,7 @@ module _ (t : List ℕ) (l : Line) (good : Good t l) where
     bit-flag-tells m e = record { said = bitFlag (worth 0 (field 1 fs)) (field 2 fs); form-is = t-said .1; kind = refl; says = e ∙ named-value (t-said .0) }
 
   module _ (is : l .kind ≡ 75) where
-    k-said : (namedForm fs ≡ true) × (form fs ≡ some (const (worth 0 (field 1 fs)) (field 2 fs)))
+    pub k-said : (namedForm fs ≡ true) × (form fs ≡ some (const (worth 0 (field 1 fs)) (field 2 fs)))
     k-said = said-good fs (namedForm fs) _ (rw (sym (good .kind-is) ∙ is)) (good .formed)
 
     pub const-has : (k : ℕ) → k < 3 → Has t l k
@@ -287,89 +283,3 @@ module _ (t : List ℕ) (p : Place) (l : Line) (readable : Readable rules t p) (
       }
 
 pub ruleset read-laws = (read-good, read-is)
-
--- ---- the first K with a value
-consts-of : (v : ℕ) (is : List Item) → firstConst v (under is) ≡ firstConst v (listed ends (ofKind 75 75 75) is)
-consts-of v [] = refl
-consts-of v (i ∷ is) = go (ends i) (consts-of v is)
-  where
-    by-record : (x : Record) → i .says ≡ x → firstConst v (under is) ≡ firstConst v (listed ends (ofKind 75 75 75) is)
-        → firstConst v (i ∷ under is) ≡ firstConst v (cond (ofKind 75 75 75 i) (i ∷ listed ends (ofKind 75 75 75) is) (listed ends (ofKind 75 75 75) is))
-    by-record (param q) e ih = rw e ih
-    by-record (group g) e ih = rw e ih
-    by-record (variant s) e ih = rw e ih
-    by-record (array n a) e ih = rw e ih
-    by-record (bitFlag m n) e ih = rw e ih
-    by-record (bitField b) e ih = rw e ih
-    by-record (fieldEnum b) e ih = rw e ih
-    by-record (const w n) e ih = rw (e, ih)
-    by-record (bitmask n) e ih = rw e ih
-
-    go : (b : Bool) → firstConst v (under is) ≡ firstConst v (listed ends (ofKind 75 75 75) is)
-        → firstConst v (cond b [] (i ∷ under is)) ≡ firstConst v (cond b [] (cond (ofKind 75 75 75 i) (i ∷ listed ends (ofKind 75 75 75) is) (listed ends (ofKind 75 75 75) is)))
-    go true ih = refl
-    go false ih = by-record (i .says) refl ih
-
-pub record Naming (t : List ℕ) (p₀ : Place) (v : ℕ) (p : Place) : Type 0 where
-  pub readable : Readable rules t p
-  pub so : firstConst v (under (from t p₀)) ≡ firstConst v (under (from t p))
-
-pub const-start : (t : List ℕ) (p : Place) (v : ℕ) → Readable rules t p → Naming t p v p
-const-start t p v r = record { readable = r; so = refl }
-
-pub const-readable : (t : List ℕ) (p₀ : Place) (v : ℕ) (p : Place) → Naming t p₀ v p → Readable rules t p
-const-readable t p₀ v p k = k .readable
-
-module _ (t : List ℕ) (p₀ : Place) (v : ℕ) (p : Place) (r : Under) (k : Naming t p₀ v p) (found : Next ends (ofKind 75 75 75) rules from t p r) where
-  pub const-none : r ≡ Nothing → 0 ≡ firstConst v (under (from t p₀))
-  const-none e = sym (k .so ∙ consts-of v (from t p) ∙ ap (firstConst v) (rw e at found))
-
-  pub const-in : (q : Place) → r ≡ At q → In t q
-  const-in q e = found-in ends (ofKind 75 75 75) rules from t p q r found e
-
-  pub const-inside : (q : Place) → r ≡ At q → q .at < length t
-  const-inside q e = found-inside ends (ofKind 75 75 75) rules from t p q r found e
-
-  module _ (q : Place) (l : Line) (e : r ≡ At q) (step : Steps t q l) where
-    stands : Stands ends (ofKind 75 75 75) rules from t p q
-    stands = found-at ends (ofKind 75 75 75) rules from t p q r found e
-
-    abbrev const-here : Lined t q l
-    const-here = lined t q l (stands .readable) (stands .inside) step
-
-    const-good : Good t l
-    const-good = record { marked = step .marked; kind-is = step .kind-is; formed = rw (const-here .form-is) }
-
-    const-kind : l .kind ≡ 75
-    const-kind = const-here .kind-is ∙ same-letter (rw (const-here .lines) at (stands .there))
-      where
-        three : (b : Bool) → (b || (b || b)) ≡ true → b ≡ true
-        three true h = refl
-        three false h = h
-
-        same-letter : ofKind 75 75 75 (record { line = q .line; says = const-here .says }) ≡ true → letter (const-here .says) ≡ 75
-        same-letter h = eqb-true (letter (const-here .says)) 75 (three (eqb (letter (const-here .says)) 75) h)
-
-    pub const-field : Has t l 1
-    const-field = const-has t l const-good const-kind 1 (omega arith)
-
-    is-const : const-here .says ≡ const (worth 0 (field 1 (cells t l))) (field 2 (cells t l))
-    is-const = let z : some (const-here .says) ≡ some (const (worth 0 (field 1 (cells t l))) (field 2 (cells t l))) = sym (const-here .form-is) ∙ k-said t l const-good const-kind .1 in cc
-
-    told-const : firstConst v (under (from t p₀)) ≡ cond (eqb (value 255 (field 1 (cells t l))) v) (q .line) (firstConst v (under (from t (l .next))))
-    told-const =
-        k .so ∙ consts-of v (from t p) ∙ ap (firstConst v) (stands .alike) ∙ sym (consts-of v (from t q))
-        ∙ ap (λ (is : List Item). firstConst v (under is)) (const-here .lines ∙ ap (λ (x : Record). record { line = q .line; says = x } ∷ from t (l .next)) is-const)
-        ∙ rw (named-value t l const-good (k-said t l const-good const-kind .0))
-
-    module _ (n : ℕ) (says : n ≡ value 255 (field 1 (cells t l))) where
-      pub const-hit : n ≡ v → q .line ≡ firstConst v (under (from t p₀))
-      const-hit h = rw (told-const, eq-eqb (value 255 (field 1 (cells t l))) v (sym says ∙ h))
-
-      pub const-next : (n ≡ v → ⊥) → Naming t p₀ v (l .next)
-      const-next h = record { readable = const-here .next; so = rw (told-const, ne-eqb (value 255 (field 1 (cells t l))) v (λ z. h (says ∙ z))) }
-
-    pub const-less : length t - l .next .at < length t - p .at
-    const-less = omega (arith, stands .after, stands .inside, step .on)
-
-pub ruleset const-laws = (const-start, const-readable, const-none, const-in, const-inside, const-field, const-hit, const-next, const-less)

@@ -94,3 +94,10 @@ pub record Begins (t : List ℕ) (p : Place) (k : ℕ) : Type 0 where
   pub others : List Item
   pub lines : from t p ≡ record { line = p .line; says = said } ∷ others
   pub kind : k ≡ letter said
+
+-- the place q follows the line that begins at the place p
+pub record Follows (t : List ℕ) (p q : Place) : Type 0 where
+  pub said : Record
+  pub lines : from t p ≡ record { line = p .line; says = said } ∷ from t q
+  pub readable : Readable rules t q
+  pub on : p .at < q .at

@@ -15,7 +15,7 @@ ghost use Rattle.text.specs.Records.{Readable};
 ghost use Rattle.command_text.specs.Form.{typeOf};
 ghost use Rattle.command_text.specs.Rules.{rules};
 ghost use Rattle.command_class.specs.Definition.{under, firstConst};
-ghost use Rattle.command_class.specs.Find.{from, Good, among, NextUnder, NextEntry, optionalOr, Tells, IsRead, Begins};
+ghost use Rattle.command_class.specs.Find.{from, Good, among, NextUnder, NextEntry, optionalOr, Tells, IsRead, Begins, Follows};
 
 // What a line says, as numbers; 256 for a missing offset, mask or length, 0 where the line has no such number.
 pub struct Row {
@@ -291,24 +291,6 @@ pub fn read_at(text: &[u8], place: Place) -> Read
     }
 }
 
-// The line of the first K with a value under the Q before the place, or 0.
-pub fn find_const(text: &[u8], start: Place, value: u16) -> usize
-    requires { ⌜ Readable rules (now text) start ⌝ }
-    ensures { λ r. ⌜ r ≡ firstConst value (under (from (now (text .entry)) start)) ⌝ }
-{
-    let mut place = start;
-    loop {
-        let Under::At(at) = next_under(text, place, b'K', b'K', b'K') else {
-            return 0;
-        };
-        let line = at.step(text);
-        if line.value(text, 1, 255) == value {
-            return at.line;
-        }
-        place = line.next;
-    }
-}
-
 // The kind of the line at a place: its first byte.
 pub fn kind_at(text: &[u8], place: Place) -> u8
     requires { ⌜ (Readable rules (now text) place) × (place .at < length (now text)) ⌝ }
@@ -316,4 +298,36 @@ pub fn kind_at(text: &[u8], place: Place) -> u8
 {
     let at = place.at;
     text[at]
+}
+
+// The place after the line at a place, of which only its end is looked for.
+pub fn pass_at(text: &[u8], place: Place) -> Place
+    requires { ⌜ (Readable rules (now text) place) × (place .at < length (now text)) ⌝ }
+    ensures { λ r. ⌜ Follows (now (text .entry)) place r ⌝ }
+{
+    place.pass(text)
+}
+
+// The line of the first K with a value under the Q before the place, or 0.
+pub fn find_const(text: &[u8], start: Place, value: u16) -> usize
+    requires { ⌜ Readable rules (now text) start ⌝ }
+    ensures { λ r. ⌜ r ≡ firstConst value (under (from (now (text .entry)) start)) ⌝ }
+{
+    let mut place = start;
+    while place.at < text.len() {
+        let kind = kind_at(text, place);
+        if kind == b'K' {
+            let line = place.step(text);
+            if line.value(text, 1, 255) == value {
+                return place.line;
+            }
+            place = line.next;
+            continue;
+        }
+        if is_among(kind, b'Q', b'G', b'G') {
+            return 0;
+        }
+        place = pass_at(text, place);
+    }
+    0
 }

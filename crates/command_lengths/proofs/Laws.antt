@@ -1,13 +1,11 @@
 -- Laws of conditions, lengths and counts: one for each way through the code. Assumes nothing.
 use mathlib.Core.Path.{_≡_, refl, sym, ap, _∙_}
 use mathlib.Core.Bool.{Bool, true, false, cond, not, _&&_, _||_}
-use mathlib.Core.List.{List, [], _∷_, map}
+use mathlib.Core.List.{List, [], _∷_}
 use mathlib.Core.Option.{Option, none, some}
-use Prim.Native.Nat.{ℕ, zero, suc, _/_, _^_, _≤_, _<_}
+use Prim.Native.Nat.{ℕ, zero, suc, _^_, _≤_, _<_}
 use native.Mathlib.Nat.{lt-of-le-of-lt, lt-of-lt-of-le, div-eq-of-lt}
 use native.Mathlib.Omega.{arith}
-use mir.Syntax.{w16}
-use mir.Val.{Fits}
 use lib.Bits.{bitAnd, and-le-l}
 use lib.Dec.{eqb, ltb, leb}
 use lib.ListN.{length, getD, take, List·getD-eq-default, length-map}
@@ -23,7 +21,6 @@ use Rattle.command_lengths.specs.declared.Rule.{Rule}
 use Rattle.command_lengths.specs.declared.Rule.the-variants.{Fixed, Open, Counted}
 use Rattle.command_lengths.specs.declared.Wanted.{Wanted}
 use Rattle.command_lengths.specs.declared.Wanted.the-variants.{Exactly, Rest}
-use Rattle.command_lengths.specs.declared.Size.{Size}
 use Rattle.command_lengths.specs.declared.Size.the-variants.{Bytes, Missing}
 
 -- ---- entries

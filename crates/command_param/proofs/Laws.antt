@@ -1,39 +1,31 @@
 -- Laws of a Q's rows. Assumes nothing.
 use mathlib.Core.Path.{_≡_, refl, sym, ap, _∙_}
-use mathlib.Core.Bool.{Bool, true, false, cond}
 use mathlib.Core.List.{List, [], _∷_, _++_}
-use Prim.Native.Nat.{ℕ, suc, _+_, _-_, _^_, _≤_, _<_}
+use Prim.Native.Nat.{ℕ, _+_, _-_, _≤_, _<_}
 use native.Mathlib.Omega.{arith}
 use mir.Syntax.{w64}
 use mir.Val.{Fits}
-use lib.Dec.{eqb}
-use lib.ListN.{length, getD, take, drop, length-drop}
-use lib.Seq.{length-take-le}
+use lib.ListN.{length, getD, take, drop}
 use borrow.Author.Tests.{eq-eqb, ne-eqb}
-use Rattle.records.specs.declared.BodyOffset.{BodyOffset}
-use Rattle.records.specs.declared.PayloadOffset.{PayloadOffset}
-use Rattle.command_class.specs.Definition.{Item, under}
+use Rattle.command_class.specs.Definition.{under}
 use Rattle.command_class.specs.Find.{from}
 use Rattle.command_lengths.specs.Entries.{entries, given, earlier}
 use Rattle.command_lengths.specs.Lengths.{sizeOf}
-use Rattle.command_lengths.specs.declared.Earlier.{Earlier}
 use Rattle.command_lengths.specs.declared.Rule.{Rule}
 use Rattle.command_lengths.specs.declared.Size.{Size}
 use Rattle.command_lengths.specs.declared.Size.the-variants.{Bytes, Missing}
 use Rattle.command_lengths.proofs.Laws.{size-within, size-some}
 use Rattle.command_schema.specs.Field.{Field}
-use Rattle.command_schema.specs.Loaded.{ruleIn, after, fieldIn, countBits, Stands}
+use Rattle.command_schema.specs.Loaded.{ruleIn, after, fieldIn}
 use Rattle.command_schema.specs.declared.Loaded.{Loaded}
 use Rattle.command_rows.specs.Rows.{written, rowAt, Writes}
 use Rattle.command_rows.specs.declared.Row.{Row}
-use Rattle.command_rows.proofs.Laws.{written-none, written-more, part-back}
+use Rattle.command_rows.proofs.Laws.{written-none, written-full, written-more, part-back}
 use Rattle.command_param.specs.Param.{inPayload, valueOf, valued, orZero, constLine, entryOf, bitRows, childRows, rowOf, bytesAt, sizeAt, paramRows, paramEntry}
-use Rattle.command_param.specs.Steps.{WritesParam, IsRead, IsAbsent, ReadsParam}
+use Rattle.command_param.specs.Steps.{WritesParam, ReadsParam}
 use Rattle.command_param.specs.declared.Uint.{Uint}
-use Rattle.command_param.specs.declared.Param.{Param}
 use Rattle.command_param.specs.declared.Param.the-variants.{Read, Absent}
 use Rattle.command_param.specs.declared.Wrote.{Wrote}
-use Rattle.command_param.proofs.Bits.{bits-count}
 
 -- ---- its own row
 pub row-is : (t : List ℕ) (q : Loaded) (bs : List ℕ) (start parent : ℕ) (value : Uint) (a v k : ℕ) → value ≡ valueOf bs → a ≡ valued value → v ≡ orZero value → k ≡ constLine (fieldIn t q) value
@@ -54,26 +46,35 @@ part-children t q bs d ys start parent rest b c w er eb h =
 
 pub ruleset row-laws = (row-is, no-children, part-children)
 
+-- ---- its own row in the table
+pub own-full : (d : List ℕ) (row : Row) → length d < 9 → d ≡ written d 0 (row ∷ [])
+own-full d row h = sym (written-full d 0 (row ∷ []) (omega arith))
+
+pub own-written : (d d′ : List ℕ) (row row′ : Row) → d′ ≡ written d 0 (row ∷ []) → row ≡ row′ → d′ ≡ written d 0 (row′ ∷ [])
+own-written d d′ row row′ e r = rw (← r) e
+
+pub ruleset own-laws = (own-full, own-written)
+
 -- ---- all its rows
 
-module _ (t : List ℕ) (q : Loaded) (body : List ℕ) (at size n parent start : ℕ) (d₀ d : List ℕ) (row : Row) where
+module _ (t : List ℕ) (q : Loaded) (body : List ℕ) (at size n parent start : ℕ) (d₀ d : List ℕ) where
   -- the bytes that it takes, as they are lent
   the-bytes : take (at + size - at) (drop at body) ≡ bytesAt body at size
   the-bytes = let z : at + size - at ≡ size = omega arith in rw z refl
 
   pub param-written : (d′ : List ℕ) (c : ℕ) (value : Uint) (e : ℕ)
-      → row ≡ rowOf (fieldIn t q) parent start (take (at + size - at) (drop at body)) → d ≡ written d₀ 0 (row ∷ [])
+      → d ≡ written d₀ 0 (rowOf (fieldIn t q) parent start (take (at + size - at) (drop at body)) ∷ [])
       → Writes d 1 (childRows (fieldIn t q) (n + 1) start (take (at + size - at) (drop at body))) d′ c → start ≡ inPayload at
       → value ≡ valueOf (take (at + size - at) (drop at body)) → earlier e ≡ entryOf value
       → WritesParam body (fieldIn t q) at size n parent d₀ d′ (record { entry = e; count = c + 1 })
   unfolding paramRows paramEntry
-  param-written d′ c value e er ed w es ev ee =
+  param-written d′ c value e ed w es ev ee =
       let b : take (at + size - at) (drop at body) ≡ take size (drop at body) = the-bytes in
       let kids : d′ ≡ written d 1 (childRows (fieldIn t q) (n + 1) (inPayload at) (take size (drop at body))) = rw (b, es) at (w .rows) in
-      let own : row ≡ rowOf (fieldIn t q) parent (inPayload at) (take size (drop at body)) = rw (b, es) at er in
+      let own : d ≡ written d₀ 0 (rowOf (fieldIn t q) parent (inPayload at) (take size (drop at body)) ∷ []) = rw (b, es) at ed in
       let c-is : c ≡ length (childRows (fieldIn t q) (n + 1) (inPayload at) (take size (drop at body))) = rw (b, es) at (w .count) in
       record {
-        rows = kids ∙ rw (ed, ← own) (written-more d₀ 0 (row ∷ []) (childRows (fieldIn t q) (n + 1) (inPayload at) (take size (drop at body))) 1 refl);
+        rows = kids ∙ rw own (written-more d₀ 0 (rowOf (fieldIn t q) parent (inPayload at) (take size (drop at body)) ∷ []) (childRows (fieldIn t q) (n + 1) (inPayload at) (take size (drop at body))) 1 refl);
         count = omega arith;
         entry = ee ∙ ap entryOf (ev ∙ ap valueOf b);
       }

@@ -9,12 +9,13 @@ use command_schema::Loaded;
 use records::BodyOffset;
 use records::PayloadOffset;
 ghost use mathlib.Core.Path.{_≡_};
+ghost use mathlib.Core.List.{[], _∷_};
 ghost use Prim.Native.Nat.{_+_, _-_, _%_, _^_, _≤_, _<_};
 ghost use lib.ListN.{length};
 ghost use Rattle.command_class.specs.Definition.{under};
 ghost use Rattle.command_class.specs.Find.{from, among};
 ghost use Rattle.command_lengths.specs.Entries.{entries, earlier};
-ghost use Rattle.command_rows.specs.Rows.{Writes};
+ghost use Rattle.command_rows.specs.Rows.{written, Writes};
 ghost use Rattle.command_schema.specs.Loaded.{after, fieldIn, Stands};
 ghost use Rattle.command_param.specs.Param.{inPayload, valueOf, valued, orZero, constLine, entryOf, bitRow, bitRows, childRows, rowOf};
 ghost use Rattle.command_param.specs.Steps.{bitNumber, WritesParam, ReadsParam};
@@ -248,6 +249,24 @@ fn write_children(
     decode_bits(text, q, b, start, parent, &mut rows[rest..])
 }
 
+// Writes the own row of a Q that takes these bytes as row 0. Without room for it, the row is not made.
+fn write_own(
+    text: &[u8],
+    q: Loaded,
+    bytes: &[u8],
+    start: PayloadOffset,
+    parent: u64,
+    rows: &mut [u64],
+)
+    requires { ⌜ (Stands (now text) q) × (start .0 + length (now bytes) < 2 ^ 63) ⌝ }
+    ensures { λ _. ⌜ now (rows .exit) ≡ written (now (rows .entry)) 0 (rowOf (fieldIn (now (text .entry)) q) parent (start .0) (now (bytes .entry)) ∷ []) ⌝ }
+{
+    if rows.len() < WIDTH {
+        return;
+    }
+    command_rows::write_row(rows, 0, param_row(text, q, bytes, start, parent));
+}
+
 // Writes a Q that takes `size` bytes. Its own row is row n, and `rows` is the table from there on.
 fn write_param(
     text: &[u8],
@@ -266,7 +285,7 @@ fn write_param(
     let end = from + size;
     let bytes = &body[from..end];
     let start = in_payload(at);
-    command_rows::write_row(rows, 0, param_row(text, q, bytes, start, parent));
+    write_own(text, q, bytes, start, parent, rows);
     let children = write_children(text, q, bytes, start, (n + 1) as u64, rows);
     Wrote {
         entry: entry_of(read_uint(bytes)),

@@ -1,12 +1,12 @@
 -- Laws of a command's rows in a table: those of rows of any width, at nine. Assumes nothing.
-use mathlib.Core.Path.{_≡_, refl, sym, ap, _∙_}
+use mathlib.Core.Path.{_≡_, refl, sym, ap}
 use mathlib.Core.List.{List, [], _∷_, _++_, map}
-use Prim.Native.Nat.{ℕ, suc, _+_, _-_, _*_, _/_, _≤_, _<_}
+use Prim.Native.Nat.{ℕ, _+_, _-_, _*_, _/_, _≤_, _<_}
 use native.Mathlib.Omega.{arith}
 use lib.ListN.{length, take, drop, length-map}
 use borrow.Author.Tests.{le-leb, lt-leb}
 use Rattle.rows.specs.Rows.{put}
-use Rattle.rows.specs.Parts.{puts, cutAt, Wide}
+use Rattle.rows.specs.Parts.{puts, Wide}
 use Rattle.rows.proofs.Parts as rows
 use Rattle.command_rows.specs.Rows.{numbers, written, table, rowAt}
 use Rattle.command_rows.specs.declared.Row.{Row}

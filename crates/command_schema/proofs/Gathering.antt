@@ -1,8 +1,8 @@
 -- Laws of gathering the lines under a Q. Assumes nothing.
 use mathlib.Core.Path.{_≡_, refl, sym, ap, _∙_}
-use mathlib.Core.Bool.{Bool, true, false, cond, not, _&&_, _||_}
+use mathlib.Core.Bool.{Bool, true, false, cond}
 use mathlib.Core.List.{List, [], _∷_}
-use Prim.Native.Nat.{ℕ, suc, _+_, _-_, _≤_, _<_}
+use Prim.Native.Nat.{ℕ, _+_, _-_, _≤_, _<_}
 use native.Mathlib.Omega.{arith}
 use lib.Dec.{eqb}
 use lib.ListN.{length}
@@ -11,14 +11,13 @@ use Rattle.text.specs.declared.Place.{Place}
 use Rattle.text.proofs.Reading.{rest-end}
 use Rattle.command_text.specs.Form.{Record, param, group, variant, array, bitFlag, bitField, fieldEnum, const, bitmask}
 use Rattle.command_text.specs.Rules.{begins, rules}
-use Rattle.command_class.specs.Definition.{Item, numbered, ends, under, letter}
-use Rattle.command_class.specs.Find.{from, among, orMissing, Says, IsRead, Begins}
+use Rattle.command_class.specs.Definition.{Item, numbered, under, letter}
+use Rattle.command_class.specs.Find.{from, among, Says, IsRead, Begins, Follows}
 use Rattle.command_class.specs.declared.Row.{Row}
 use Rattle.command_class.specs.declared.Read.{Read}
 use Rattle.command_schema.specs.Heads.{Head, onto, heads}
-use Rattle.command_schema.specs.Loaded.{gatheredNone, withVariant, withArray, withBitmask, withBits, noted, notedRow, gathered, Gathers}
-use Rattle.command_schema.specs.declared.Gathered.{Gathered}
-use Rattle.command_schema.specs.declared.Under.{Under}
+use Rattle.command_schema.specs.Gathered.{gatheredNone, noted, notedRow, gathered, Gathers}
+use Rattle.command_schema.specs.declared.items.Gathered.{Gathered}
 
 -- the numbers of a line say what the line says
 noted-row : (g : Gathered) (x : Record) (r : Row) → r .kind ≡ letter x → Says x r → notedRow g r ≡ noted g x
@@ -85,6 +84,43 @@ module _ (t : List ℕ) (p₀ : Place) (g : Gathered) (p : Place) (k : Gathering
     pub gathering-stop : x ≡ true → Gathers t p₀ (record { gathered = g; next = p })
     gathering-stop e = none-left (rw (begin .lines, sym ending ∙ e))
 
+    -- a K tells nothing that is gathered
+    pub gathering-pass : (q : Place) → Follows t p q → x ≡ false → kind ≡ 75 → Gathering t p₀ g q
+    unfolding gathered heads
+    gathering-pass q follows other is-k =
+        let z : record { line = p .line; says = begin .said } ∷ begin .others ≡ record { line = p .line; says = follows .said } ∷ from t q = sym (begin .lines) ∙ follows .lines in
+        let rest : begin .others ≡ from t q = cc in
+        let lines : from t p ≡ record { line = p .line; says = begin .said } ∷ from t q = begin .lines ∙ ap (λ (is : List Item). record { line = p .line; says = begin .said } ∷ is) rest in
+        record {
+          readable = follows .readable;
+          so = k .so ∙ ap (λ (is : List Item). gathered g (under is)) lines ∙ by-record (begin .said) (sym (begin .kind) ∙ is-k) (from t q);
+          heads-left = k .heads-left ∙ ap heads lines ∙ no-heads (begin .said) (sym (begin .kind) ∙ is-k) (from t q);
+          on = let a = k .on in let b = follows .on in omega arith;
+          few = let a = follows .on in let f = k .few in omega arith;
+        }
+      where
+        by-record : (r : Record) → letter r ≡ 75 → (is : List Item) → gathered g (under (record { line = p .line; says = r } ∷ is)) ≡ gathered g (under is)
+        by-record (param y) e is = absurd (omega arith)
+        by-record (group y) e is = absurd (omega arith)
+        by-record (variant y) e is = absurd (omega arith)
+        by-record (array n a) e is = absurd (omega arith)
+        by-record (bitFlag m n) e is = absurd (omega arith)
+        by-record (bitField b) e is = absurd (omega arith)
+        by-record (fieldEnum b) e is = absurd (omega arith)
+        by-record (const v n) e is = refl
+        by-record (bitmask n) e is = absurd (omega arith)
+
+        no-heads : (r : Record) → letter r ≡ 75 → (is : List Item) → heads (record { line = p .line; says = r } ∷ is) ≡ heads is
+        no-heads (param y) e is = absurd (omega arith)
+        no-heads (group y) e is = absurd (omega arith)
+        no-heads (variant y) e is = absurd (omega arith)
+        no-heads (array n a) e is = absurd (omega arith)
+        no-heads (bitFlag m n) e is = absurd (omega arith)
+        no-heads (bitField b) e is = absurd (omega arith)
+        no-heads (fieldEnum b) e is = absurd (omega arith)
+        no-heads (const v n) e is = refl
+        no-heads (bitmask n) e is = absurd (omega arith)
+
     module _ (read : Read) (is-read : IsRead t p read) (other : x ≡ false) where
       same : begin .said ≡ is-read .said
       same = let z : record { line = p .line; says = begin .said } ∷ begin .others ≡ record { line = p .line; says = is-read .said } ∷ from t (read .next) = sym (begin .lines) ∙ is-read .lines in
@@ -130,4 +166,7 @@ module _ (t : List ℕ) (p₀ : Place) (g : Gathered) (p : Place) (k : Gathering
       pub gathering-less : length t - read .next .at < length t - p .at
       gathering-less = let a = is-read .on in let b = is-read .next .inn .at-in in omega arith
 
-pub ruleset gather-laws = (gathering-start, gathering-end, gathering-stop, gathering-few, gathering-next, gathering-less)
+pub pass-less : (t : List ℕ) (p q : Place) → p .at < length t → Follows t p q → length t - q .at < length t - p .at
+pass-less t p q inside follows = let a = follows .on in omega arith
+
+pub ruleset gather-laws = (gathering-start, gathering-end, gathering-stop, gathering-pass, pass-less, gathering-few, gathering-next, gathering-less)

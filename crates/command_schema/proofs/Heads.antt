@@ -1,16 +1,19 @@
 -- The Qs and Gs of a text, one after the other, make up its definition. Assumes nothing.
 use mathlib.Core.Path.{_≡_, refl, ap}
-use mathlib.Core.Bool.{Bool, cond}
+use mathlib.Core.Bool.{cond}
 use mathlib.Core.List.{List, [], _∷_}
-use Prim.Native.Nat.{ℕ, suc}
+use Prim.Native.Nat.{ℕ, suc, _≤_}
+use native.Mathlib.Omega.{arith}
 use lib.Dec.{eqb}
 use lib.ListN.{length}
 use Rattle.text.specs.Text.{lines}
 use Rattle.text.specs.Records.{records}
 use Rattle.command_text.specs.Form.{Record, param, group, variant, array, bitFlag, bitField, fieldEnum, const, bitmask, form}
-use Rattle.command_text.specs.Rules.{count}
-use Rattle.command_class.specs.Definition.{Parameter, Entry, single, repeated, numbered, under, membersAt, entriesAt, definition}
+use Rattle.command_text.specs.Rules.{count, items}
+use Rattle.command_class.specs.Definition.{Parameter, Entry, single, numbered, under, membersAt, entriesAt, definition}
+use Rattle.command_class.specs.Limits.{FewUnderEach}
 use Rattle.command_schema.specs.Heads.{heads, headsOf, membersOf, entriesOf}
+use Rattle.command_schema.specs.Loaded.{countBits, SmallHeads}
 
 heads-members : (n : ℕ) (rs : List Record) → membersAt n rs ≡ membersOf (heads (numbered n rs))
 unfolding heads membersOf
@@ -59,3 +62,29 @@ heads-count n (bitField b ∷ rs) = heads-count (suc n) rs
 heads-count n (fieldEnum b ∷ rs) = heads-count (suc n) rs
 heads-count n (const v l ∷ rs) = heads-count (suc n) rs
 heads-count n (bitmask l ∷ rs) = heads-count (suc n) rs
+
+-- how many T, S and U lines stand under each
+bits-under : (n : ℕ) (rs : List Record) → countBits (under (numbered n rs)) ≤ items rs
+bits-under n [] = omega arith
+bits-under n (param q ∷ rs) = omega arith
+bits-under n (group g ∷ rs) = omega arith
+bits-under n (variant s ∷ rs) = let h = bits-under (suc n) rs in omega arith
+bits-under n (array l a ∷ rs) = let h = bits-under (suc n) rs in omega arith
+bits-under n (bitFlag m l ∷ rs) = let h = bits-under (suc n) rs in omega arith
+bits-under n (bitField b ∷ rs) = let h = bits-under (suc n) rs in omega arith
+bits-under n (fieldEnum b ∷ rs) = let h = bits-under (suc n) rs in omega arith
+bits-under n (const v l ∷ rs) = let h = bits-under (suc n) rs in omega arith
+bits-under n (bitmask l ∷ rs) = let h = bits-under (suc n) rs in omega arith
+
+pub heads-small : (n : ℕ) (rs : List Record) → FewUnderEach rs → SmallHeads (heads (numbered n rs))
+unfolding heads SmallHeads
+heads-small n [] few = tt
+heads-small n (param q ∷ rs) few = (let h = bits-under (suc n) rs in let f = few .0 refl in omega arith, heads-small (suc n) rs (few .1))
+heads-small n (group g ∷ rs) few = (tt, heads-small (suc n) rs (few .1))
+heads-small n (variant s ∷ rs) few = heads-small (suc n) rs (few .1)
+heads-small n (array l a ∷ rs) few = heads-small (suc n) rs (few .1)
+heads-small n (bitFlag m l ∷ rs) few = heads-small (suc n) rs (few .1)
+heads-small n (bitField b ∷ rs) few = heads-small (suc n) rs (few .1)
+heads-small n (fieldEnum b ∷ rs) few = heads-small (suc n) rs (few .1)
+heads-small n (const v l ∷ rs) few = heads-small (suc n) rs (few .1)
+heads-small n (bitmask l ∷ rs) few = heads-small (suc n) rs (few .1)

@@ -1,11 +1,11 @@
 -- Laws of the small functions: one for each way through the code. Assumes nothing.
-use mathlib.Core.Path.{_≡_, refl, sym, ap, _∙_}
-use mathlib.Core.Bool.{Bool, true, false, cond, not, _&&_, _||_}
-use mathlib.Core.List.{List, [], _∷_}
+use mathlib.Core.Path.{_≡_, refl}
+use mathlib.Core.Bool.{Bool, true, false, cond, _||_}
+use mathlib.Core.List.{List}
 use mathlib.Core.Option.{none, some}
 use Prim.Native.Nat.{ℕ, _+_, _*_, _≤_, _<_}
 use native.Mathlib.Omega.{arith}
-use lib.Dec.{eqb, ltb}
+use lib.Dec.{eqb}
 use lib.ListN.{length, getD}
 use borrow.Author.Tests.{eqb-true, lt-ltb, le-ltb, eq-eqb, ne-eqb}
 use Rattle.rows.specs.Rows.{put}
@@ -17,11 +17,12 @@ use Rattle.command_class.specs.declared.Row.{Row}
 use Rattle.command_lengths.specs.Entries.{given}
 use Rattle.command_lengths.specs.declared.Rule.the-variants.{Fixed, Open, Counted}
 use Rattle.command_schema.specs.Field.{arrayRule, variantRule, variableRule, ruleOf, arrayAscii, variantAscii, isConst, isNamed}
-use Rattle.command_schema.specs.Loaded.{numbers, loadedAt, ruleIn, isMember, isOuter, withVariant, withArray, withBitmask, withBits, notedRow, bitmaskIn, arraySaid, arrayIn, variantSaid, variantIn, lengthNumber, loadedParam}
+use Rattle.command_schema.specs.Gathered.{withVariant, withArray, withBitmask, withBits, notedRow, bitmaskIn, arraySaid, arrayIn, variantSaid, variantIn, lengthNumber}
+use Rattle.command_schema.specs.Loaded.{numbers, loadedAt, ruleIn, isMember, isOuter, loadedParam}
 use Rattle.command_schema.specs.declared.Loaded.{Loaded}
-use Rattle.command_schema.specs.declared.Gathered.{Gathered}
-use Rattle.command_schema.specs.declared.ArrayAttrib.{ArrayAttrib}
-use Rattle.command_schema.specs.declared.Variant.{Variant}
+use Rattle.command_schema.specs.declared.items.Gathered.{Gathered}
+use Rattle.command_schema.specs.declared.items.ArrayAttrib.{ArrayAttrib}
+use Rattle.command_schema.specs.declared.items.Variant.{Variant}
 
 -- ---- a loaded row
 module _ (l : Loaded) where

@@ -1,5 +1,6 @@
 pub mod Laws
 pub mod Heads
+pub mod Sizes
 pub mod Gathering
 pub mod Resolving
 pub mod Loading

@@ -2,14 +2,12 @@
 use mathlib.Core.Path.{_≡_, refl, sym, ap, _∙_, subst}
 use mathlib.Core.Bool.{Bool, true, false, cond}
 use mathlib.Core.List.{List, [], _∷_, _++_, append-assoc, append-nil}
-use mathlib.Core.Option.{Option}
 use Prim.Native.Nat.{ℕ, suc, _+_, _-_, _*_, _≤_, _<_}
 use native.Mathlib.Nat.{add-zero}
-use native.Mathlib.Numerals.{add-one}
 use native.Mathlib.Omega.{arith}
 use lib.Dec.{eqb}
 use lib.ListN.{length, getD, take, drop, length-append, List·getD-append}
-use lib.Seq.{sets, sets-eq, length-sets, length-take-le, getD-take, getD-append-add}
+use lib.Seq.{sets-eq, length-take-le, getD-take, getD-append-add}
 use Rattle.rows.specs.Rows.{put}
 use Rattle.rows.proofs.Laws.{put-room}
 use Rattle.rows.proofs.Parts.{length-put}
@@ -20,21 +18,20 @@ use Rattle.text.specs.declared.Verdict.the-variants.{Accepted}
 use Rattle.text.proofs.Reading.{readable-start, rest-end}
 use Rattle.command_text.specs.Form.{Param, Group, Record, param, group, variant, array, bitFlag, bitField, fieldEnum, const, bitmask, form}
 use Rattle.command_text.specs.Rules.{rules, verdict}
-use Rattle.command_class.specs.Definition.{Item, Parameter, numbered, under, letter}
-use Rattle.command_class.specs.Find.{from, orMissing, Says, IsRead}
+use Rattle.command_class.specs.Definition.{Item, numbered, under, letter}
+use Rattle.command_class.specs.Find.{from, Says, IsRead}
 use Rattle.command_class.specs.Print.{Fits}
 use Rattle.command_class.specs.declared.Row.{Row}
 use Rattle.command_class.specs.declared.Read.{Read}
 use Rattle.command_class.proofs.Limits.{accepted-within}
 use Rattle.command_lengths.specs.Entries.{given}
-use Rattle.command_lengths.specs.declared.Rule.{Rule}
-use Rattle.command_schema.specs.Field.{first, asVariant, asArray, asBitmask, ruleOf, isNamed, Field, fieldOf}
+use Rattle.command_schema.specs.Field.{first, asVariant, asArray, asBitmask, ruleOf, isNamed}
 use Rattle.command_schema.specs.Heads.{Head, isQ, isG, onto, heads, headsOf}
-use Rattle.command_schema.specs.Loaded.{countBits, numbers, loadedAt, after, fieldIn, Stands, TellsQ, TellsG, Tells, Told, IsLoaded, gatheredNone, gathered, Gathers, bitmaskIn, arrayIn, variantIn, lengthNumber, loadedParam, loadedGroup, Stores}
+use Rattle.command_schema.specs.Gathered.{gatheredNone, gathered, Gathers, bitmaskIn, arrayIn, variantIn, lengthNumber}
+use Rattle.command_schema.specs.Loaded.{countBits, SmallHeads, numbers, loadedAt, TellsQ, Tells, Told, IsLoaded, loadedParam, loadedGroup, Stores}
 use Rattle.command_schema.specs.declared.Loaded.{Loaded}
-use Rattle.command_schema.specs.declared.Gathered.{Gathered}
-use Rattle.command_schema.specs.declared.Under.{Under}
-use Rattle.command_schema.proofs.Heads.{heads-count}
+use Rattle.command_schema.specs.declared.items.Under.{Under}
+use Rattle.command_schema.proofs.Heads.{heads-count, heads-small}
 use Rattle.command_schema.proofs.Resolving.{AllFit, from-fit, under-from-fit, given-back, gathered-bitmask, gathered-array, gathered-variant, gathered-bits, ruleBy, rule-back, bitmask-small, array-small, variant-agrees}
 
 -- ---- rows of the table
@@ -196,14 +193,15 @@ pub record Loading (t d₀ d : List ℕ) (p : Place) (n : ℕ) : Type 0 where
   pub count : n ≡ length done
   pub all : headsOf t ≡ done ++ heads (from t p)
   pub told : Told t d 0 done
-  pub size : length d ≡ 3072
+  pub size : length (headsOf t) * 12 ≤ length d
+  pub small : SmallHeads (headsOf t)
   pub same : length d ≡ length d₀
   pub readable : Readable rules t p
   pub few : length (headsOf t) ≤ 256
   pub most : n ≤ 256
   pub short : length t ≤ 60000
 
-pub loading-start : (t d : List ℕ) (p : Place) → verdict t ≡ Accepted → length d ≡ 3072 → p ≡ record { at = 0; line = 1 } → Loading t d d p 0
+pub loading-start : (t d : List ℕ) (p : Place) → verdict t ≡ Accepted → length (headsOf t) * 12 ≤ length d → p ≡ record { at = 0; line = 1 } → Loading t d d p 0
 loading-start t d p e size q =
     let w = accepted-within t e in
     record {
@@ -212,6 +210,7 @@ loading-start t d p e size q =
       all = rw q refl;
       told = tt;
       size = size;
+      small = heads-small 1 (records form (lines t)) (w .1 .under);
       same = refl;
       readable = readable-start rules t p e q;
       most = omega arith;
@@ -225,7 +224,8 @@ module _ (t d₀ d : List ℕ) (p : Place) (n : ℕ) (k : Loading t d₀ d p n) 
   loading-end h =
       let none : from t p ≡ [] = ap (numbered (p .line)) (rest-end rules t p h) in
       let all : headsOf t ≡ k .done = k .all ∙ ap (λ (is : List Item). k .done ++ heads is) none ∙ append-nil (k .done) in
-      record { count = k .count ∙ ap length (sym all); few = let c = k .count in let f = k .few in omega (arith, ap length all); size = k .size; told = rw all (k .told) }
+      let count : n ≡ length (headsOf t) = k .count ∙ ap length (sym all) in
+      record { count = count; few = k .most; size = let s = k .size in omega arith; small = k .small; told = rw all (k .told) }
 
   pub loading-line : p .line < 65536
   loading-line = let a = k .readable .inn .line-in in let b = k .readable .inn .at-in in let s = k .short in omega arith
@@ -249,6 +249,7 @@ module _ (t d₀ d : List ℕ) (p : Place) (n : ℕ) (k : Loading t d₀ d p n) 
           all = k .all ∙ ap (λ (hs : List Head). k .done ++ hs) same;
           told = k .told;
           size = k .size;
+          small = k .small;
           same = k .same;
           readable = is-read .next;
           few = k .few;
@@ -258,10 +259,9 @@ module _ (t d₀ d : List ℕ) (p : Place) (n : ℕ) (k : Loading t d₀ d p n) 
 
     -- one head more
     module _ (h : Head) (next : Place) (left : heads (from t p) ≡ h ∷ heads (from t next)) where
-      room : n < 256
+      room : n < length (headsOf t)
       room =
           let c = k .count in
-          let f = k .few in
           let all : length (headsOf t) ≡ length (k .done) + suc (length (heads (from t next))) = ap length (k .all ∙ ap (λ (hs : List Head). k .done ++ hs) left) ∙ length-append (k .done) (h ∷ heads (from t next)) in
           omega arith
 
@@ -269,6 +269,7 @@ module _ (t d₀ d : List ℕ) (p : Place) (n : ℕ) (k : Loading t d₀ d p n) 
       one-more l d′ tells e readable =
           let c = k .count in
           let s = k .size in
+          let f = k .few in
           let r = room in
           let rows : n * 12 + 12 ≤ length d = omega arith in
           let new : loadedAt d′ n ≡ l = rw e (loaded-new d n l rows) in
@@ -279,6 +280,7 @@ module _ (t d₀ d : List ℕ) (p : Place) (n : ℕ) (k : Loading t d₀ d p n) 
             all = k .all ∙ rw left (sym (append-assoc (k .done) (h ∷ []) (heads (from t next))));
             told = told-more t d d′ 0 (k .done) h (k .told) (λ i l′. rw e (loaded-old d n l rows i (omega arith))) (rw (place, new) tells);
             size = rw (e, length-put) s;
+            small = k .small;
             same = rw (e, length-put) (k .same);
             readable = readable;
             few = k .few;
@@ -304,7 +306,7 @@ module _ (t d₀ d : List ℕ) (p : Place) (n : ℕ) (k : Loading t d₀ d p n) 
       the-q = q-said (is-read .said) (sym (is-read .kind) ∙ is-q)
 
       pub loading-q-room : n < 256
-      loading-q-room = room _ (read .next) (q-left (the-q .0) (the-q .1))
+      loading-q-room = let f = k .few in omega (arith, room _ (read .next) (q-left (the-q .0) (the-q .1)))
 
       module _ (q : Place) (d′ : List ℕ) (stores : Stores t p (read .row) (read .next) n d q d′) where
         pub loading-q-less : length t - q .at < length t - p .at
@@ -333,7 +335,7 @@ module _ (t d₀ d : List ℕ) (p : Place) (n : ℕ) (k : Loading t d₀ d p n) 
       the-g = g-said (is-read .said) (sym (is-read .kind) ∙ is-g)
 
       pub loading-g-room : n < 256
-      loading-g-room = room _ (read .next) (g-left (the-g .0) (the-g .1))
+      loading-g-room = let f = k .few in omega (arith, room _ (read .next) (g-left (the-g .0) (the-g .1)))
 
       pub loading-g : (l : Loaded) (d′ : List ℕ) → l ≡ loadedGroup (read .row) p → d′ ≡ put d (n * 12) (numbers l) → Loading t d₀ d′ (read .next) (n + 1)
       loading-g l d′ el ed = g-more (the-g .0) (the-g .1) l d′ el ed

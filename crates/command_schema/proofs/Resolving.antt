@@ -3,11 +3,11 @@ use mathlib.Core.Path.{_≡_, refl, sym, ap, _∙_}
 use mathlib.Core.Bool.{Bool, true, false, cond, _||_}
 use mathlib.Core.List.{List, [], _∷_}
 use mathlib.Core.Option.{Option, none, some}
-use Prim.Native.Nat.{ℕ, suc, _+_, _≤_, _<_}
+use Prim.Native.Nat.{ℕ, suc, _+_, _≤_}
 use native.Mathlib.Nat.{add-zero}
 use native.Mathlib.Omega.{arith}
 use lib.Dec.{eqb, ltb}
-use borrow.Author.Tests.{eqb-true, lt-ltb, eq-eqb, ne-eqb}
+use borrow.Author.Tests.{lt-ltb, ne-eqb}
 use Rattle.text.specs.Print.{Every, Optionally}
 use Rattle.text.specs.Text.{lines}
 use Rattle.text.specs.Place.{left}
@@ -24,8 +24,9 @@ use Rattle.command_lengths.specs.Entries.{given}
 use Rattle.command_lengths.specs.declared.Rule.{Rule}
 use Rattle.command_lengths.specs.declared.Rule.the-variants.{Fixed, Open, Counted}
 use Rattle.command_schema.specs.Field.{orElse, first, asVariant, asArray, asBitmask, arrayRule, variantRule, variableRule, ruleOf}
-use Rattle.command_schema.specs.Loaded.{isBits, countBits, noted, gathered, bitmaskIn, arrayIn, variantIn, lengthNumber}
-use Rattle.command_schema.specs.declared.Gathered.{Gathered}
+use Rattle.command_schema.specs.Gathered.{noted, gathered, bitmaskIn, arrayIn, variantIn, lengthNumber}
+use Rattle.command_schema.specs.Loaded.{isBits, countBits}
+use Rattle.command_schema.specs.declared.items.Gathered.{Gathered}
 
 -- ---- lines that say numbers of 0 to 255
 abbrev pub AllFit : List Item → Type 0

@@ -4,17 +4,22 @@ use mathlib.Core.Bool.{Bool, true, false, cond, _&&_}
 use mathlib.Core.List.{List, [], _∷_}
 use Prim.Native.Nat.{ℕ, zero, suc, _+_, _≤_, _<_}
 use native.Mathlib.Nat.{add-zero}
-use native.Mathlib.Numerals.{add-one}
 use native.Mathlib.Omega.{arith}
 use lib.Dec.{eqb}
 use lib.ListN.{length, drop, drop-of-length-le}
-use borrow.Author.Tests.{eqb-true, eq-eqb, ne-eqb}
-use Rattle.command_text.specs.Form.{Group}
+use borrow.Author.Tests.{eqb-true, eq-eqb}
+use Rattle.text.specs.Text.{lines}
+use Rattle.text.specs.Records.{records}
+use Rattle.text.specs.declared.Verdict.the-variants.{Accepted}
+use Rattle.command_text.specs.Form.{Group, form}
+use Rattle.command_text.specs.Rules.{verdict}
 use Rattle.command_class.specs.Definition.{Parameter, Entry, single, repeated}
+use Rattle.command_class.proofs.Limits.{accepted-within}
 use Rattle.command_schema.specs.Field.{fieldOf}
 use Rattle.command_schema.specs.Heads.{Head, isQ, isG, headsOf, membersOf, entriesOf}
-use Rattle.command_schema.specs.Loaded.{countBits, loadedAt, fieldIn, isMember, isOuter, Stands, TellsQ, TellsG, Tells, Told, IsLoaded}
+use Rattle.command_schema.specs.Loaded.{Small, SmallHeads, loadedAt, fieldIn, isMember, isOuter, Stands, TellsG, Tells, Told, IsLoaded}
 use Rattle.command_schema.specs.declared.Loaded.{Loaded}
+use Rattle.command_schema.proofs.Heads.{heads-small}
 
 -- ---- the head that row j tells
 pub record HeadAt (t d : List ℕ) (j : ℕ) (hs : List Head) : Type 0 where
@@ -90,18 +95,7 @@ module _ (t : List ℕ) (l : Loaded) (hs : List Head) where
   no-entry-here (isQ q) w e f = let z : eqb (q .says .level) 0 ≡ false = ap (λ (n : ℕ). eqb n 0) (sym (w .level)) ∙ (rw (w .kind) at e) in rw z refl
   no-entry-here (isG line g) w e f = absurd (f (w .kind))
 
--- ---- no Q has more than 65,535 T, S and U lines
-abbrev pub Small : Parameter → Type 0
-Small q = countBits (q .items) < 65536
-
-abbrev pub SmallHead : Head → Type 0
-SmallHead (isQ q) = Small q
-SmallHead (isG line g) = Unit {0}
-
-unfoldable pub SmallHeads : List Head → Type 0
-SmallHeads [] = Unit {0}
-SmallHeads (h ∷ hs) = SmallHead h × SmallHeads hs
-
+-- ---- no Q has more than 32 T, S and U lines
 unfoldable pub SmallAll : List Parameter → Type 0
 SmallAll [] = Unit {0}
 SmallAll (q ∷ qs) = Small q × SmallAll qs
@@ -110,17 +104,6 @@ unfoldable pub SmallEntries : List Entry → Type 0
 SmallEntries [] = Unit {0}
 SmallEntries (single q ∷ ds) = Small q × SmallEntries ds
 SmallEntries (repeated line g qs ∷ ds) = SmallAll qs × SmallEntries ds
-
-told-small : (t d : List ℕ) (i : ℕ) (hs : List Head) → Told t d i hs → SmallHeads hs
-unfolding SmallHeads
-told-small t d i [] told = tt
-told-small t d i (isQ q ∷ hs) told =
-    let f = told .0 .stands .few in
-    let b : loadedAt d i .bits ≡ countBits (fieldIn t (loadedAt d i) .items) = told .0 .stands .bits in
-    let e : fieldIn t (loadedAt d i) .items ≡ q .items = ap (λ f. f .items) (told .0 .field) in
-    let c : countBits (fieldIn t (loadedAt d i) .items) ≡ countBits (q .items) = ap countBits e in
-    (omega arith, told-small t d (i + 1) hs (told .1))
-told-small t d i (isG line g ∷ hs) told = (tt, told-small t d (i + 1) hs (told .1))
 
 small-drop : (i : ℕ) (hs : List Head) → SmallHeads hs → SmallHeads (drop i hs)
 unfolding SmallHeads
@@ -148,12 +131,16 @@ small-entries (isQ q ∷ hs) h = go (eqb (q .says .level) 0) (small-entries hs (
     go false ih = ih
 small-entries (isG line g ∷ hs) h = (small-members hs (h .1), small-entries hs (h .1))
 
+-- the entries of an accepted text
+pub accepted-small : (t : List ℕ) → verdict t ≡ Accepted → SmallEntries (entriesOf (headsOf t))
+accepted-small t e = small-entries (headsOf t) (heads-small 1 (records form (lines t)) (accepted-within t e .1 .under))
+
 module _ (t d : List ℕ) (n : ℕ) (loaded : IsLoaded t d n) where
   pub members-small : (i : ℕ) → SmallAll (membersOf (drop i (headsOf t)))
-  members-small i = small-members (drop i (headsOf t)) (small-drop i (headsOf t) (told-small t d 0 (headsOf t) (loaded .told)))
+  members-small i = small-members (drop i (headsOf t)) (small-drop i (headsOf t) (loaded .small))
 
   pub entries-small : SmallEntries (entriesOf (headsOf t))
-  entries-small = small-entries (headsOf t) (told-small t d 0 (headsOf t) (loaded .told))
+  entries-small = small-entries (headsOf t) (loaded .small)
 
   -- what row j tells
   module _ (j : ℕ) (l : Loaded) (is-l : l ≡ loadedAt d j) (h : j < n) where

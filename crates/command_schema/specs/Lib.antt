@@ -1,3 +1,4 @@
 pub mod Field
 pub mod Heads
+pub mod Gathered
 pub mod Loaded

@@ -116,7 +116,7 @@ pub fn read_type(s: &[u8]) -> Typed
     }
 }
 
-fn is_type(s: &[u8]) -> bool
+pub fn is_type(s: &[u8]) -> bool
     ensures { λ r. ⌜ r ≡ known (typeOf (now (s .entry))) ⌝ }
 {
     match read_type(s) {

@@ -14,6 +14,10 @@ use Rattle.refusal.specs.declared.Refusal.the-variants.{NoCandidate}
 use Rattle.header.specs.declared.Decoded.the-variants.{Header, Refused}
 use Rattle.header.specs.Decode.{decoded, toldOf, tableAfter}
 use Rattle.header.specs.Examples.{text, table, a5c3, a5c3-rows, a53c}
+use Rattle.command_class.specs.Definition.{definition}
+use Rattle.command.specs.declared.Params.the-variants.{Rows}
+use Rattle.command.specs.Answer.{answerOf, tableAfter as rowsAfter}
+use Rattle.command.specs.Examples.{text as command-text, payload, lent, starred as params-are, starred-rows as params-rows-are}
 
 pub record Starred : Type 0 where
   -- "5B 02 00 5D: no body. The same with 00 after it: one empty body."
@@ -40,6 +44,12 @@ pub record Starred : Type 0 where
       ∷ 3 ∷ 2 ∷ 8 ∷ 4 ∷ 1 ∷ 12 ∷ 0
       ∷ 9 ∷ 9 ∷ []
   pub no-header : decoded text (0xA5 ∷ 0x3C ∷ []) 0 0 30 ≡ Refused NoCandidate
+  -- "Q BYTE, Q VARIANT with R 0, 7, shift 0, not ascii; payload 20 01 02 AA BB CC: value 2 at 2..3, field at 3..5, remainder CC."
+  pub params : answerOf command-text payload 20 ≡ Rows 2 (record { 0 = 5 })
+  pub params-rows : rowsAfter (definition command-text) payload lent (answerOf command-text payload 20)
+      ≡ 0 ∷ 1 ∷ 0 ∷ 2 ∷ 3 ∷ 1 ∷ 2 ∷ 0 ∷ 0
+      ∷ 0 ∷ 2 ∷ 0 ∷ 3 ∷ 5 ∷ 1 ∷ 0xAABB ∷ 0 ∷ 0
+      ∷ 9 ∷ 9 ∷ []
 
 -- as a checksum 0F is wrong, and as a CRC 1D 0F has no body
 neither : (b : Bool) → cond b (eqb (checksum (0x1D ∷ [])) 0x0F) false ≡ false
@@ -67,4 +77,6 @@ starred =
       header = a5c3;
       header-rows = a5c3-rows;
       no-header = a53c;
+      params = params-are;
+      params-rows = params-rows-are;
     }

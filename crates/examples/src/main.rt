@@ -1,5 +1,7 @@
 // Document 01, "Examples": the starred ones are proved (specs/Examples.antt); all of them are run here, and what is written is held to the
 // file `stdout`.
+use command::Params;
+use command::decode_params;
 use crc::check_crc;
 use frame::Parsed;
 use header::Decoded;
@@ -64,6 +66,24 @@ fn print_header(name: &[u8], mpdu: &[u8]) {
     }
 }
 
+// The parameters of a command, by document 01's text: how many rows, where each starts and ends, their values, and where the remainder starts.
+fn print_params(name: &[u8], payload: &[u8]) {
+    let mut rows = [0; 18];
+    let text = b"Q\t0\tBYTE\tLength\t-\t-\nQ\t0\tVARIANT\tData\t-\t-\nR\t0\t7\t0\t0\n";
+    match decode_params(text, payload, &mut rows) {
+        Params::Rows { count, remainder } => {
+            print(name, count as u64);
+            print(b"  Length starts:", rows[3]);
+            print(b"  Length ends:", rows[4]);
+            print(b"  Length:", rows[6]);
+            print(b"  Data starts:", rows[12]);
+            print(b"  Data ends:", rows[13]);
+            print(b"  remainder starts:", remainder.0 as u64);
+        }
+        Params::Refused(refusal) => print_refusal(name, refusal),
+    }
+}
+
 // A body with eight middle bytes, the last of which is l.
 fn body_of(l: u8) -> [u8; 26] {
     let mut body = [0; 26];
@@ -94,6 +114,7 @@ fn main() {
     print_right(b"1D 0F right at speed 2:", b"\x1D\x0F", 2);
     print_header(b"rows of A5 C3:", b"\xA5\xC3");
     print_header(b"rows of A5 3C:", b"\xA5\x3C");
+    print_params(b"rows of 20 01 02 AA BB CC:", b"\x20\x01\x02\xAA\xBB\xCC");
     print_mpdu(b"mpdu for m = 8, l = 0:", &body_of(0));
     print_mpdu(b"mpdu for m = 8, l = 8:", &body_of(8));
     print_mpdu(b"mpdu for m = 8, l = 9:", &body_of(9));

@@ -91,7 +91,7 @@ pub record Over (t : List ℕ) (p q : Place) : Type 0 where
   pub rest-is : from t p ≡ said ∷ from t q
   pub next : Readable rules t q
 
-some-letter : (r : Record) → letter r ≡ 0 → ⊥
+pub some-letter : (r : Record) → letter r ≡ 0 → ⊥
 some-letter (frequency code key) e = omega arith
 some-letter (base key) e = omega arith
 some-letter (header h) e = omega arith

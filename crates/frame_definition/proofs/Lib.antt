@@ -1,5 +1,6 @@
 pub mod Views
 pub mod Finding
+pub mod Passing
 pub mod Candidates
 pub mod Symbols
 pub mod Printing

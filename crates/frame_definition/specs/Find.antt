@@ -63,6 +63,10 @@ keyed kind limit key fs = eqb (kindOf fs) kind && eqb (value limit (field 1 fs))
 abbrev pub oneMore : ℕ → ℕ → ℕ → ℕ
 oneMore kind is n = cond (eqb kind is) (n + 1) n
 
+-- the least bytes of a line of this kind, its end not counted: a P line has nine fields, none of them empty
+abbrev pub least : ℕ → ℕ
+least kind = cond (eqb kind 0x50) 17 0
+
 -- the first B with this key: its P lines begin at the place, after n P lines
 abbrev pub FindsBase : List ℕ → ℕ → Found → Type 0
 FindsBase t key (found.At place n) = (firstBase key (definition t .bases) ≡ some (record { key = key; params = params n (below (from t place)) })) × Readable rules t place × (n ≤ length t)

@@ -1,5 +1,7 @@
 // The definition that an accepted frame text stands for. Counterpart of frame_definition/schema.rs.
 // Looking things up in an accepted frame text. Every loop reads on from a place where a line begins.
+mod sets;
+
 use frame_text::ParamType;
 use frame_text::Typed;
 use text::Line;
@@ -12,14 +14,16 @@ ghost use mathlib.Core.Option.{some};
 ghost use Prim.Native.Nat.{_≤_, _<_};
 ghost use lib.Dec.{eqb};
 ghost use lib.ListN.{length};
-ghost use Rattle.text.specs.Text.{field, same, value as valueOf};
-ghost use Rattle.text.specs.Place.{kindOf, cells, IsOptionalPart};
+ghost use Rattle.text.specs.Text.{field, value as valueOf};
+ghost use Rattle.text.specs.Place.{kindOf, cells, IsOptionalPart, Passes};
 ghost use Rattle.text.specs.Records.{Readable};
 ghost use Rattle.text.specs.declared.Verdict.the-variants.{Accepted};
 ghost use Rattle.frame_text.specs.Form.{given, value, flag, param, typeOf, form};
 ghost use Rattle.frame_text.specs.Rules.{rules, verdict};
-ghost use Rattle.frame_definition.specs.Definition.{below, validations, entries, definition, baseKey, isKey, some?, firstEntry};
-ghost use Rattle.frame_definition.specs.Find.{Good, oneMore, FindsBase, ownerKind, NextOf, HasNumbers, HasPaths, meant, FindsParam, FindsValidation, from, HasFlags, candidate, IsRead, Counted, FindsCandidate, FindsSet};
+ghost use Rattle.frame_definition.specs.Definition.{below, validations, definition, baseKey, isKey, some?};
+ghost use Rattle.frame_definition.specs.Find.{Good, oneMore, least, FindsBase, ownerKind, NextOf, HasNumbers, HasPaths, meant, FindsParam, FindsValidation, from, HasFlags, candidate, IsRead, Counted, FindsCandidate};
+pub use sets::find_entry;
+pub use sets::find_set;
 
 // Where the P lines of a B begin, and how many P lines come before.
 pub enum Found {
@@ -95,6 +99,22 @@ fn one_more(kind: u8, is: u8, n: usize) -> usize
     if kind == is { n + 1 } else { n }
 }
 
+// The least bytes of a line of this kind, its end not counted: a P line has nine fields, none of them empty.
+fn least(kind: u8) -> usize
+    ensures { λ r. ⌜ r ≡ least kind ⌝ }
+{
+    if kind == b'P' { 17 } else { 0 }
+}
+
+// The place after a line of which only its kind is looked at.
+fn pass_line(text: &[u8], place: Place) -> Place
+    requires { ⌜ (Readable rules (now text) place) × (place .at < length (now text)) ⌝ }
+    ensures { λ r. ⌜ Passes (now (text .entry)) place r ⌝ }
+{
+    let at = place.at;
+    place.pass_over(text, least(text[at]))
+}
+
 // The base key for a region and speed.
 pub fn base_key(text: &[u8], region: u64, speed: u64) -> u16
     requires { ⌜ verdict (now text) ≡ Accepted ⌝ }
@@ -107,7 +127,7 @@ pub fn base_key(text: &[u8], region: u64, speed: u64) -> u16
     while place.at < text.len() {
         let at = place.at;
         if text[at] != b'F' {
-            place = place.pass(text);
+            place = pass_line(text, place);
             continue;
         }
         let line = place.step(text);
@@ -131,7 +151,7 @@ pub fn find_base(text: &[u8], key: u64) -> Found
         let kind = text[at];
         if kind != b'B' {
             params = one_more(kind, b'P', params);
-            place = place.pass(text);
+            place = pass_line(text, place);
             continue;
         }
         let line = place.step(text);
@@ -178,7 +198,7 @@ fn next_under(text: &[u8], from: Place, kind: u8) -> Under
         if is_owner(here) {
             return Under::Nothing;
         }
-        place = place.pass(text);
+        place = pass_line(text, place);
     }
     Under::Nothing
 }
@@ -365,7 +385,7 @@ pub fn next_candidate(text: &[u8], start: Place, key: u64, h: usize, n: usize) -
         let kind = text[at];
         if kind != b'H' {
             params = one_more(kind, b'P', params);
-            place = place.pass(text);
+            place = pass_line(text, place);
             continue;
         }
         let line = place.step(text);
@@ -377,54 +397,4 @@ pub fn next_candidate(text: &[u8], start: Place, key: u64, h: usize, n: usize) -
         place = next;
     }
     NextCandidate::Nothing
-}
-
-// Has a line this name?
-fn is_named(text: &[u8], line: Line, name: &[u8]) -> bool
-    requires { ⌜ Good (now text) line ⌝ }
-    ensures { λ r. ⌜ r ≡ same (field 1 (cells (now (text .entry)) line)) (now (name .entry)) ⌝ }
-{
-    text::is_same(line.field(text, 1), name)
-}
-
-// The place after the first D of a name.
-pub fn find_set(text: &[u8], name: &[u8]) -> Under
-    requires { ⌜ verdict (now text) ≡ Accepted ⌝ }
-    ensures { λ r. ⌜ FindsSet (now (text .entry)) (now (name .entry)) r ⌝ }
-{
-    let mut place = Place::start();
-    while place.at < text.len() {
-        let at = place.at;
-        if text[at] != b'D' {
-            place = place.pass(text);
-            continue;
-        }
-        let line = place.step(text);
-        let next = line.next;
-        if is_named(text, line, name) {
-            return Under::At(next);
-        }
-        place = next;
-    }
-    Under::Nothing
-}
-
-// The number, from 1, of the first E with a key under the D that owns what follows the place; 0 where there is none.
-pub fn find_entry(text: &[u8], start: Place, key: u64) -> usize
-    requires { ⌜ Readable rules (now text) start ⌝ }
-    ensures { λ r. ⌜ r ≡ firstEntry key 0 (entries (below (from (now (text .entry)) start))) ⌝ }
-{
-    let mut place = start;
-    let mut n: usize = 0;
-    loop {
-        let Under::At(at) = next_under(text, place, b'E') else {
-            return 0;
-        };
-        let line = at.step(text);
-        if line.value(text, 1, 65535) as u64 == key {
-            return n + 1;
-        }
-        n += 1;
-        place = line.next;
-    }
 }

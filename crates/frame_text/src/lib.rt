@@ -84,7 +84,7 @@ pub fn read_type(s: &[u8]) -> Typed
     }
 }
 
-fn is_type(s: &[u8]) -> bool
+pub fn is_type(s: &[u8]) -> bool
     ensures { λ r. ⌜ r ≡ known (typeOf (now (s .entry))) ⌝ }
 {
     match read_type(s) {
@@ -94,7 +94,7 @@ fn is_type(s: &[u8]) -> bool
 }
 
 // Is s four digits 0 or 1?
-fn is_flags(s: &[u8]) -> bool
+pub fn is_flags(s: &[u8]) -> bool
     ensures { λ r. ⌜ r ≡ flags (now (s .entry)) ⌝ }
 {
     if s.len() != 4 {

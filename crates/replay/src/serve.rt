@@ -19,6 +19,7 @@ use answer::put_byte;
 use request::Word;
 use request::find;
 use request::word_of;
+use walk_requests::command;
 use walk_requests::header;
 ghost use Rattle.answer.specs.Answer.{Room, Answers};
 ghost use Rattle.answer.specs.Table.{Ample};
@@ -56,6 +57,7 @@ fn answer(line: &[u8], bytes: &mut [u8], rows: &mut [u64], out: &mut [u8], used:
         Word::Frametext => frametext(words, bytes, out, used),
         Word::Commandtext => commandtext(words, bytes, out, used),
         Word::Header => header(words, bytes, rows, out, used),
+        Word::Command => command(words, bytes, rows, out, used),
         Word::Bits => bits(words, bytes, out, used),
         Word::Checksum => checksum(words, bytes, out, used),
         Word::Unknown => Answer::Bad,

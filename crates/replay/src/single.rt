@@ -5,24 +5,21 @@ use answer::put;
 use answer::put_hex;
 use answer::put_named;
 use answer::put_refusal;
-use frame::Beams;
-use frame::Direction;
 use frame::Parsed;
 use frame::PtiFrame;
 use pti::count_records;
 use pti::parse_record;
+use pti::payload::row_of;
 use pti::record_body;
 use pti::speed_for;
-use radio::rssi::byte_of;
 use records::Counted;
+use records::PayloadOffset;
 use request::Bytes;
 use request::Leading;
 use request::Number;
 use request::read_bytes;
 use request::read_leading;
 use request::read_number;
-ghost use mathlib.Core.Path.{_≡_};
-ghost use Rattle.pti.specs.Payload.{directionNumber, beamsNumber, rowOf};
 ghost use Rattle.answer.specs.Answer.{Room, Answers};
 
 // `rate CHANNEL REGION`
@@ -83,47 +80,11 @@ pub fn record(words: &[u8], bytes: &mut [u8], out: &mut [u8], used: usize) -> An
     }
 }
 
+// Its start is that in the body.
 fn put_frame(frame: PtiFrame, out: &mut [u8], used: usize) -> usize
     requires { ⌜ Room (now out) used ⌝ }
     ensures { λ r. ⌜ Room (now (out .exit)) r ⌝ }
 {
     let n = put(b"frame", out, used);
-    put_row(&row_of(frame), out, n)
-}
-
-fn direction_number(direction: Direction) -> u64
-    ensures { λ r. ⌜ r ≡ directionNumber direction ⌝ }
-{
-    match direction {
-        Direction::Rx => 0,
-        Direction::Tx => 1,
-    }
-}
-
-fn beams_number(beams: Beams) -> u64
-    ensures { λ r. ⌜ r ≡ beamsNumber beams ⌝ }
-{
-    match beams {
-        Beams::Count(n) => n as u64,
-        Beams::NoBeam => 0,
-    }
-}
-
-// The flat row of a frame, its start in the body.
-fn row_of(frame: PtiFrame) -> [u64; 8]
-    ensures { λ r. ⌜ r ≡ rowOf 0 frame ⌝ }
-{
-    let direction = frame.direction;
-    let beams = frame.beams;
-    let start = frame.start;
-    [
-        direction_number(direction),
-        frame.region as u64,
-        frame.channel as u64,
-        frame.rate as u64,
-        byte_of(frame.rssi),
-        beams_number(beams),
-        start.0 as u64,
-        frame.length as u64,
-    ]
+    put_row(&row_of(frame, PayloadOffset(0)), out, n)
 }

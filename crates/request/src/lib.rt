@@ -16,6 +16,7 @@ pub enum Word {
     Frametext,
     Commandtext,
     Header,
+    Command,
     Bits,
     Checksum,
     Unknown,
@@ -86,6 +87,9 @@ pub fn word_of(word: &[u8]) -> Word {
     }
     if same(word, b"header") {
         return Word::Header;
+    }
+    if same(word, b"command") {
+        return Word::Command;
     }
     if same(word, b"bits") {
         return Word::Bits;

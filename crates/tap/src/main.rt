@@ -1,23 +1,19 @@
-// tap: the Z-Wave frames of a capture, for people. The last line of the output is `ok`, `refused N V` (a refusal of document
-// 01: its number and what it carries) or `failed`. A program has no exit status here; bin/tap makes one of that line.
-mod capture;
-mod fail;
-mod frames;
-mod help;
-mod line;
-mod row;
-mod sheet;
-mod text;
-
+// tap: the Z-Wave frames of a capture, and the definitions that name them, for people. The last line of the output is `ok`,
+// `refused N V` (a refusal of document 01: its number and what it carries) or `failed`. A program has no exit status here;
+// bin/tap makes one of that line.
 use check::same;
-use fail::fail;
-use fail::fail_word;
-use frames::show_frames;
-use help::put_help;
+use check_file::check_definition;
+use frames_file::show_frames;
+use help_page::help;
+use outcome::fail;
+use outcome::fail_word;
+use show_file::show_frame;
 
 // What the first argument asks for.
 enum Word {
     Frames,
+    Show,
+    Check,
     Help,
     // No word of these: that is said already.
     Failed,
@@ -33,6 +29,12 @@ fn read_word() -> Word {
     if same(&word[..n], b"frames") {
         return Word::Frames;
     }
+    if same(&word[..n], b"show") {
+        return Word::Show;
+    }
+    if same(&word[..n], b"check") {
+        return Word::Check;
+    }
     if same(&word[..n], b"help") {
         return Word::Help;
     }
@@ -43,7 +45,9 @@ fn read_word() -> Word {
 fn main() {
     match read_word() {
         Word::Frames => show_frames(),
-        Word::Help => put_help(),
+        Word::Show => show_frame(),
+        Word::Check => check_definition(),
+        Word::Help => help(),
         Word::Failed => {}
     }
 }

@@ -14,7 +14,7 @@ use mir.Syntax.{w64}
 use mir.Val.{Fits}
 use borrow.Author.Tests.{le-leb, lt-leb, eq-eqb, ne-eqb, eqb-true, leb-true}
 use Rattle.text.specs.Text.{onto, split, field, within, without, same, worth, decimal, upTo, value, number, missing, optionalUpTo, optionalValue, optional, name, plain, names, path, optionalName, optionalPath}
-use Rattle.text.specs.Scan.{cut, halt, digits}
+use Rattle.text.specs.Scan.{cut, low, halt, digits}
 use Rattle.text.specs.Place.{First, unended, ended, after, longer, first, short, kindOf, In, cell, cellsFrom, cells, Marked, Cuts, Has, Steps, IsPart, IsOptionalPart}
 use Rattle.text.specs.declared.Place.{Place}
 use Rattle.text.specs.declared.Line.{Line}
@@ -63,6 +63,16 @@ module _ (b : ℕ) (s : List ℕ) (i : ℕ) (inv : cut b s ≡ i + cut b (drop i
   pub cut-done : i ≤ length s → length s ≤ i → i ≡ cut b s
   cut-done l h = rw (inv, done s i h) (omega arith)
 
+module _ (s : List ℕ) (i : ℕ) (inv : low s ≡ i + low (drop i s)) where
+  pub low-hit : i < length s → getD s i 0 ≤ 10 → i ≡ low s
+  low-hit h e = rw (inv, next s i h, le-leb _ _ e) (omega arith)
+
+  pub low-more : i < length s → 10 < getD s i 0 → low s ≡ i + 1 + low (drop (i + 1) s)
+  low-more h e = rw (inv, next s i h, lt-leb _ _ e) (omega arith)
+
+  pub low-done : i ≤ length s → length s ≤ i → i ≡ low s
+  low-done l h = rw (inv, done s i h) (omega arith)
+
 module _ (s : List ℕ) (i : ℕ) (inv : halt s ≡ i + halt (drop i s)) where
   pub halt-tab : i < length s → getD s i 0 ≡ 9 → i ≡ halt s
   halt-tab h e = rw (inv, next s i h, eq-eqb _ _ e) (omega arith)
@@ -76,7 +86,7 @@ module _ (s : List ℕ) (i : ℕ) (inv : halt s ≡ i + halt (drop i s)) where
   pub halt-done : i ≤ length s → length s ≤ i → i ≡ halt s
   halt-done l h = rw (inv, done s i h) (omega arith)
 
-pub ruleset cut-laws = (cut-hit, cut-more, cut-done, halt-tab, halt-line, halt-more, halt-done)
+pub ruleset cut-laws = (cut-hit, cut-more, cut-done, low-hit, low-more, low-done, halt-tab, halt-line, halt-more, halt-done)
 
 -- ---- every byte within bounds
 module _ (lo hi : ℕ) (s : List ℕ) (i : ℕ) (inv : within lo hi s ≡ within lo hi (drop i s)) where

@@ -12,6 +12,11 @@ abbrev pub cut : ℕ → List ℕ → ℕ
 cut b [] = 0
 cut b (x ∷ xs) = cond (eqb x b) 0 (suc (cut b xs))
 
+-- where the first tab, line end or lower byte stands in l, or l's length where there is none
+abbrev pub low : List ℕ → ℕ
+low [] = 0
+low (x ∷ xs) = cond (leb x 0x0a) 0 (suc (low xs))
+
 -- where the first tab or line end stands in l, or l's length where there is none
 abbrev pub halt : List ℕ → ℕ
 halt [] = 0

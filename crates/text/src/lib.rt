@@ -7,8 +7,8 @@ ghost use mathlib.Core.List.{List, [], _∷_};
 ghost use Prim.Native.Nat.{_+_, _-_, _≤_, _<_};
 ghost use lib.ListN.{length, take, drop};
 ghost use Rattle.text.specs.Text.{field, same, within, decimal, upTo, value, number, missing, optionalUpTo, optionalValue, optional, name, plain, path, optionalName, optionalPath};
-ghost use Rattle.text.specs.Scan.{cut, halt, digits};
-ghost use Rattle.text.specs.Place.{In, Cuts, Steps, Passes, Has, IsPart, IsOptionalPart, cells, kindOf};
+ghost use Rattle.text.specs.Scan.{cut, low, halt, digits};
+ghost use Rattle.text.specs.Place.{In, Cuts, Steps, Passes, Has, IsPart, IsOptionalPart, cells, kindOf, left};
 
 // What a check says of a text.
 pub enum Verdict {
@@ -30,8 +30,8 @@ pub enum Optional {
     Wrong,
 }
 
-// Where the first b stands in s, or s's length where there is none.
-pub fn find(s: &[u8], b: u8) -> usize
+// Where the first b stands in s, or s's length where there is none, byte by byte.
+fn scan(s: &[u8], b: u8) -> usize
     ensures { λ r. ⌜ (r ≡ cut b (now (s .entry))) × (r ≤ length (now (s .entry))) ⌝ }
 {
     let mut i = 0;
@@ -44,8 +44,38 @@ pub fn find(s: &[u8], b: u8) -> usize
     i
 }
 
-// Where the first tab or line end stands in s, or s's length where there is none.
-fn stop(s: &[u8]) -> usize
+// Where the first b stands in s, or s's length where there is none. In blocks of eight bytes, for which the search is unrolled.
+pub fn find(s: &[u8], b: u8) -> usize
+    ensures { λ r. ⌜ (r ≡ cut b (now (s .entry))) × (r ≤ length (now (s .entry))) ⌝ }
+{
+    let mut i = 0;
+    while 8 <= s.len() - i {
+        let e = i + 8;
+        let k = scan(&s[i..e], b);
+        if k < 8 {
+            return i + k;
+        }
+        i = e;
+    }
+    i + scan(&s[i..], b)
+}
+
+// Where the first tab, line end or lower byte stands in s, or s's length where there is none, byte by byte.
+fn scan_low(s: &[u8]) -> usize
+    ensures { λ r. ⌜ (r ≡ low (now (s .entry))) × (r ≤ length (now (s .entry))) ⌝ }
+{
+    let mut i = 0;
+    while i < s.len() {
+        if s[i] <= 10 {
+            return i;
+        }
+        i += 1;
+    }
+    i
+}
+
+// Where the first tab or line end stands in s, or s's length where there is none, byte by byte.
+fn scan_stop(s: &[u8]) -> usize
     ensures { λ r. ⌜ (r ≡ halt (now (s .entry))) × (r ≤ length (now (s .entry))) ⌝ }
 {
     let mut i = 0;
@@ -60,6 +90,29 @@ fn stop(s: &[u8]) -> usize
         i += 1;
     }
     i
+}
+
+// The same, in blocks of eight bytes.
+fn stop(s: &[u8]) -> usize
+    ensures { λ r. ⌜ (r ≡ halt (now (s .entry))) × (r ≤ length (now (s .entry))) ⌝ }
+{
+    let mut i = 0;
+    while 8 <= s.len() - i {
+        let e = i + 8;
+        i += scan_low(&s[i..e]);
+        if i == e {
+            continue;
+        }
+        let b = s[i];
+        if b == 9 {
+            return i;
+        }
+        if b == 10 {
+            return i;
+        }
+        i += 1;
+    }
+    i + scan_stop(&s[i..])
 }
 
 // Is every byte of s from lo to hi?
@@ -402,7 +455,15 @@ impl Place {
         requires { ⌜ (In (now text) self) × (self .at < length (now text)) ⌝ }
         ensures { λ r. ⌜ Passes (now (text .entry)) self r ⌝ }
     {
-        let at = self.at;
+        self.pass_over(text, 0)
+    }
+
+    // The same, where so many bytes are sure to stand before the line's end.
+    pub fn pass_over(self, text: &[u8], sure: usize) -> Place
+        requires { ⌜ (In (now text) self) × (self .at < length (now text)) × (sure ≤ cut 0x0a (left (now text) self)) ⌝ }
+        ensures { λ r. ⌜ Passes (now (text .entry)) self r ⌝ }
+    {
+        let at = self.at + sure;
         let number = self.line;
         let rest = &text[at..];
         let e = find(rest, 10);

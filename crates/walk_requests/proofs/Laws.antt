@@ -8,9 +8,12 @@ use lib.ListN.{length, take, drop, length-drop}
 use mir.Syntax.{w64}
 use mir.Val.{Fits}
 use Rattle.laws.proofs.Lists.{tail}
+use Rattle.records.specs.declared.PayloadOffset.{PayloadOffset}
 use Rattle.header.specs.declared.DecodedHeader.{DecodedHeader}
 use Rattle.header.specs.declared.Decoded.{Decoded}
 use Rattle.header.specs.declared.Decoded.the-variants.{Header}
+use Rattle.command.specs.declared.Params.{Params}
+use Rattle.command.specs.declared.Params.the-variants.{Rows}
 use Rattle.request.proofs.Laws.{taken, request-laws}
 use Rattle.answer.specs.Table.{Ample}
 use Rattle.answer.proofs.Laws.{answer-laws}
@@ -21,7 +24,8 @@ use Rattle.walk_requests.specs.declared.Radio.the-variants.{Is}
 use Rattle.walk_requests.specs.declared.Asked.{Asked}
 use Rattle.walk_requests.specs.declared.Asked.the-variants as asked
 use Rattle.walk_requests.proofs.HeaderLaws.{header-stands}
-use Rattle.walk_requests.specs.Walks.{Tables, Tunes, Inside, Asks, StandHeader}
+use Rattle.walk_requests.proofs.CommandLaws.{params-stand}
+use Rattle.walk_requests.specs.Walks.{Tables, Tunes, Inside, Asks, StandHeader, StandParams}
 
 -- ---- a request
 -- the first n of a list, of which the first n to e are lent too, are n
@@ -84,11 +88,17 @@ module _ (held : List ℕ) (r : Asked) (numbers region speed n end : ℕ) (told 
 pub header-inside : (t : List ℕ) (r : Decoded) (h : DecodedHeader) → StandHeader t r → r ≡ Header h → h .rows * 7 ≤ length t
 header-inside t r h told is = rw is at told
 
+pub params-inside : (t : List ℕ) (r : Params) (n : ℕ) (e : PayloadOffset) → StandParams t r → r ≡ Rows n e → n * 9 ≤ length t
+params-inside t r n e told is = rw is at told
+
 module _ (t : List ℕ) (room : length t * 8 < 2 ^ 63) where
   pub header-fits : (r : Decoded) (h : DecodedHeader) → StandHeader t r → r ≡ Header h → Fits w64 (h .rows * 7)
   header-fits r h told is = omega (arith, room, header-inside t r h told is)
 
-pub ruleset walk-laws = (taken-before, table-fits, table-few, table-most, table-room, table-words, radio-words, radio-fits, radio-inside, asked-room, asked-ordered, asked-within, header-fits, header-stands, header-inside)
+  pub params-fits : (r : Params) (n : ℕ) (e : PayloadOffset) → StandParams t r → r ≡ Rows n e → Fits w64 (n * 9)
+  params-fits r n e told is = omega (arith, room, params-inside t r n e told is)
+
+pub ruleset walk-laws = (taken-before, table-fits, table-few, table-most, table-room, table-words, radio-words, radio-fits, radio-inside, asked-room, asked-ordered, asked-within, header-fits, params-fits, header-stands, params-stand, header-inside, params-inside)
 
 -- The laws that the proofs of this crate's functions go by.
 pub ruleset laws = (request-laws, answer-laws, walk-laws)

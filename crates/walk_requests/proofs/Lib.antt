@@ -1,2 +1,3 @@
 mod HeaderLaws
+mod CommandLaws
 mod Laws

@@ -4,6 +4,8 @@ use mathlib.Core.List.{List}
 use lib.ListN.{length}
 use Rattle.header.specs.declared.Decoded.{Decoded}
 use Rattle.header.specs.declared.Decoded.the-variants.{Header, Refused as NoHeader}
+use Rattle.command.specs.declared.Params.{Params}
+use Rattle.command.specs.declared.Params.the-variants.{Rows, Refused as NoParams}
 use Rattle.walk_requests.specs.declared.Table.{Table}
 use Rattle.walk_requests.specs.declared.Table.the-variants.{Of, Not as NoTable}
 use Rattle.walk_requests.specs.declared.Radio.{Radio}
@@ -30,7 +32,11 @@ abbrev pub Asks : List ℕ → Asked → Type 0
 Asks held (asked.Header numbers region speed n end) = Inside held numbers n end
 Asks held asked.Not = Unit
 
--- as many rows as are answered stand in the table, seven numbers each
+-- as many rows as are answered stand in the table: of a header seven numbers each, of a command nine
 abbrev pub StandHeader : List ℕ → Decoded → Type 0
 StandHeader table (Header h) = h .rows * 7 ≤ length table
 StandHeader table (NoHeader x) = Unit
+
+abbrev pub StandParams : List ℕ → Params → Type 0
+StandParams table (Rows count remainder) = count * 9 ≤ length table
+StandParams table (NoParams x) = Unit

@@ -1,4 +1,4 @@
-// The request on the header of an MPDU, by a definition text.
+// The requests on the header of an MPDU and on the parameters of a command, both by a definition text.
 use answer::Answer;
 use answer::put_decimal;
 use answer::put_named;
@@ -8,6 +8,8 @@ use answer::table::MOST_ROWS;
 use answer::table::fill;
 use answer::table::put_refused;
 use answer::table::put_touched;
+use command::Params;
+use command::decode_params;
 use frame_definition::Flags;
 use header::Decoded;
 use header::DecodedHeader;
@@ -20,10 +22,13 @@ ghost use Prim.Native.Nat.{_≤_, _*_};
 ghost use lib.ListN.{length};
 ghost use Rattle.answer.specs.Answer.{Room, Answers};
 ghost use Rattle.answer.specs.Table.{Ample};
-ghost use Rattle.walk_requests.specs.Walks.{Tables, Tunes, Asks, StandHeader};
+ghost use Rattle.walk_requests.specs.Walks.{Tables, Tunes, Asks, StandHeader, StandParams};
 
 // The numbers of a header's row.
 const HEADER_WIDTH: usize = 7;
+
+// The numbers of a command's row.
+const COMMAND_WIDTH: usize = 9;
 
 // How many numbers a table has, and where the other words start.
 enum Table {
@@ -133,6 +138,27 @@ pub fn header(
     ))
 }
 
+// `command CAP TEXT PAYLOAD`
+pub fn command(
+    words: &[u8],
+    bytes: &mut [u8],
+    rows: &mut [u64],
+    out: &mut [u8],
+    used: usize,
+) -> Answer
+    requires { ⌜ Room (now out) used ⌝ }
+    requires { ⌜ Ample (now rows) ⌝ }
+    ensures { λ r. ⌜ Answers (now (out .exit)) r ⌝ }
+{
+    let Table::Of(numbers, at) = read_table(words, COMMAND_WIDTH) else {
+        return Answer::Bad;
+    };
+    let Both::Are(n, end) = read_both(&words[at..], bytes) else {
+        return Answer::Bad;
+    };
+    Answer::Put(answer_command(bytes, n, end, &mut rows[..numbers], out, used))
+}
+
 // The first n bytes are the text, those behind them up to the end the MPDU.
 fn answer_header(
     bytes: &[u8],
@@ -152,6 +178,23 @@ fn answer_header(
     walk_header(&bytes[..n], &bytes[n..end], region, speed, rows, out, used)
 }
 
+// The first n bytes are the text, those behind them up to the end the payload.
+fn answer_command(
+    bytes: &[u8],
+    n: usize,
+    end: usize,
+    rows: &mut [u64],
+    out: &mut [u8],
+    used: usize,
+) -> usize
+    requires { ⌜ (n ≤ end) × (end ≤ length (now bytes)) ⌝ }
+    requires { ⌜ Room (now out) used ⌝ }
+    ensures { λ r. ⌜ Room (now (out .exit)) r ⌝ }
+{
+    fill(rows);
+    walk_command(&bytes[..n], &bytes[n..end], rows, out, used)
+}
+
 fn walk_header(
     text: &[u8],
     mpdu: &[u8],
@@ -168,6 +211,14 @@ fn walk_header(
     put_decoded(decoded, rows, out, used)
 }
 
+fn walk_command(text: &[u8], payload: &[u8], rows: &mut [u64], out: &mut [u8], used: usize) -> usize
+    requires { ⌜ Room (now out) used ⌝ }
+    ensures { λ r. ⌜ Room (now (out .exit)) r ⌝ }
+{
+    let params = decode_params(text, payload, rows);
+    put_params(params, rows, out, used)
+}
+
 // The answer of `decode_header` and the table that it was lent.
 fn put_decoded(decoded: Decoded, table: &[u64], out: &mut [u8], used: usize) -> usize
     requires { ⌜ Room (now out) used ⌝ }
@@ -177,6 +228,22 @@ fn put_decoded(decoded: Decoded, table: &[u64], out: &mut [u8], used: usize) -> 
     match decoded {
         Decoded::Header(header) => put_header(header, table, out, used),
         Decoded::Refused(refusal) => put_refused(refusal, table, out, used),
+    }
+}
+
+// The answer of `decode_params` and the table that it was lent.
+fn put_params(params: Params, table: &[u64], out: &mut [u8], used: usize) -> usize
+    requires { ⌜ Room (now out) used ⌝ }
+    requires { ⌜ StandParams (now table) params ⌝ }
+    ensures { λ r. ⌜ Room (now (out .exit)) r ⌝ }
+{
+    match params {
+        Params::Rows { count, remainder } => {
+            let mut n = put_named(b"command", count as u64, out, used);
+            n = put_number(remainder.0 as u64, out, n);
+            put_table(table, count * COMMAND_WIDTH, out, n)
+        }
+        Params::Refused(refusal) => put_refused(refusal, table, out, used),
     }
 }
 

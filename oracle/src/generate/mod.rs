@@ -40,7 +40,8 @@ pub const KINDS: &[Kind] = &[
 ];
 
 /// What `today` stands for: what the replay program answers so far.
-pub const TODAY: &str = "rate,count,body,record,frames,frametable,frametext,commandtext,bad";
+pub const TODAY: &str =
+    "rate,count,body,record,frames,frametable,frametext,commandtext,header,command,bits,checksum,bad";
 
 /// Draws requests of some kinds under a seed.
 #[derive(Clone)]

@@ -2,7 +2,7 @@
 use Prim.Native.Nat.{_-_}
 use lib.ListN.{length}
 use borrow.Author.Needs.{needs}
-use Rattle.command_class.proofs.Rows.{Naming, const-laws}
+use Rattle.command_class.proofs.Naming.{Naming, const-laws}
 use Rattle.command_class.proofs.find_const.Statement.{statement}
 use Rattle.command_class.proofs.find_const.Tie as tie
 
@@ -15,17 +15,8 @@ abbrev μ-loop : tie.MeasureT-loop
 loop-holds : tie.Need-loop-holds Inv-loop μ-loop
 loop-holds c = search (needs, const-laws)
 
-next-under-requires : tie.Need-next-under-requires Inv-loop μ-loop
-next-under-requires c κs = search (needs, const-laws)
-
-enum-known-at : tie.Need-enum-known-at Inv-loop μ-loop
-enum-known-at c = search (needs, const-laws)
-
-enum-told : tie.Need-enum-told Inv-loop μ-loop
-enum-told c = search (needs, const-laws)
-
-returns : tie.Need-returns Inv-loop μ-loop
-returns c = search (needs, const-laws)
+kind-at-requires : tie.Need-kind-at-requires Inv-loop μ-loop
+kind-at-requires c κs = search (needs, const-laws)
 
 step-requires : tie.Need-step-requires Inv-loop μ-loop
 step-requires c κs = search (needs, const-laws)
@@ -33,14 +24,32 @@ step-requires c κs = search (needs, const-laws)
 value-requires : tie.Need-value-requires Inv-loop μ-loop
 value-requires c κs = search (needs, const-laws)
 
-returns-2 : tie.Need-returns-2 Inv-loop μ-loop
-returns-2 c = search (needs, const-laws)
+returns : tie.Need-returns Inv-loop μ-loop
+returns c = search (needs, const-laws)
 
 loop-less : tie.Need-loop-less Inv-loop μ-loop
 loop-less c = search (needs, const-laws)
 
 loop-again : tie.Need-loop-again Inv-loop μ-loop
 loop-again c = search (needs, const-laws)
+
+is-among-requires : tie.Need-is-among-requires Inv-loop μ-loop
+is-among-requires c κs = search (needs, const-laws)
+
+returns-2 : tie.Need-returns-2 Inv-loop μ-loop
+returns-2 c = search (needs, const-laws)
+
+pass-at-requires : tie.Need-pass-at-requires Inv-loop μ-loop
+pass-at-requires c κs = search (needs, const-laws)
+
+loop-less-2 : tie.Need-loop-less-2 Inv-loop μ-loop
+loop-less-2 c = search (needs, const-laws)
+
+loop-again-2 : tie.Need-loop-again-2 Inv-loop μ-loop
+loop-again-2 c = search (needs, const-laws)
+
+returns-3 : tie.Need-returns-3 Inv-loop μ-loop
+returns-3 c = search (needs, const-laws)
 
 pub find-const-spec : {M : Type 1} → statement M
 find-const-spec =
@@ -49,12 +58,15 @@ find-const-spec =
     Inv-loop
     μ-loop
     loop-holds
-    next-under-requires
-    enum-known-at
-    enum-told
-    returns
+    kind-at-requires
     step-requires
     value-requires
-    returns-2
+    returns
     loop-less
-    loop-again)
+    loop-again
+    is-among-requires
+    returns-2
+    pass-at-requires
+    loop-less-2
+    loop-again-2
+    returns-3)

@@ -19,11 +19,8 @@ part-bytes-end c = search (needs, written-laws)
 in-payload-requires : tie.Need-in-payload-requires
 in-payload-requires c κs = search (needs, written-laws)
 
-param-row-requires : tie.Need-param-row-requires
-param-row-requires c κs = search (needs, written-laws)
-
-write-row-requires : tie.Need-write-row-requires
-write-row-requires c κs = search (needs, written-laws)
+write-own-requires : tie.Need-write-own-requires
+write-own-requires c κs = search (needs, written-laws)
 
 add-write-children : tie.Need-add-write-children
 add-write-children c = search (needs, written-laws)
@@ -55,8 +52,7 @@ write-param-spec =
     part-bytes-start
     part-bytes-end
     in-payload-requires
-    param-row-requires
-    write-row-requires
+    write-own-requires
     add-write-children
     write-children-requires
     read-uint-requires

@@ -1,6 +1,5 @@
 -- `command_schema::load` meets its contract, by the laws of the crate. Assumes nothing.
 use borrow.Author.Needs.{needs}
-use mathlib.Core.Path.{_≡_}
 use Prim.Native.Nat.{_-_}
 use lib.ListN.{length}
 use Rattle.command_schema.proofs.Loading.{Loading, load-laws}

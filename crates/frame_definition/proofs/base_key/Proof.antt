@@ -24,8 +24,8 @@ loop-holds c = search (needs, key-laws)
 shared-slice-read-if3 : tie.Need-shared-slice-read-if3 Inv-loop μ-loop
 shared-slice-read-if3 c = search (needs, key-laws)
 
-pass-requires : tie.Need-pass-requires Inv-loop μ-loop
-pass-requires c κs = search (needs, key-laws)
+pass-line-requires : tie.Need-pass-line-requires Inv-loop μ-loop
+pass-line-requires c κs = search (needs, key-laws)
 
 loop-less : tie.Need-loop-less Inv-loop μ-loop
 loop-less c = search (needs, key-laws)
@@ -64,7 +64,7 @@ base-key-spec =
     start-requires
     loop-holds
     shared-slice-read-if3
-    pass-requires
+    pass-line-requires
     loop-less
     loop-again
     step-requires

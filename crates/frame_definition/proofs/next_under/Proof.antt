@@ -30,8 +30,8 @@ is-owner-requires c κs = search (needs, under-laws)
 returns-2 : tie.Need-returns-2 Inv-loop μ-loop
 returns-2 c = search (needs, under-laws)
 
-pass-requires : tie.Need-pass-requires Inv-loop μ-loop
-pass-requires c κs = search (needs, under-laws)
+pass-line-requires : tie.Need-pass-line-requires Inv-loop μ-loop
+pass-line-requires c κs = search (needs, under-laws)
 
 loop-less : tie.Need-loop-less Inv-loop μ-loop
 loop-less c = search (needs, under-laws)
@@ -53,7 +53,7 @@ next-under-spec =
     returns
     is-owner-requires
     returns-2
-    pass-requires
+    pass-line-requires
     loop-less
     loop-again
     returns-3)

@@ -85,6 +85,9 @@ header-requires c κs = search (needs, laws)
 enum-told-10 : tie.Need-enum-told-10
 enum-told-10 c = search (needs, laws)
 
+command-requires : tie.Need-command-requires
+command-requires c κs = search (needs, laws)
+
 enum-told-11 : tie.Need-enum-told-11
 enum-told-11 c = search (needs, laws)
 
@@ -96,6 +99,9 @@ enum-told-12 c = search (needs, laws)
 
 checksum-requires : tie.Need-checksum-requires
 checksum-requires c κs = search (needs, laws)
+
+enum-told-13 : tie.Need-enum-told-13
+enum-told-13 c = search (needs, laws)
 
 same-length : tie.Need-same-length
 same-length c = search (needs, laws)
@@ -199,11 +205,23 @@ returns-11 c = search (needs, laws)
 same-length-24 : tie.Need-same-length-24
 same-length-24 c = search (needs, laws)
 
+same-length-25 : tie.Need-same-length-25
+same-length-25 c = search (needs, laws)
+
 returns-12 : tie.Need-returns-12
 returns-12 c = search (needs, laws)
 
+same-length-26 : tie.Need-same-length-26
+same-length-26 c = search (needs, laws)
+
+same-length-27 : tie.Need-same-length-27
+same-length-27 c = search (needs, laws)
+
 returns-13 : tie.Need-returns-13
 returns-13 c = search (needs, laws)
+
+returns-14 : tie.Need-returns-14
+returns-14 c = search (needs, laws)
 
 pub answer-spec : {M : Type 1} → statement M
 answer-spec =
@@ -236,10 +254,12 @@ answer-spec =
     enum-told-9
     header-requires
     enum-told-10
-    bits-requires
+    command-requires
     enum-told-11
-    checksum-requires
+    bits-requires
     enum-told-12
+    checksum-requires
+    enum-told-13
     same-length
     returns-2
     same-length-2
@@ -271,8 +291,12 @@ answer-spec =
     returns-10
     same-length-21
     same-length-22
-    returns-11
     same-length-23
+    returns-11
     same-length-24
+    same-length-25
     returns-12
-    returns-13)
+    same-length-26
+    same-length-27
+    returns-13
+    returns-14)

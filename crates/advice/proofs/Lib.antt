@@ -1,0 +1,4 @@
+pub mod Laws
+mod Tables
+pub mod Frame
+pub mod Command

@@ -1,0 +1,4 @@
+pub mod Entries
+pub mod Answers
+mod Members
+mod Groups

@@ -1,0 +1,3 @@
+pub mod Bounds
+mod Budget
+pub mod Sums

@@ -1,0 +1,182 @@
+// The fields of a header as a tree: letter, name, bits, value and symbol of each.
+use cells::header_cell;
+use cells::header_depth;
+use cells::part;
+use frame_text::ParamType;
+use frame_text::Typed;
+use frame_text::read_type;
+use names::find_line;
+use names::symbol;
+use page::put;
+use page::put_byte;
+use page::put_digits;
+use page::put_hex;
+use page::put_left;
+use page::put_marked;
+use page::put_number;
+use page::put_number_left;
+use page::put_spaces;
+use piece::field_of;
+use ruler::letter;
+use std::num::wrapping_add_u64;
+use std::num::wrapping_sub_u64;
+ghost use Prim.Native.Nat.{_≤_};
+ghost use Rattle.page.specs.Page.{Gathered};
+
+// How many bytes the column of names has.
+const NAMES: usize = 32;
+
+// A name, further right the deeper its row is.
+pub fn put_deep(out: &mut [u8], at: usize, depth: usize, name: &[u8]) -> usize
+    requires { ⌜ Gathered (now out) at ⌝ }
+    requires { ⌜ depth ≤ 8 ⌝ }
+    ensures { λ r. ⌜ Gathered (now (out .exit)) r ⌝ }
+{
+    let place = put_spaces(out, at, depth * 2);
+    put_left(out, place, name, NAMES - depth * 2)
+}
+
+// From a place to the one before another.
+pub fn put_range(out: &mut [u8], at: usize, start: u64, end: u64) -> usize
+    requires { ⌜ Gathered (now out) at ⌝ }
+    ensures { λ r. ⌜ Gathered (now (out .exit)) r ⌝ }
+{
+    let mut place = put_marked(out, at, b"", start, 5);
+    place = put(out, place, b"-");
+    put_number_left(out, place, wrapping_sub_u64(end, 1), 6)
+}
+
+// Half of what a signed number of so many bits can be, 0 where that isn't told here.
+fn half(bits: u64) -> u64
+    ensures { λ r. ⌜ r ≤ 2147483648 ⌝ }
+{
+    match bits {
+        8 => 128,
+        16 => 32768,
+        32 => 2147483648,
+        _ => 0,
+    }
+}
+
+fn put_signed(out: &mut [u8], at: usize, value: u64, bits: u64) -> usize
+    requires { ⌜ Gathered (now out) at ⌝ }
+    ensures { λ r. ⌜ Gathered (now (out .exit)) r ⌝ }
+{
+    let positive = half(bits);
+    if value < positive {
+        return put_number(out, at, value);
+    }
+    let all = positive * 2;
+    if all <= value {
+        return put_number(out, at, value);
+    }
+    let place = put(out, at, b"-");
+    put_number(out, place, all - value)
+}
+
+fn put_hexadecimal(out: &mut [u8], at: usize, value: u64, bits: u64) -> usize
+    requires { ⌜ Gathered (now out) at ⌝ }
+    ensures { λ r. ⌜ Gathered (now (out .exit)) r ⌝ }
+{
+    let place = put(out, at, b"0x");
+    put_digits(out, place, value, (bits / 4 + (bits % 4 + 3) / 4) as usize)
+}
+
+// A value of a type of the frame text.
+fn put_typed(out: &mut [u8], at: usize, kind: ParamType, value: u64, bits: u64) -> usize
+    requires { ⌜ Gathered (now out) at ⌝ }
+    ensures { λ r. ⌜ Gathered (now (out .exit)) r ⌝ }
+{
+    match kind {
+        ParamType::Hex => put_hexadecimal(out, at, value, bits),
+        ParamType::Bitmask => put_hexadecimal(out, at, value, bits),
+        ParamType::NumberSigned => put_signed(out, at, value, bits),
+        ParamType::Number => put_number(out, at, value),
+        ParamType::NodeNumber => put_number(out, at, value),
+        ParamType::Boolean => put_number(out, at, value),
+    }
+}
+
+// The value of row i; the bytes of a field that has too many bits for one.
+fn put_value(out: &mut [u8], at: usize, kind: &[u8], mpdu: &[u8], rows: &[u64], i: usize) -> usize
+    requires { ⌜ Gathered (now out) at ⌝ }
+    ensures { λ r. ⌜ Gathered (now (out .exit)) r ⌝ }
+{
+    let bits = header_cell(rows, i, 3);
+    if header_cell(rows, i, 4) == 0 {
+        let start = (header_cell(rows, i, 2) / 8) as usize;
+        return put_hex(out, at, part(mpdu, start, (bits / 8) as usize));
+    }
+    let value = header_cell(rows, i, 5);
+    let Typed::Is(known) = read_type(kind) else {
+        return put_number(out, at, value);
+    };
+    put_typed(out, at, known, value, bits)
+}
+
+// The symbol of row i, if it has one, from the define set of its P line.
+fn put_symbol(out: &mut [u8], at: usize, text: &[u8], set: &[u8], entry: u64) -> usize
+    requires { ⌜ Gathered (now out) at ⌝ }
+    ensures { λ r. ⌜ Gathered (now (out .exit)) r ⌝ }
+{
+    if entry == 0 {
+        return put(out, at, b"\n");
+    }
+    let mut place = put(out, at, b"  ");
+    place = put(out, place, symbol(text, set, (entry - 1) as usize));
+    put(out, place, b"\n")
+}
+
+// Letter, name and bits of row i.
+fn put_head(out: &mut [u8], at: usize, name: &[u8], rows: &[u64], i: usize) -> usize
+    requires { ⌜ Gathered (now out) at ⌝ }
+    ensures { λ r. ⌜ Gathered (now (out .exit)) r ⌝ }
+{
+    let start = header_cell(rows, i, 2);
+    let end = wrapping_add_u64(start, header_cell(rows, i, 3));
+    let mut place = put(out, at, b"  ");
+    place = put_byte(out, place, letter(i));
+    place = put_byte(out, place, b' ');
+    place = put_deep(out, place, header_depth(rows, i), name);
+    put_range(out, place, start, end)
+}
+
+// The line of row i, by its P line.
+fn put_field(
+    out: &mut [u8],
+    at: usize,
+    text: &[u8],
+    line: &[u8],
+    mpdu: &[u8],
+    rows: &[u64],
+    i: usize,
+) -> usize
+    requires { ⌜ Gathered (now out) at ⌝ }
+    ensures { λ r. ⌜ Gathered (now (out .exit)) r ⌝ }
+{
+    let mut place = put_head(out, at, field_of(line, 5), rows, i);
+    place = put_value(out, place, field_of(line, 4), mpdu, rows, i);
+    put_symbol(out, place, text, field_of(line, 6), header_cell(rows, i, 6))
+}
+
+// The lines of the n rows of a header.
+pub fn put_fields(
+    out: &mut [u8],
+    at: usize,
+    text: &[u8],
+    mpdu: &[u8],
+    rows: &[u64],
+    n: usize,
+) -> usize
+    requires { ⌜ Gathered (now out) at ⌝ }
+    ensures { λ r. ⌜ Gathered (now (out .exit)) r ⌝ }
+{
+    let mut place = at;
+    let mut i: usize = 0;
+    while i < n {
+        let line = find_line(text, b'P', header_cell(rows, i, 0) as usize);
+        place = put_field(out, place, text, line, mpdu, rows, i);
+        i += 1;
+    }
+    place
+}

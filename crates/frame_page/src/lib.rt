@@ -1,0 +1,142 @@
+// A frame whole: how it was heard, its bytes, and its header as a tree and as a picture.
+use field_tree::put_fields;
+use frame_row::put_rate;
+use frame_row::put_rssi;
+use frame_search::Heard;
+use glance::put_why;
+use header::DecodedHeader;
+use hex_dump::put_dump;
+use names::find_line;
+use page::put;
+use page::put_marked;
+use page::put_number;
+use paint::Hue;
+use paint::put_painted;
+use piece::field_of;
+use refusal::Refusal;
+use ruler::put_ruler;
+ghost use Rattle.page.specs.Page.{Gathered};
+
+// What the frame's number is, and its direction.
+fn put_number_line(out: &mut [u8], at: usize, number: u64, direction: u64) -> usize
+    requires { ⌜ Gathered (now out) at ⌝ }
+    ensures { λ r. ⌜ Gathered (now (out .exit)) r ⌝ }
+{
+    let mut place = put(out, at, b"frame ");
+    place = put_number(out, place, number);
+    if direction == 0 {
+        return put(out, place, b"  Rx");
+    }
+    put(out, place, b"  Tx")
+}
+
+// Where it was heard.
+fn put_channel(out: &mut [u8], at: usize, region: u64, channel: u64) -> usize
+    requires { ⌜ Gathered (now out) at ⌝ }
+    ensures { λ r. ⌜ Gathered (now (out .exit)) r ⌝ }
+{
+    let mut place = put(out, at, b"  PTI region ");
+    place = put_number(out, place, region);
+    place = put(out, place, b", channel ");
+    put_number(out, place, channel)
+}
+
+// How it was heard.
+fn put_signal(out: &mut [u8], at: usize, heard: Heard) -> usize
+    requires { ⌜ Gathered (now out) at ⌝ }
+    ensures { λ r. ⌜ Gathered (now (out .exit)) r ⌝ }
+{
+    let mut place = put_rate(out, at, heard.rate);
+    place = put_rssi(out, place, heard.direction, heard.rssi);
+    put_channel(out, place, heard.region, heard.channel)
+}
+
+// How often a beam was heard. Any other frame has none.
+fn put_beams(out: &mut [u8], at: usize, beams: u64) -> usize
+    requires { ⌜ Gathered (now out) at ⌝ }
+    ensures { λ r. ⌜ Gathered (now (out .exit)) r ⌝ }
+{
+    if beams == 0 {
+        return put(out, at, b"\n\n");
+    }
+    let place = put_marked(out, at, b"  Beam x", beams, 0);
+    put(out, place, b"\n\n")
+}
+
+// The frame without its header.
+pub fn put_heard(out: &mut [u8], at: usize, number: u64, heard: Heard, mpdu: &[u8]) -> usize
+    requires { ⌜ Gathered (now out) at ⌝ }
+    ensures { λ r. ⌜ Gathered (now (out .exit)) r ⌝ }
+{
+    let mut place = put_number_line(out, at, number, heard.direction);
+    place = put_signal(out, place, heard);
+    place = put_beams(out, place, heard.beams);
+    put_dump(out, place, mpdu)
+}
+
+// Is the checksum right?
+fn put_sum(out: &mut [u8], at: usize, right: bool, colour: bool) -> usize
+    requires { ⌜ Gathered (now out) at ⌝ }
+    ensures { λ r. ⌜ Gathered (now (out .exit)) r ⌝ }
+{
+    if right {
+        return put(out, at, b", checksum ok\n");
+    }
+    let place = put_painted(out, at, b", checksum wrong", 0, Hue::Wrong, colour);
+    put(out, place, b"\n")
+}
+
+// The header's name.
+fn put_title(out: &mut [u8], at: usize, name: &[u8], right: bool, colour: bool) -> usize
+    requires { ⌜ Gathered (now out) at ⌝ }
+    ensures { λ r. ⌜ Gathered (now (out .exit)) r ⌝ }
+{
+    let mut place = put(out, at, b"\n");
+    place = put_painted(out, place, name, 0, Hue::Name, colour);
+    put_sum(out, place, right, colour)
+}
+
+// How many bits stand before a byte of an MPDU.
+fn bits_before(offset: u64) -> usize {
+    if 2048 < offset {
+        return 0;
+    }
+    offset as usize * 8
+}
+
+// A header, with its n rows.
+pub fn put_header(
+    out: &mut [u8],
+    at: usize,
+    text: &[u8],
+    mpdu: &[u8],
+    header: DecodedHeader,
+    rows: &[u64],
+    colour: bool,
+) -> usize
+    requires { ⌜ Gathered (now out) at ⌝ }
+    ensures { λ r. ⌜ Gathered (now (out .exit)) r ⌝ }
+{
+    let name = field_of(find_line(text, b'H', header.number), 4);
+    let mut place = put_title(out, at, name, header.right, colour);
+    place = put_fields(out, place, text, mpdu, rows, header.rows);
+    place = put(out, place, b"\n");
+    put_ruler(
+        out,
+        place,
+        mpdu,
+        rows,
+        header.rows,
+        bits_before(header.payload),
+    )
+}
+
+// Why a frame has no header.
+pub fn put_refused(out: &mut [u8], at: usize, refusal: Refusal, colour: bool) -> usize
+    requires { ⌜ Gathered (now out) at ⌝ }
+    ensures { λ r. ⌜ Gathered (now (out .exit)) r ⌝ }
+{
+    let mut place = put(out, at, b"\n");
+    place = put_why(out, place, refusal, colour);
+    put(out, place, b"\n")
+}
