@@ -1,9 +1,9 @@
 -- Laws on looking things up in an accepted command text, line by line. Assumes nothing.
 use mathlib.Core.Path.{_≡_, refl, sym, ap, _∙_}
-use mathlib.Core.Bool.{Bool, true, false, cond}
+use mathlib.Core.Bool.{Bool, true, false, cond, _||_}
 use mathlib.Core.List.{List, _∷_}
 use mathlib.Core.Option.{none, some}
-use Prim.Native.Nat.{ℕ, _-_, _≤_, _<_}
+use Prim.Native.Nat.{ℕ, _<_}
 use native.Mathlib.Omega.{arith}
 use native.Mathlib.Numerals.{add-one}
 use lib.Dec.{eqb}
@@ -12,17 +12,14 @@ use borrow.Author.Tests.{eqb-true, eq-eqb, ne-eqb}
 use Rattle.text.specs.Text.{field}
 use Rattle.text.specs.Place.{kindOf, cells, Steps}
 use Rattle.text.specs.Records.{rest, Readable}
-use Rattle.text.specs.Listing.{Next}
 use Rattle.text.specs.declared.Place.{Place}
 use Rattle.text.specs.declared.Line.{Line}
-use Rattle.text.specs.declared.Under.the-variants.{At, Nothing}
-use Rattle.text.proofs.Reading.{Said, said-step, rest-end}
-use Rattle.text.proofs.Listing.{Step-on, Seeking, seek-start, seek-end, seek-hit, seek-stop, seek-next}
+use Rattle.text.proofs.Reading.{Said, said-step}
 use Rattle.command_text.specs.Form.{Record, param, group, variant, array, bitFlag, bitField, fieldEnum, const, bitmask, typeOf, paramForm, groupForm, variantForm, arrayForm, namedForm, bitsForm, bitmaskForm, ofType, said, paramSaid, form}
 use Rattle.command_text.specs.Form as form
 use Rattle.command_text.specs.Rules.{begins, rules}
-use Rattle.command_class.specs.Definition.{Item, numbered, ends, letter}
-use Rattle.command_class.specs.Find.{from, among, ofKind, never}
+use Rattle.command_class.specs.Definition.{numbered, letter}
+use Rattle.command_class.specs.Find.{from, among}
 use Rattle.command_text.specs.declared.Typed.{Typed}
 use Rattle.command_text.specs.declared.Typed.the-variants.{Is, Not}
 use Rattle.command_text.proofs.Keeping.{brief}
@@ -106,44 +103,12 @@ module _ (a b c k : ℕ) where
   pub among-third : (k ≡ a → ⊥) → (k ≡ b → ⊥) → eqb k c ≡ among a b c k
   among-third h e = rw (ne-eqb k a h, ne-eqb k b e)
 
-pub ruleset among-laws = (among-first, among-second, among-third)
+-- or one of two
+pub among-either : (a b k : ℕ) → (k ≡ a → ⊥) → eqb k b ≡ among a b b k
+among-either a b k h = rw (ne-eqb k a h) (go (eqb k b))
+  where
+    go : (x : Bool) → x ≡ (x || x)
+    go true = refl
+    go false = refl
 
--- ---- the next line of a kind
-pub under-start : (t : List ℕ) (p : Place) (stop want : Item → Bool) → Readable rules t p → Seeking stop want rules from t p p
-under-start t p stop want r = seek-start stop want rules from t p r
-
-pub under-end : (t : List ℕ) (p q : Place) (stop want : Item → Bool) → Seeking stop want rules from t p q → length t ≤ q .at → Next stop want rules from t p Nothing
-under-end t p q stop want k h = seek-end stop want rules from t p q k (ap (numbered (q .line)) (rest-end rules t q h))
-
-module _ (t : List ℕ) (p q : Place) (l : Line) (stop : Item → Bool) (a b c : ℕ) (k : Seeking stop (ofKind a b c) rules from t p q) (inside : q .at < length t) (step : Steps t q l) where
-  abbrev here : Lined t q l
-  here = lined t q l (k .readable) inside step
-
-  abbrev onward : Step-on stop (ofKind a b c) rules from t q l
-  onward = record { first = record { line = q .line; says = here .says }; list-is = here .lines; next = here .next }
-
-  module _ (x : Bool) (is : x ≡ among a b c (l .kind)) where
-    wanted : x ≡ ofKind a b c (onward .first)
-    wanted = is ∙ ap (among a b c) (here .kind-is)
-
-    pub under-hit : x ≡ true → Next stop (ofKind a b c) rules from t p (At q)
-    under-hit e = seek-hit stop (ofKind a b c) rules from t p q l k inside step onward (sym wanted ∙ e)
-
-  pub under-less : length t - l .next .at < length t - q .at
-  under-less = omega (arith, step .on)
-
-module _ (t : List ℕ) (p q : Place) (l : Line) (a b c : ℕ) (inside : q .at < length t) (step : Steps t q l) (x : Bool) (is : x ≡ among a b c (l .kind)) (other : x ≡ false) where
-  module _ (k : Seeking ends (ofKind a b c) rules from t p q) (y : Bool) (ending : y ≡ among 81 71 71 (l .kind)) where
-    stops : y ≡ ends (onward t p q l ends a b c k inside step .first)
-    stops = ending ∙ ap (among 81 71 71) (here t p q l ends a b c k inside step .kind-is) ∙ sym (begins-kind (here t p q l ends a b c k inside step .says))
-
-    pub under-stop : y ≡ true → Next ends (ofKind a b c) rules from t p Nothing
-    under-stop e = seek-stop ends (ofKind a b c) rules from t p q l k inside step (onward t p q l ends a b c k inside step) (sym (wanted t p q l ends a b c k inside step x is) ∙ other) (sym stops ∙ e)
-
-    pub under-next : y ≡ false → Seeking ends (ofKind a b c) rules from t p (l .next)
-    under-next e = seek-next ends (ofKind a b c) rules from t p q l k inside step (onward t p q l ends a b c k inside step) (sym (wanted t p q l ends a b c k inside step x is) ∙ other) (sym stops ∙ e)
-
-  pub entry-next : Seeking never (ofKind a b c) rules from t p q → Seeking never (ofKind a b c) rules from t p (l .next)
-  entry-next k = seek-next never (ofKind a b c) rules from t p q l k inside step (onward t p q l never a b c k inside step) (sym (wanted t p q l never a b c k inside step x is) ∙ other) refl
-
-pub ruleset under-laws = (under-start, under-end, under-hit, under-less, under-stop, under-next, entry-next)
+pub ruleset among-laws = (among-first, among-second, among-third, among-either)

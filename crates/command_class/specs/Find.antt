@@ -1,21 +1,19 @@
 -- How the answers of the code that looks things up in an accepted command text are read.
 use Prim.Native.Nat.{ℕ, _+_, _<_}
-use mathlib.Core.Bool.{Bool, true, false, _||_}
+use mathlib.Core.Bool.{Bool, true, _||_}
 use mathlib.Core.Path.{_≡_}
 use mathlib.Core.List.{List, _∷_}
 use mathlib.Core.Option.{Option, none, some}
 use lib.Dec.{eqb}
 use Rattle.text.specs.Place.{kindOf, cells, Marked}
 use Rattle.text.specs.Records.{isSome, rest, Readable}
-use Rattle.text.specs.Listing.{Next}
 use Rattle.text.specs.declared.Place.{Place}
 use Rattle.text.specs.declared.Line.{Line}
-use Rattle.text.specs.declared.Under.{Under}
 use Rattle.text.specs.declared.Optional.{Optional}
 use Rattle.text.specs.declared.Optional.the-variants.{Given, Missing, Wrong}
 use Rattle.command_text.specs.Form.{Record, param, group, variant, array, bitFlag, bitField, fieldEnum, const, bitmask, form}
 use Rattle.command_text.specs.Rules.{rules}
-use Rattle.command_class.specs.Definition.{Item, numbered, ends, letter}
+use Rattle.command_class.specs.Definition.{Item, numbered, letter}
 use Rattle.command_class.specs.declared.Row.{Row}
 use Rattle.command_class.specs.declared.Read.{Read}
 
@@ -32,21 +30,6 @@ pub record Good (t : List ℕ) (l : Line) : Type 0 where
 -- is a letter one of three
 abbrev pub among : ℕ → ℕ → ℕ → ℕ → Bool
 among a b c k = eqb k a || (eqb k b || eqb k c)
-
--- is a line of one of three kinds
-abbrev pub ofKind : ℕ → ℕ → ℕ → Item → Bool
-ofKind a b c i = among a b c (letter (i .says))
-
--- never
-abbrev pub never : Item → Bool
-never i = false
-
--- the next line of one of three kinds under a Q, and anywhere
-abbrev pub NextUnder : List ℕ → Place → ℕ → ℕ → ℕ → Under → Type 0
-NextUnder t p a b c r = Next ends (ofKind a b c) rules from t p r
-
-abbrev pub NextEntry : List ℕ → Place → Under → Type 0
-NextEntry t p r = Next never (ofKind 0x51 0x47 0x47) rules from t p r
 
 -- a number that may be missing: 256
 abbrev pub orMissing : Option ℕ → ℕ

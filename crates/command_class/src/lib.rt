@@ -5,7 +5,6 @@ use command_text::Typed;
 use text::Line;
 use text::Optional;
 use text::Place;
-use text::Under;
 ghost use mathlib.Core.Path.{_≡_};
 ghost use Prim.Native.Nat.{_<_};
 ghost use lib.ListN.{length};
@@ -15,7 +14,7 @@ ghost use Rattle.text.specs.Records.{Readable};
 ghost use Rattle.command_text.specs.Form.{typeOf};
 ghost use Rattle.command_text.specs.Rules.{rules};
 ghost use Rattle.command_class.specs.Definition.{under, firstConst};
-ghost use Rattle.command_class.specs.Find.{from, Good, among, NextUnder, NextEntry, optionalOr, Tells, IsRead, Begins, Follows};
+ghost use Rattle.command_class.specs.Find.{from, Good, among, optionalOr, Tells, IsRead, Begins, Follows};
 
 // What a line says, as numbers; 256 for a missing offset, mask or length, 0 where the line has no such number.
 pub struct Row {
@@ -35,52 +34,14 @@ pub struct Read {
     pub next: Place,
 }
 
-// Is the kind one of three?
-fn is_among(kind: u8, a: u8, b: u8, c: u8) -> bool
-    ensures { λ r. ⌜ r ≡ among a b c kind ⌝ }
+// Is it a kind that begins an entry: a Q or a G?
+pub fn is_entry(kind: u8) -> bool
+    ensures { λ r. ⌜ r ≡ among 81 71 71 kind ⌝ }
 {
-    if kind == a {
+    if kind == b'Q' {
         return true;
     }
-    if kind == b {
-        return true;
-    }
-    kind == c
-}
-
-// The next line of one of three kinds under the Q before the place.
-pub fn next_under(text: &[u8], start: Place, a: u8, b: u8, c: u8) -> Under
-    requires { ⌜ Readable rules (now text) start ⌝ }
-    ensures { λ r. ⌜ NextUnder (now (text .entry)) start a b c r ⌝ }
-{
-    let mut place = start;
-    while place.at < text.len() {
-        let line = place.step(text);
-        if is_among(line.kind, a, b, c) {
-            return Under::At(place);
-        }
-        if is_among(line.kind, b'Q', b'G', b'G') {
-            return Under::Nothing;
-        }
-        place = line.next;
-    }
-    Under::Nothing
-}
-
-// The next Q or G.
-pub fn next_entry(text: &[u8], start: Place) -> Under
-    requires { ⌜ Readable rules (now text) start ⌝ }
-    ensures { λ r. ⌜ NextEntry (now (text .entry)) start r ⌝ }
-{
-    let mut place = start;
-    while place.at < text.len() {
-        let line = place.step(text);
-        if is_among(line.kind, b'Q', b'G', b'G') {
-            return Under::At(place);
-        }
-        place = line.next;
-    }
-    Under::Nothing
+    kind == b'G'
 }
 
 // The number that field k says, or 256 where it is missing.
@@ -324,7 +285,7 @@ pub fn find_const(text: &[u8], start: Place, value: u16) -> usize
             place = line.next;
             continue;
         }
-        if is_among(kind, b'Q', b'G', b'G') {
+        if is_entry(kind) {
             return 0;
         }
         place = pass_at(text, place);

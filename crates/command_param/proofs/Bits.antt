@@ -20,6 +20,7 @@ use Rattle.command_class.specs.Definition.{Item, numbered, under, letter}
 use Rattle.command_class.specs.Find.{from, among, Says, IsRead}
 use Rattle.command_class.specs.declared.Row.{Row as Line}
 use Rattle.command_class.specs.declared.Read.{Read}
+use Rattle.command_class.proofs.Finding.{among-laws}
 use Rattle.command_lengths.specs.Lengths.{masked}
 use Rattle.command_schema.specs.Loaded.{countBits, after, Stands}
 use Rattle.command_schema.specs.declared.Loaded.{Loaded}
@@ -44,16 +45,7 @@ pub bit-row-is : (b number parent start v : ℕ) (l : Line) → v ≡ bitNumber 
     → _≡_ {A = Row} (record { kind = 1; line = number; parent = parent; start = start; end = start + 1; valued = 1; value = v; named = 0; number = 0 }) (bitRow number parent start (bitNumber b l))
 bit-row-is b number parent start v l e = rw e refl
 
-pub bits-first : (k : ℕ) → k ≡ 84 → true ≡ among 84 83 85 k
-bits-first k e = rw e
-
-pub bits-second : (k : ℕ) → (k ≡ 84 → ⊥) → k ≡ 83 → true ≡ among 84 83 85 k
-bits-second k h e = rw (ne-eqb k 84 h, eq-eqb k 83 e)
-
-pub bits-third : (k : ℕ) → (k ≡ 84 → ⊥) → (k ≡ 83 → ⊥) → eqb k 85 ≡ among 84 83 85 k
-bits-third k h e = rw (ne-eqb k 84 h, ne-eqb k 83 e)
-
-pub ruleset line-laws = (bit-other, bit-clear, bit-set, bit-row-is, bits-first, bits-second, bits-third)
+pub ruleset line-laws = (bit-other, bit-clear, bit-set, bit-row-is, among-laws)
 
 -- what a line says, by its numbers
 bit-said : (b : ℕ) (x : Record) (l : Line) → l .kind ≡ letter x → Says x l → among 84 83 85 (l .kind) ≡ true → bitValue b x ≡ some (bitNumber b l)

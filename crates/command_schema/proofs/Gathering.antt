@@ -15,6 +15,7 @@ use Rattle.command_class.specs.Definition.{Item, numbered, under, letter}
 use Rattle.command_class.specs.Find.{from, among, Says, IsRead, Begins, Follows}
 use Rattle.command_class.specs.declared.Row.{Row}
 use Rattle.command_class.specs.declared.Read.{Read}
+use Rattle.command_class.proofs.Finding.{begins-kind}
 use Rattle.command_schema.specs.Heads.{Head, onto, heads}
 use Rattle.command_schema.specs.Gathered.{gatheredNone, noted, notedRow, gathered, Gathers}
 use Rattle.command_schema.specs.declared.items.Gathered.{Gathered}
@@ -68,18 +69,7 @@ module _ (t : List ℕ) (p₀ : Place) (g : Gathered) (p : Place) (k : Gathering
 
   module _ (kind : ℕ) (begin : Begins t p kind) (x : Bool) (is-x : x ≡ among 81 71 71 kind) where
     ending : x ≡ begins (begin .said)
-    ending = is-x ∙ ap (among 81 71 71) (begin .kind) ∙ by-record (begin .said)
-      where
-        by-record : (r : Record) → among 81 71 71 (letter r) ≡ begins r
-        by-record (param q) = refl
-        by-record (group q) = refl
-        by-record (variant v) = refl
-        by-record (array n a) = refl
-        by-record (bitFlag m n) = refl
-        by-record (bitField b) = refl
-        by-record (fieldEnum b) = refl
-        by-record (const v n) = refl
-        by-record (bitmask n) = refl
+    ending = is-x ∙ ap (among 81 71 71) (begin .kind) ∙ sym (begins-kind (begin .said))
 
     pub gathering-stop : x ≡ true → Gathers t p₀ (record { gathered = g; next = p })
     gathering-stop e = none-left (rw (begin .lines, sym ending ∙ e))

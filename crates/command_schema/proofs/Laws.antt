@@ -1,6 +1,6 @@
 -- Laws of the small functions: one for each way through the code. Assumes nothing.
 use mathlib.Core.Path.{_≡_, refl}
-use mathlib.Core.Bool.{Bool, true, false, cond, _||_}
+use mathlib.Core.Bool.{Bool, true, false, cond}
 use mathlib.Core.List.{List}
 use mathlib.Core.Option.{none, some}
 use Prim.Native.Nat.{ℕ, _+_, _*_, _≤_, _<_}
@@ -12,7 +12,6 @@ use Rattle.rows.specs.Rows.{put}
 use Rattle.text.specs.declared.Place.{Place}
 use Rattle.command_text.specs.declared.ParamType.{ParamType}
 use Rattle.command_text.specs.declared.ParamType.the-variants.{Byte, StructByte, Const, Marker, Word, Bit24, Dword, Array, Variant as Variants, Bitmask, MultiArray}
-use Rattle.command_class.specs.Find.{among}
 use Rattle.command_class.specs.declared.Row.{Row}
 use Rattle.command_lengths.specs.Entries.{given}
 use Rattle.command_lengths.specs.declared.Rule.the-variants.{Fixed, Open, Counted}
@@ -116,16 +115,6 @@ module _ (g : Gathered) (row : Row) where
 
   pub note-other : (row .kind ≡ 82 → ⊥) → (row .kind ≡ 65 → ⊥) → (row .kind ≡ 77 → ⊥) → (row .kind ≡ 84 → ⊥) → (row .kind ≡ 83 → ⊥) → (row .kind ≡ 85 → ⊥) → g ≡ notedRow g row
   note-other r a m t s u = rw (ne-eqb (row .kind) 82 r, ne-eqb (row .kind) 65 a, ne-eqb (row .kind) 77 m, ne-eqb (row .kind) 84 t, ne-eqb (row .kind) 83 s, ne-eqb (row .kind) 85 u)
-
-pub entry-first : (k : ℕ) → k ≡ 81 → true ≡ among 81 71 71 k
-entry-first k e = rw e
-
-pub entry-second : (k : ℕ) → (k ≡ 81 → ⊥) → eqb k 71 ≡ among 81 71 71 k
-entry-second k h = rw (ne-eqb k 81 h) (go (eqb k 71))
-  where
-    go : (b : Bool) → b ≡ (b || b)
-    go true = refl
-    go false = refl
 
 -- ---- the first M, A and R
 module _ (v : Variant) where
@@ -244,4 +233,4 @@ pub param-loaded : (r : Row) (p next : Place) (g : Gathered) (length named : ℕ
 param-loaded r p next g length named el en = rw (el, en) refl
 
 -- what the proofs of the small functions go by
-pub ruleset laws = (member-not, member-level, outer-not, outer-level, rule-fixed, rule-open, rule-counted, row-read, row-stored, variant-had, variant-first, array-had, array-first, bitmask-had, bitmask-first, note-variant, note-array, note-bitmask, note-flag, note-field, note-enum, note-other, entry-first, entry-second, variant-none, variant-255, variant-0, variant-counted, variant-ascii, variant-plain, array-plain, array-ascii, bitmask-length, bitmask-over, length-byte, length-struct, length-const, length-marker, length-word, length-bit24, length-dword, length-array, length-variant, length-bitmask, length-multi, named-not, named-array, named-variant, named-is, param-loaded)
+pub ruleset laws = (member-not, member-level, outer-not, outer-level, rule-fixed, rule-open, rule-counted, row-read, row-stored, variant-had, variant-first, array-had, array-first, bitmask-had, bitmask-first, note-variant, note-array, note-bitmask, note-flag, note-field, note-enum, note-other, variant-none, variant-255, variant-0, variant-counted, variant-ascii, variant-plain, array-plain, array-ascii, bitmask-length, bitmask-over, length-byte, length-struct, length-const, length-marker, length-word, length-bit24, length-dword, length-array, length-variant, length-bitmask, length-multi, named-not, named-array, named-variant, named-is, param-loaded)

@@ -8,7 +8,6 @@ ghost use Prim.Native.Nat.{_<_, _≤_};
 ghost use lib.ListN.{length};
 ghost use Rattle.text.specs.Records.{Readable};
 ghost use Rattle.command_text.specs.Rules.{rules};
-ghost use Rattle.command_class.specs.Find.{among};
 ghost use Rattle.command_schema.specs.Field.{arrayAscii, variantAscii, variantRule, variableRule, ruleOf, isConst, isNamed};
 ghost use Rattle.command_schema.specs.Gathered.{gatheredNone, withVariant, withArray, withBitmask, withBits, notedRow, Gathers, bitmaskIn, arraySaid, arrayIn, variantSaid, variantIn, lengthNumber};
 
@@ -151,16 +150,6 @@ impl Gathered {
     }
 }
 
-// Does a line of this kind end what stands under a Q?
-fn is_entry(kind: u8) -> bool
-    ensures { λ r. ⌜ r ≡ among 81 71 71 kind ⌝ }
-{
-    if kind == b'Q' {
-        return true;
-    }
-    kind == b'G'
-}
-
 // Gathers the lines under a Q, from the place after it.
 pub fn gather(text: &[u8], start: Place) -> Under
     requires { ⌜ (Readable rules (now text) start) × (length (now text) ≤ 60000) ⌝ }
@@ -170,7 +159,7 @@ pub fn gather(text: &[u8], start: Place) -> Under
     let mut place = start;
     while place.at < text.len() {
         let kind = command_class::kind_at(text, place);
-        if is_entry(kind) {
+        if command_class::is_entry(kind) {
             return Under {
                 gathered,
                 next: place,

@@ -33,8 +33,8 @@ loop-less c = search (needs, const-laws)
 loop-again : tie.Need-loop-again Inv-loop μ-loop
 loop-again c = search (needs, const-laws)
 
-is-among-requires : tie.Need-is-among-requires Inv-loop μ-loop
-is-among-requires c κs = search (needs, const-laws)
+is-entry-requires : tie.Need-is-entry-requires Inv-loop μ-loop
+is-entry-requires c κs = search (needs, const-laws)
 
 returns-2 : tie.Need-returns-2 Inv-loop μ-loop
 returns-2 c = search (needs, const-laws)
@@ -64,7 +64,7 @@ find-const-spec =
     returns
     loop-less
     loop-again
-    is-among-requires
+    is-entry-requires
     returns-2
     pass-at-requires
     loop-less-2
