@@ -5,7 +5,9 @@ mod seen;
 use oracle::definition::command::{CmdItem, CommandDefinition, ItemKind, Param, VariantGroup};
 use oracle::definition::read;
 use oracle::generate::Generator;
-use oracle::reading::command::{Entry, Walk, decode_params, length_if_it_exists, repetitions};
+use oracle::reading::command::{
+    Entry, Walk, decode_params, first_a, first_m, first_r, length_if_it_exists, repetitions,
+};
 use oracle::request::Request;
 use seen::Seen;
 use zniff_core::decoder::command_class::schema::ParamType;
@@ -236,27 +238,4 @@ fn count(q: &Param, is_it: impl Fn(&ItemKind) -> bool) -> usize {
 
 fn has(q: &Param, is_it: impl Fn(&ItemKind) -> bool) -> bool {
     count(q, is_it) > 0
-}
-
-fn first_a(q: &Param) -> Option<(u8, bool)> {
-    q.items.iter().find_map(|item| match item.kind {
-        ItemKind::ArrayAttrib { length, is_ascii } => Some((length, is_ascii)),
-        _ => None,
-    })
-}
-
-fn first_r(q: &Param) -> Option<(u8, u8, u8, bool)> {
-    q.items.iter().find_map(|item| match item.kind {
-        ItemKind::Variant { offset, mask, shift, is_ascii } => {
-            Some((offset, mask, shift, is_ascii))
-        }
-        _ => None,
-    })
-}
-
-fn first_m(q: &Param) -> Option<Option<u8>> {
-    q.items.iter().find_map(|item| match item.kind {
-        ItemKind::BitMask { length } => Some(length),
-        _ => None,
-    })
 }

@@ -244,16 +244,16 @@ fn named_by(q: &Param, value: Option<u64>) -> usize {
     }
 }
 
-/// Length and ascii.
-fn first_a(q: &Param) -> Option<(u8, bool)> {
+/// The first A's length and ascii.
+pub fn first_a(q: &Param) -> Option<(u8, bool)> {
     q.items.iter().find_map(|item| match item.kind {
         ItemKind::ArrayAttrib { length, is_ascii } => Some((length, is_ascii)),
         _ => None,
     })
 }
 
-/// Offset, mask, shift and ascii.
-fn first_r(q: &Param) -> Option<(u8, u8, u8, bool)> {
+/// The first R's offset, mask, shift and ascii.
+pub fn first_r(q: &Param) -> Option<(u8, u8, u8, bool)> {
     q.items.iter().find_map(|item| match item.kind {
         ItemKind::Variant { offset, mask, shift, is_ascii } => {
             Some((offset, mask, shift, is_ascii))
@@ -262,8 +262,8 @@ fn first_r(q: &Param) -> Option<(u8, u8, u8, bool)> {
     })
 }
 
-/// Length, which may be missing.
-fn first_m(q: &Param) -> Option<Option<u8>> {
+/// The first M's length, which may be missing.
+pub fn first_m(q: &Param) -> Option<Option<u8>> {
     q.items.iter().find_map(|item| match item.kind {
         ItemKind::BitMask { length } => Some(length),
         _ => None,
