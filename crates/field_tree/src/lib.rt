@@ -1,4 +1,4 @@
-// The fields of a header as a tree: letter, name, bits, value and symbol of each.
+// The fields of a header as a tree: name, bits, value and symbol of each, and its letter where a picture of the bits follows.
 use cells::header_cell;
 use cells::header_depth;
 use cells::part;
@@ -127,15 +127,20 @@ fn put_symbol(out: &mut [u8], at: usize, text: &[u8], set: &[u8], entry: u64) ->
     put(out, place, b"\n")
 }
 
+// The letter of row i in the picture, a blank where there is none.
+fn mark(i: usize, picture: bool) -> u8 {
+    if picture { letter(i) } else { b' ' }
+}
+
 // Letter, name and bits of row i.
-fn put_head(out: &mut [u8], at: usize, name: &[u8], rows: &[u64], i: usize) -> usize
+fn put_head(out: &mut [u8], at: usize, name: &[u8], rows: &[u64], i: usize, picture: bool) -> usize
     requires { ⌜ Gathered (now out) at ⌝ }
     ensures { λ r. ⌜ Gathered (now (out .exit)) r ⌝ }
 {
     let start = header_cell(rows, i, 2);
     let end = wrapping_add_u64(start, header_cell(rows, i, 3));
     let mut place = put(out, at, b"  ");
-    place = put_byte(out, place, letter(i));
+    place = put_byte(out, place, mark(i, picture));
     place = put_byte(out, place, b' ');
     place = put_deep(out, place, header_depth(rows, i), name);
     put_range(out, place, start, end)
@@ -150,11 +155,12 @@ fn put_field(
     mpdu: &[u8],
     rows: &[u64],
     i: usize,
+    picture: bool,
 ) -> usize
     requires { ⌜ Gathered (now out) at ⌝ }
     ensures { λ r. ⌜ Gathered (now (out .exit)) r ⌝ }
 {
-    let mut place = put_head(out, at, field_of(line, 5), rows, i);
+    let mut place = put_head(out, at, field_of(line, 5), rows, i, picture);
     place = put_value(out, place, field_of(line, 4), mpdu, rows, i);
     put_symbol(out, place, text, field_of(line, 6), header_cell(rows, i, 6))
 }
@@ -167,6 +173,7 @@ pub fn put_fields(
     mpdu: &[u8],
     rows: &[u64],
     n: usize,
+    picture: bool,
 ) -> usize
     requires { ⌜ Gathered (now out) at ⌝ }
     ensures { λ r. ⌜ Gathered (now (out .exit)) r ⌝ }
@@ -175,7 +182,7 @@ pub fn put_fields(
     let mut i: usize = 0;
     while i < n {
         let line = find_line(text, b'P', header_cell(rows, i, 0) as usize);
-        place = put_field(out, place, text, line, mpdu, rows, i);
+        place = put_field(out, place, text, line, mpdu, rows, i, picture);
         i += 1;
     }
     place

@@ -1,4 +1,4 @@
-// A frame whole: how it was heard, its bytes, and its header as a tree and as a picture.
+// A frame whole: how it was heard, its bytes, and its header as a tree and, where it is asked for, as a picture.
 use field_tree::put_fields;
 use frame_row::put_rate;
 use frame_row::put_rssi;
@@ -104,7 +104,33 @@ fn bits_before(offset: u64) -> usize {
     offset as usize * 8
 }
 
-// A header, with its n rows.
+// The bits of a header, if there is to be a picture.
+fn put_picture(
+    out: &mut [u8],
+    at: usize,
+    mpdu: &[u8],
+    header: DecodedHeader,
+    rows: &[u64],
+    picture: bool,
+) -> usize
+    requires { ⌜ Gathered (now out) at ⌝ }
+    ensures { λ r. ⌜ Gathered (now (out .exit)) r ⌝ }
+{
+    if picture {
+        let place = put(out, at, b"\n");
+        return put_ruler(
+            out,
+            place,
+            mpdu,
+            rows,
+            header.rows,
+            bits_before(header.payload),
+        );
+    }
+    at
+}
+
+// A header, with its rows.
 pub fn put_header(
     out: &mut [u8],
     at: usize,
@@ -113,22 +139,15 @@ pub fn put_header(
     header: DecodedHeader,
     rows: &[u64],
     colour: bool,
+    picture: bool,
 ) -> usize
     requires { ⌜ Gathered (now out) at ⌝ }
     ensures { λ r. ⌜ Gathered (now (out .exit)) r ⌝ }
 {
     let name = field_of(find_line(text, b'H', header.number), 4);
     let mut place = put_title(out, at, name, header.right, colour);
-    place = put_fields(out, place, text, mpdu, rows, header.rows);
-    place = put(out, place, b"\n");
-    put_ruler(
-        out,
-        place,
-        mpdu,
-        rows,
-        header.rows,
-        bits_before(header.payload),
-    )
+    place = put_fields(out, place, text, mpdu, rows, header.rows, picture);
+    put_picture(out, place, mpdu, header, rows, picture)
 }
 
 // Why a frame has no header.
@@ -137,6 +156,6 @@ pub fn put_refused(out: &mut [u8], at: usize, refusal: Refusal, colour: bool) ->
     ensures { λ r. ⌜ Gathered (now (out .exit)) r ⌝ }
 {
     let mut place = put(out, at, b"\n");
-    place = put_why(out, place, refusal, colour);
+    place = put_why(out, place, refusal, 0, colour);
     put(out, place, b"\n")
 }

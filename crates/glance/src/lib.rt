@@ -9,6 +9,7 @@ use nodes::put_no_nodes;
 use nodes::put_nodes;
 use page::put;
 use page::put_hex;
+use page::put_left;
 use page::put_marked;
 use page::put_number_left;
 use page::put_spaces;
@@ -151,31 +152,31 @@ fn put_named(
     put_command(out, place, index, bytes, header.right, colour)
 }
 
-// Why an MPDU has no name, in words and with the refusal's number.
-fn put_refusal(out: &mut [u8], at: usize, refusal: Refusal) -> usize
+// Why an MPDU has no name, in words and with the refusal's number, at the left of a column.
+fn put_refusal(out: &mut [u8], at: usize, refusal: Refusal, width: usize) -> usize
     requires { ⌜ Gathered (now out) at ⌝ }
     ensures { λ r. ⌜ Gathered (now (out .exit)) r ⌝ }
 {
     match refusal {
-        Refusal::Form(_) => put(out, at, b"  - no frame text (1)       "),
-        Refusal::Limit(_) => put(out, at, b"  - no frame text (2)       "),
-        Refusal::Owner(_) => put(out, at, b"  - no frame text (3)       "),
-        Refusal::TooLong(_) => put(out, at, b"  - over 2048 bytes (4)     "),
-        Refusal::TooShort(_) => put(out, at, b"  - under 2 bytes (5)       "),
-        Refusal::NoBase(_) => put(out, at, b"  - no base header (6)      "),
-        Refusal::NoCandidate => put(out, at, b"  - no header holds (7)     "),
-        Refusal::MoreRows(_) => put(out, at, b"  - too many fields (8)     "),
-        Refusal::NotAFrame => put(out, at, b"  - not a frame (9)         "),
+        Refusal::Form(_) => put_left(out, at, b"  - no frame text (1)", width),
+        Refusal::Limit(_) => put_left(out, at, b"  - no frame text (2)", width),
+        Refusal::Owner(_) => put_left(out, at, b"  - no frame text (3)", width),
+        Refusal::TooLong(_) => put_left(out, at, b"  - over 2048 bytes (4)", width),
+        Refusal::TooShort(_) => put_left(out, at, b"  - under 2 bytes (5)", width),
+        Refusal::NoBase(_) => put_left(out, at, b"  - no base header (6)", width),
+        Refusal::NoCandidate => put_left(out, at, b"  - no header holds (7)", width),
+        Refusal::MoreRows(_) => put_left(out, at, b"  - too many fields (8)", width),
+        Refusal::NotAFrame => put_left(out, at, b"  - not a frame (9)", width),
     }
 }
 
 // The same, in colour.
-pub fn put_why(out: &mut [u8], at: usize, refusal: Refusal, colour: bool) -> usize
+pub fn put_why(out: &mut [u8], at: usize, refusal: Refusal, width: usize, colour: bool) -> usize
     requires { ⌜ Gathered (now out) at ⌝ }
     ensures { λ r. ⌜ Gathered (now (out .exit)) r ⌝ }
 {
     let mut place = paint::begin(out, at, colour, Hue::Unnamed);
-    place = put_refusal(out, place, refusal);
+    place = put_refusal(out, place, refusal, width);
     paint::end(out, place, colour)
 }
 
@@ -191,7 +192,7 @@ fn put_unnamed(
     requires { ⌜ Gathered (now out) at ⌝ }
     ensures { λ r. ⌜ Gathered (now (out .exit)) r ⌝ }
 {
-    let mut place = put_why(out, at, refusal, colour);
+    let mut place = put_why(out, at, refusal, NAMES + 2, colour);
     place = put_no_nodes(out, place);
     put_size(out, place, mpdu, check_crc(mpdu, speed), colour)
 }

@@ -35,7 +35,9 @@ multicast is for are a mask, which tap show gives whole.
   --definitions FOLDER    the definitions that name frames and commands: frames.txt and commands/
                           in it. Without it that is definitions below the current folder; bin/tap
                           says where its own are.
-  --colour, --plain       in colour or without; bin/tap says --colour for a terminal
+  --colour, --plain       in colour or without, as the last of them says; bin/tap begins with
+                          --colour for a terminal
+  --picture               for tap show: a table has no picture
   --progress              every 1000 frames a count on standard error
 
 Where the frame text is missing or refused, no frame has a name. The last line of the output is
@@ -55,12 +57,16 @@ on. The last line of the output is for the first refusal.
 fn help_show() {
     say(
         b"tap show FILE N: frame N of a capture, by the number that tap frames gives it. First how it was
-heard, and its bytes. Then the fields of its header as a tree: letter, name, bits, value and symbol
-of each, and a picture of the header's bits with the letters below. Then its command's parameters as
-a tree: name, bytes in the command, value and symbol of each, and the bytes that they leave. Where no
-header holds it says by which refusal, and so does the last line.
+heard, and its bytes. Then the fields of its header as a tree: name, bits, value and symbol of each.
+Then its command's parameters as a tree: name, bytes in the command, value and symbol of each, and
+the bytes that they leave. Where no header holds it says by which refusal, and so does the last
+line.
 
-It takes the options of tap frames. 'tap help frames' says what a capture is.
+  --picture    a letter before each field, and behind the fields the header's bits as a picture, with
+               the letter of its field below each; bin/tap begins with --picture for a terminal
+  --plain      without picture and colour
+
+It takes the other options of tap frames too. 'tap help frames' says what a capture is.
 ",
     );
     succeed();

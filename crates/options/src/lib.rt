@@ -7,6 +7,7 @@ use std::num::wrapping_add_usize;
 // What the arguments behind the word say. An argument is told by its number.
 pub struct Options {
     pub colour: bool,
+    pub picture: bool,
     pub progress: bool,
     // The folder of the definitions, 0 where none is named.
     pub folder: usize,
@@ -30,6 +31,7 @@ impl Options {
     fn new() -> Self {
         Options {
             colour: false,
+            picture: false,
             progress: false,
             folder: 0,
             count: 0,
@@ -57,8 +59,19 @@ impl Options {
         self
     }
 
-    fn with_colour(mut self, colour: bool) -> Self {
-        self.colour = colour;
+    fn with_colour(mut self) -> Self {
+        self.colour = true;
+        self
+    }
+
+    fn with_picture(mut self) -> Self {
+        self.picture = true;
+        self
+    }
+
+    fn plain(mut self) -> Self {
+        self.colour = false;
+        self.picture = false;
         self
     }
 
@@ -91,10 +104,13 @@ fn take_option(options: Options, k: usize, bytes: &[u8]) -> Options {
         return options.opened();
     }
     if same(bytes, b"--plain") {
-        return options.with_colour(false);
+        return options.plain();
     }
     if same(bytes, b"--colour") {
-        return options.with_colour(true);
+        return options.with_colour();
+    }
+    if same(bytes, b"--picture") {
+        return options.with_picture();
     }
     if same(bytes, b"--progress") {
         return options.with_progress();

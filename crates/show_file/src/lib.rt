@@ -136,7 +136,16 @@ fn show_header(
 )
     requires { ⌜ Gathered (now out) at ⌝ }
 {
-    let place = put_header(out, at, text, mpdu, header, rows, options.colour);
+    let place = put_header(
+        out,
+        at,
+        text,
+        mpdu,
+        header,
+        rows,
+        options.colour,
+        options.picture,
+    );
     show_command(application(mpdu, header.payload, rate), out, place, options);
 }
 

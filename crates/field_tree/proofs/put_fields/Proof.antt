@@ -8,10 +8,10 @@ use Rattle.field_tree.proofs.put_fields.Statement.{statement}
 use Rattle.field_tree.proofs.put_fields.Tie as tie
 
 abbrev Inv-loop : tie.InvT-loop
-Inv-loop out₀ at text mpdu rows n place₀ i₀ out place i = Gathered out place × (length out ≡ length out₀)
+Inv-loop out₀ at text mpdu rows n picture place₀ i₀ out place i = Gathered out place × (length out ≡ length out₀)
 
 abbrev μ-loop : tie.MeasureT-loop
-μ-loop out₀ at text mpdu rows n place₀ i₀ out place i = n - i
+μ-loop out₀ at text mpdu rows n picture place₀ i₀ out place i = n - i
 
 loop-holds : tie.Need-loop-holds Inv-loop μ-loop
 loop-holds c = search needs
