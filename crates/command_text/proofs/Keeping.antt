@@ -15,13 +15,14 @@ use Rattle.text.specs.declared.Line.{Line}
 use Rattle.text.specs.declared.Verdict.the-variants.{Accepted, Refused}
 use Rattle.text.proofs.Tests.{alike}
 use Rattle.text.proofs.Judging.{Brief, Outcome, on, passed, astray, wrong, Meets, Checked, checked-long, checked-start, checked-end, checked-on, checked-passed, checked-lost, checked-wrong}
+use Rattle.command_kept.specs.Kept.{nothing, judged, judgedItem}
+use Rattle.command_kept.specs.declared.Form.{Form}
+use Rattle.command_kept.specs.declared.Kept.{Kept}
+use Rattle.command_kept.specs.declared.Judged.{Judged}
+use Rattle.command_kept.specs.declared.Judged.the-variants.{On, Passed, Lost, Wrong}
 use Rattle.command_text.specs.Form.{Record, Param, Group, param, group, variant, array, bitFlag, bitField, fieldEnum, const, bitmask, form}
 use Rattle.command_text.specs.Rules.{begins, count, items, owned, grouped, shift, rules, verdict}
-use Rattle.command_text.specs.Machine.{shape, nothing, judged, judgedItem}
-use Rattle.command_text.specs.declared.Form.{Form}
-use Rattle.command_text.specs.declared.Kept.{Kept}
-use Rattle.command_text.specs.declared.Judged.{Judged}
-use Rattle.command_text.specs.declared.Judged.the-variants.{On, Passed, Lost, Wrong}
+use Rattle.command_text.specs.Shape.{shape}
 
 -- ---- what is kept
 pub record Tells (before : List Record) (k : Kept) : Type 0 where

@@ -14,15 +14,13 @@ use Rattle.text.specs.Place.{kindOf, cells}
 use Rattle.text.specs.declared.Line.{Line}
 use Rattle.text.proofs.Laws.{cells-length}
 use Rattle.text.proofs.Tests.{and-left, and-right, count-of, value-of, optional-value-of}
+use Rattle.command_kept.specs.declared.Form.{Form}
+use Rattle.command_kept.specs.declared.Form.the-variants.{Param, Group, Item, Bad}
 use Rattle.command_text.specs.Form.{Record, group, variant, bitField, fieldEnum, either, typeOf, known, paramWords, paramCondition, paramFields, groupFields, groupForm, variantFields, variantForm, arrayForm, namedForm, bitsFields, bitsForm, bitmaskForm, groupOf, sizeOf, bitsOf, ofType, said, paramSaid, form}
-use Rattle.command_text.specs.Machine.{tagged, shape, judgedParam, judgedGroup, judgedItem, judged}
+use Rattle.command_text.specs.Shape.{tagged, shape}
 use Rattle.command_text.specs.declared.ParamType.{ParamType}
 use Rattle.command_text.specs.declared.Typed.{Typed}
 use Rattle.command_text.specs.declared.Typed.the-variants.{Is, Not}
-use Rattle.command_text.specs.declared.Form.{Form}
-use Rattle.command_text.specs.declared.Form.the-variants.{Param, Group, Item, Bad}
-use Rattle.command_text.specs.declared.Kept.{Kept}
-use Rattle.command_text.specs.declared.Judged.{Judged}
 
 -- ---- the names of types
 module _ (r a : Typed) (says : r ≡ a) where
@@ -151,16 +149,3 @@ module _ (fs : List (List ℕ)) (k : ℕ) (kind : k ≡ kindOf fs) where
       rw (← kind, ne-eqb _ _ q, ne-eqb _ _ g, ne-eqb _ _ r, ne-eqb _ _ a, ne-eqb _ _ t, ne-eqb _ _ s, ne-eqb _ _ u, ne-eqb _ _ c, ne-eqb _ _ m)
 
 pub ruleset kind-laws = (kind-param, kind-group, kind-variant, kind-bit-field, kind-field-enum, kind-array, kind-bit-flag, kind-const, kind-bitmask, kind-none)
-
--- ---- the judgement, by the form
-module _ (k : Kept) (f : Form) (r : Judged) (n : ℕ) where
-  pub judge-param : f ≡ Param n → r ≡ judgedParam k n → r ≡ judged k f
-  judge-param e h = rw e h
-
-  pub judge-group : f ≡ Group n → r ≡ judgedGroup k n → r ≡ judged k f
-  judge-group e h = rw e h
-
-  pub judge-item : f ≡ Item n → r ≡ judgedItem k n → r ≡ judged k f
-  judge-item e h = rw e h
-
-pub ruleset judge-laws = (judge-param, judge-group, judge-item)

@@ -1,17 +1,17 @@
 // The command text: which texts are accepted, and which line of any other is refused by which number.
 // The forms are those of command_class/schema.rs, a line each.
+use command_kept::Form;
+use command_kept::Judged;
 use refusal::Refusal;
 use text::Line;
 use text::Place;
 use text::Verdict;
 ghost use mathlib.Core.Path.{_≡_};
-ghost use mathlib.Core.Bool.{Bool, _&&_};
-ghost use Prim.Native.Nat.{_<_};
 ghost use Rattle.text.specs.Text.{field};
 ghost use Rattle.text.specs.Place.{kindOf, cells, Marked, Has};
 ghost use Rattle.command_text.specs.Form.{byteType, wordType, openType, either, typeOf, known, paramWords, paramCondition, paramFields, groupFields, variantFields, bitsFields, groupForm, variantForm, arrayForm, namedForm, bitsForm, bitmaskForm, paramSaid, said, form, group, variant, groupOf, sizeOf, bitField, bitsOf};
 ghost use Rattle.command_text.specs.Rules.{verdict};
-ghost use Rattle.command_text.specs.Machine.{tagged, shape, nothing, begun, judgedParam, judgedGroup, judgedItem, judged};
+ghost use Rattle.command_text.specs.Shape.{tagged, shape};
 ghost use mathlib.Core.Option.{some};
 
 // The type of a parameter, by the XML names of the source.
@@ -33,14 +33,6 @@ pub enum ParamType {
 pub enum Typed {
     Is(ParamType),
     Not,
-}
-
-// What limits and owners look at in a line: a Q's level, the shift of a G or of an item line, 0 where it has none.
-pub enum Form {
-    Param { level: u16 },
-    Group { shift: u16 },
-    Item { shift: u16 },
-    Bad,
 }
 
 // The types of one byte.
@@ -299,108 +291,6 @@ fn read_form(text: &[u8], line: Line) -> Form
     }
 }
 
-// What is kept of the lines before: how many Q and G lines there were, whether the last of them is a Q, whether a level 1 Q
-// would be a member of a G, and how many lines stand under the last Q or G.
-pub struct Kept {
-    pub count: u16,
-    pub owned: bool,
-    pub grouped: bool,
-    pub items: u8,
-}
-
-// The judgement on a line: nothing is wrong, and what is kept after it; a limit is passed; no owner or parent; not a form.
-pub enum Judged {
-    On(Kept),
-    Passed,
-    Lost,
-    Wrong,
-}
-
-// Before the first line.
-fn start() -> Kept
-    ensures { λ r. ⌜ r ≡ nothing ⌝ }
-{
-    Kept {
-        count: 0,
-        owned: false,
-        grouped: false,
-        items: 0,
-    }
-}
-
-impl Kept {
-    // After a Q or G.
-    fn begin(self, owned: bool, grouped: bool) -> Judged
-        requires { ⌜ self .count < 256 ⌝ }
-        ensures { λ r. ⌜ r ≡ begun self owned grouped ⌝ }
-    {
-        Judged::On(Kept {
-            count: self.count + 1,
-            owned,
-            grouped,
-            items: 0,
-        })
-    }
-
-    fn param(self, level: u16) -> Judged
-        ensures { λ r. ⌜ r ≡ judgedParam self level ⌝ }
-    {
-        if 256 <= self.count {
-            return Judged::Passed;
-        }
-        if level != 1 {
-            return self.begin(true, false);
-        }
-        if self.grouped {
-            return self.begin(true, true);
-        }
-        Judged::Lost
-    }
-
-    fn group(self, shift: u16) -> Judged
-        ensures { λ r. ⌜ r ≡ judgedGroup self shift ⌝ }
-    {
-        if 256 <= self.count {
-            return Judged::Passed;
-        }
-        if 7 < shift {
-            return Judged::Lost;
-        }
-        self.begin(false, true)
-    }
-
-    fn item(self, shift: u16) -> Judged
-        ensures { λ r. ⌜ r ≡ judgedItem self shift ⌝ }
-    {
-        if self.owned {
-            if 32 <= self.items {
-                return Judged::Passed;
-            }
-            if 7 < shift {
-                return Judged::Lost;
-            }
-            return Judged::On(Kept {
-                count: self.count,
-                owned: self.owned,
-                grouped: self.grouped,
-                items: self.items + 1,
-            });
-        }
-        Judged::Lost
-    }
-
-    fn judge(self, form: Form) -> Judged
-        ensures { λ r. ⌜ r ≡ judged self form ⌝ }
-    {
-        match form {
-            Form::Param { level } => self.param(level),
-            Form::Group { shift } => self.group(shift),
-            Form::Item { shift } => self.item(shift),
-            Form::Bad => Judged::Wrong,
-        }
-    }
-}
-
 // The verdict on a command text.
 pub fn check_command_text(text: &[u8]) -> Verdict
     ensures { λ r. ⌜ r ≡ verdict (now (text .entry)) ⌝ }
@@ -409,7 +299,7 @@ pub fn check_command_text(text: &[u8]) -> Verdict
         return Verdict::Refused(Refusal::Limit(0));
     }
     let mut place = Place::start();
-    let mut kept = start();
+    let mut kept = command_kept::start();
     while place.at < text.len() {
         let line = place.step(text);
         match kept.judge(read_form(text, line)) {

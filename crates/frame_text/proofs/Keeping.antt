@@ -15,14 +15,15 @@ use Rattle.text.specs.declared.Line.{Line}
 use Rattle.text.specs.declared.Verdict.the-variants.{Accepted, Refused}
 use Rattle.text.proofs.Tests.{alike}
 use Rattle.text.proofs.Judging.{Brief, Outcome, on, passed, astray, wrong, Meets, Checked, checked-long, checked-start, checked-end, checked-on, checked-passed, checked-lost, checked-wrong}
+use Rattle.frame_kept.specs.Kept.{opened, nothing, holds, deepSize, judgedParam, judged}
+use Rattle.frame_kept.specs.declared.Form.{Form}
+use Rattle.frame_kept.specs.declared.Counts.{Counts}
+use Rattle.frame_kept.specs.declared.Kept.{Kept}
+use Rattle.frame_kept.specs.declared.Judged.{Judged}
+use Rattle.frame_kept.specs.declared.Judged.the-variants.{On, Passed, Lost, Wrong}
 use Rattle.frame_text.specs.Form.{Path, Header, Param, Record, frequency, base, header, param, validation, set, entry, form}
 use Rattle.frame_text.specs.Rules.{letter, count, owns, owner, under, holdsParams, parent, inside, isGiven, over, lost, rules, verdict}
-use Rattle.frame_text.specs.Machine.{shape, opened, nothing, holds, deepSize, judgedParam, judged}
-use Rattle.frame_text.specs.declared.Form.{Form}
-use Rattle.frame_text.specs.declared.Counts.{Counts}
-use Rattle.frame_text.specs.declared.Kept.{Kept}
-use Rattle.frame_text.specs.declared.Judged.{Judged}
-use Rattle.frame_text.specs.declared.Judged.the-variants.{On, Passed, Lost, Wrong}
+use Rattle.frame_text.specs.Shape.{shape}
 
 -- ---- what is kept
 pub record Tells (before : List Record) (k : Kept) : Type 0 where

@@ -1,14 +1,14 @@
--- Laws of the frame text: how a line is read, and how it is judged. Assumes nothing.
+-- Laws of the frame text: how a line is read. Assumes nothing.
 use mathlib.Core.Path.{_≡_, refl, sym, ap, _∙_}
-use mathlib.Core.Bool.{Bool, true, false, cond, not, _&&_, _||_}
+use mathlib.Core.Bool.{Bool, true, false, cond, not, _&&_}
 use mathlib.Core.List.{List}
 use mathlib.Core.Option.{none, some}
-use Prim.Native.Nat.{ℕ, _≤_, _<_}
+use Prim.Native.Nat.{ℕ}
 use native.Mathlib.Omega.{arith}
-use lib.Dec.{eqb, leb}
+use lib.Dec.{leb}
 use mir.Syntax.{w8}
 use mir.Val.{Fits}
-use borrow.Author.Tests.{le-leb, lt-leb, eq-eqb, ne-eqb}
+use borrow.Author.Tests.{ne-eqb}
 use Rattle.text.specs.Text.{field, worth, decimal, number, missing}
 use Rattle.text.specs.Place.{kindOf, cells}
 use Rattle.text.specs.declared.Line.{Line}
@@ -16,16 +16,14 @@ use Rattle.text.specs.declared.Number.{Number}
 use Rattle.text.specs.declared.Number.the-variants as number
 use Rattle.text.proofs.Laws.{cells-length, number-most}
 use Rattle.text.proofs.Tests.{and-left, and-right, count-of}
+use Rattle.frame_kept.specs.declared.Form.{Form}
+use Rattle.frame_kept.specs.declared.Form.the-variants.{Frequency, Base, Header, Param, Validation, Set, Entry, Bad}
 use Rattle.frame_text.specs.Form.{Record, either, known, typeOf, flags, names, value, frequencyForm, baseForm, headerForm, paramNumbers, paramWords, paramForm, validationForm, setForm, entryForm, ofType, said, paramSaid, form}
 use Rattle.frame_text.specs.Rules.{isGiven}
-use Rattle.frame_text.specs.Machine.{least, levelOf, tagged, shape, holds, deepSize, judgedFrequency, judgedBase, judgedHeader, judgedParam, judgedValidation, judgedSet, judgedEntry, judged}
-use Rattle.frame_text.specs.declared.Kept.{Kept}
-use Rattle.frame_text.specs.declared.Judged.{Judged}
+use Rattle.frame_text.specs.Shape.{least, levelOf, tagged, shape}
 use Rattle.frame_text.specs.declared.ParamType.{ParamType}
 use Rattle.frame_text.specs.declared.Typed.{Typed}
 use Rattle.frame_text.specs.declared.Typed.the-variants.{Is, Not}
-use Rattle.frame_text.specs.declared.Form.{Form}
-use Rattle.frame_text.specs.declared.Form.the-variants.{Frequency, Base, Header, Param, Validation, Set, Entry, Bad}
 
 -- ---- the names of types
 module _ (r a : Typed) (says : r ≡ a) where
@@ -144,46 +142,3 @@ module _ (fs : List (List ℕ)) (k : ℕ) (kind : k ≡ kindOf fs) where
   kind-none f b h p v d e = rw (← kind, ne-eqb _ _ f, ne-eqb _ _ b, ne-eqb _ _ h, ne-eqb _ _ p, ne-eqb _ _ v, ne-eqb _ _ d, ne-eqb _ _ e)
 
 pub ruleset kind-laws = (kind-frequency, kind-base, kind-header, kind-param, kind-validation, kind-set, kind-entry, kind-none)
-
--- ---- the judgement, by the form
-pub holds-first : (k : Kept) → k .owner ≡ 66 → true ≡ holds k
-unfolding holds
-holds-first k e = rw (eq-eqb (k .owner) 66 e)
-
-pub holds-second : (k : Kept) → (k .owner ≡ 66 → ⊥) → eqb (k .owner) 72 ≡ holds k
-unfolding holds
-holds-second k e = ap (λ (x : Bool). x || eqb (k .owner) 72) (sym (ne-eqb (k .owner) 66 e))
-
-pub deep-not : (level : ℕ) (sized : Bool) → level < 1 → false ≡ deepSize level sized
-unfolding deepSize
-deep-not level sized h = rw (lt-leb 1 level h)
-
-pub deep-is : (level : ℕ) (sized : Bool) → 1 ≤ level → sized ≡ deepSize level sized
-unfolding deepSize
-deep-is level sized h = rw (le-leb 1 level h)
-
-module _ (k : Kept) (f : Form) (r : Judged) where
-  pub judge-frequency : f ≡ Frequency → r ≡ judgedFrequency k → r ≡ judged k f
-  judge-frequency e h = rw e h
-
-  pub judge-base : f ≡ Base → r ≡ judgedBase k → r ≡ judged k f
-  judge-base e h = rw e h
-
-  pub judge-header : f ≡ Header → r ≡ judgedHeader k → r ≡ judged k f
-  judge-header e h = rw e h
-
-  pub judge-param : (level : ℕ) (sized : Bool) → f ≡ Param level sized → r ≡ judgedParam k level sized → r ≡ judged k f
-  judge-param level sized e h = rw e h
-
-  pub judge-validation : f ≡ Validation → r ≡ judgedValidation k → r ≡ judged k f
-  judge-validation e h = rw e h
-
-  pub judge-set : f ≡ Set → r ≡ judgedSet k → r ≡ judged k f
-  judge-set e h = rw e h
-
-  pub judge-entry : f ≡ Entry → r ≡ judgedEntry k → r ≡ judged k f
-  judge-entry e h = rw e h
-
-pub ruleset judge-laws = (judge-frequency, judge-base, judge-header, judge-param, judge-validation, judge-set, judge-entry)
-
-pub ruleset keep-laws = (holds-first, holds-second, deep-not, deep-is)

@@ -48,7 +48,7 @@ other is hex text: a payload on each line, in upper or lower case, with blanks b
 like. # starts a comment that goes on to the end of its line, and empty lines are skipped. A line
 that is no hex text is passed over, unless it comes before any payload: then the file is no capture.
 A payload has at most 65535 bytes. A longer one is refused by 4, with its length, and the others go
-on. The last line of the output is for the first refusal.
+on. The last line of the output is for the first refusal, or failed where a line was passed over.
 ",
     );
     succeed();

@@ -238,7 +238,11 @@ pub fn print_end(name: &[u8], sheet: Sheet) {
             print_summary(sheet);
             outcome::refuse(refusal);
         }
-        Verdict::Passed | Verdict::Unnamed => {
+        Verdict::Passed => {
+            print_summary(sheet);
+            fail(b"tap: not every line is hex text: those that are not were passed over\n");
+        }
+        Verdict::Unnamed => {
             print_summary(sheet);
             fail(b"");
         }

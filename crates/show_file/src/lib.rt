@@ -60,6 +60,10 @@ fn fail_number(name: &[u8], number: u64, frames: u64) {
     io::print_decimal(STDERR_FILENO, number);
     io::write_all(STDERR_FILENO, b" in ");
     io::write_all(STDERR_FILENO, name);
+    if frames == 0 {
+        fail(b", nor any other\n");
+        return;
+    }
     io::write_all(STDERR_FILENO, b": frames go from 1 to ");
     io::print_decimal(STDERR_FILENO, frames);
     fail(b"\n");
