@@ -1,0 +1,10 @@
+-- `command_kept::is_far` meets its contract. Assumes nothing.
+use borrow.Author.Needs.{needs}
+use Rattle.command_kept.proofs.is_far.Statement.{statement}
+use Rattle.command_kept.proofs.is_far.Tie as tie
+
+returns : tie.Need-returns
+returns c = search needs
+
+pub is-far-spec : {M : Type 1} → statement M
+is-far-spec = tie.close (tie.spec returns)
