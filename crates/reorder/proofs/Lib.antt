@@ -1,0 +1,16 @@
+pub mod Moved
+pub mod Parts
+pub mod Places
+pub mod Numbers
+pub mod Sections
+pub mod Follow
+pub mod Answers
+pub mod Foremost
+pub mod Texts
+pub mod Reorder
+pub mod Whole
+pub mod Near
+pub mod Kept
+pub mod Accepted
+pub mod Written
+pub mod Sorted

@@ -1,0 +1,5 @@
+pub mod Moved
+pub mod Blocks
+pub mod Reorder
+pub mod Sorted
+mod Examples
