@@ -78,7 +78,8 @@ not-accepted : (l : Line) (b : List Record) (n : ℕ) → judge rules b n (l ∷
 not-accepted [] b n e = refl
 not-accepted (x ∷ xs) b n e = absurd (let z : _≡_ {A = ℕ} 0 1 = cc in omega arith)
 
-allowed : (b : List Record) (n : ℕ) (l m : Line) (ms : List Line) → judge rules b n (l ∷ m ∷ ms) ≡ Accepted → Allowed rules b (form (fields l)) (λ r. judge rules (r ∷ b) (suc n) (m ∷ ms))
+allowed : (b : List Record) (n : ℕ) (l m : Line) (ms : List Line) → judge rules b n (l ∷ m ∷ ms) ≡ Accepted
+    → Allowed rules b (form (fields l)) (λ r. judge rules (r ∷ b) (suc n) (m ∷ ms))
 allowed b n l m ms e =
     accepted-line rules b n (form (fields l)) (λ r. judge rules (r ∷ b) (suc n) (m ∷ ms))
     (sym (judge-line rules b n l (m ∷ ms) (λ q. let z : _≡_ {A = ℕ} 0 1 = cc in omega arith)) ∙ e)
@@ -114,7 +115,8 @@ more-lines : (ls : List Line) → (ls ++ ([] ∷ [])) ≡ [] → ⊥
 more-lines [] q = let z : _≡_ {A = ℕ} 0 1 = cc in omega arith
 more-lines (l ∷ ls) q = let z : _≡_ {A = ℕ} 0 1 = cc in omega arith
 
-judge-accepts : (ls : List Line) → Every Said ls → (b : List Record) (n : ℕ) → Keeps rules b (recordsOf saysOf ls) → judge rules b n (ls ++ ([] ∷ [])) ≡ Accepted
+judge-accepts : (ls : List Line) → Every Said ls → (b : List Record) (n : ℕ) → Keeps rules b (recordsOf saysOf ls)
+    → judge rules b n (ls ++ ([] ∷ [])) ≡ Accepted
 unfolding saysOf
 judge-accepts [] a b n k = refl
 judge-accepts (l ∷ ls) a b n k =

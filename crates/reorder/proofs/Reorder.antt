@@ -32,13 +32,15 @@ use Rattle.reorder.specs.Moved.{Moved}
 use Rattle.reorder.specs.Blocks.{sectionsOf}
 use Rattle.reorder.specs.Reorder.{Reordered, newHeader, newParam, Follows, renumbered, withNumber, Gives, Refuses, Harmless}
 use Rattle.reorder.proofs.Follow.{onSome, rebase}
-use Rattle.reorder.proofs.Answers.{none-moved, only-first, only-moved, recandidate, answer-same, reheading, retold, told-same, candidatesIn, candidates-moved, candidates-same}
+use Rattle.reorder.proofs.Answers.{none-moved, only-first, only-moved, recandidate, answer-same, reheading, retold, told-same, candidatesIn}
+use Rattle.reorder.proofs.Answers.{candidates-moved, candidates-same}
 use Rattle.reorder.proofs.Foremost.{Rises, candidates-rise, foremost-first, foremost-some}
 use Rattle.reorder.proofs.Accepted.{accepted-after}
 use Rattle.reorder.proofs.Texts.{follows, frequencies-same, sets-same, bases-same, standingFrames, frames-moved, frames-same}
 
 -- ---- one call
-module _ (t d : List ℕ) (region speed : ℕ) (table : List ℕ) (r : Decoded) (table₁ : List ℕ) (w : Within t d) (c : Decodes t d region speed table r table₁) where
+module _ (t d : List ℕ) (region speed : ℕ) (table : List ℕ) (r : Decoded) (table₁ : List ℕ) (w : Within t d)
+    (c : Decodes t d region speed table r table₁) where
   abbrev tells : Told
   tells = toldOf t d region speed (length table)
 
@@ -58,7 +60,8 @@ module _ (t d : List ℕ) (region speed : ℕ) (table : List ℕ) (r : Decoded) 
       record { answer = a; as-it-was = c .rows ∙ (λ i. tableAfter table (e i) (a i)) }
 
 -- an MPDU of fewer than 2 or of more than 2,048 bytes
-module _ (t d : List ℕ) (region speed : ℕ) (table : List ℕ) (r : Decoded) (table₁ : List ℕ) (v : verdict t ≡ Accepted) (c : Decodes t d region speed table r table₁) where
+module _ (t d : List ℕ) (region speed : ℕ) (table : List ℕ) (r : Decoded) (table₁ : List ℕ) (v : verdict t ≡ Accepted)
+    (c : Decodes t d region speed table r table₁) where
   left : (y : Refusal) → r ≡ Refused y → Refuses table y r table₁
   left y a = record { answer = a; as-it-was = c .rows ∙ ap (tableAfter table (toldOf t d region speed (length table))) a }
 
@@ -69,13 +72,15 @@ module _ (t d : List ℕ) (region speed : ℕ) (table : List ℕ) (r : Decoded) 
   too-short l = left (TooShort (length d)) (c .answer ∙ rw (v, le-ltb 2048 (length d) (omega arith), lt-ltb (length d) 2 l) refl)
 
 -- ---- what is told by a definition, for its base header and any candidates
-first-told : (sets : List Set) (d : List ℕ) (most : ℕ) (base : List (P 7)) (cs : List (Candidate 7)) (c : Candidate 7) (fs : List (Field 7)) → First 7 d base cs c fs
+first-told : (sets : List Set) (d : List ℕ) (most : ℕ) (base : List (P 7)) (cs : List (Candidate 7)) (c : Candidate 7) (fs : List (Field 7))
+    → First 7 d base cs c fs
     → length (tableOf 7 d sets fs) ≤ most → ofAnswer sets d most (answer 7 d base cs) ≡ header (headingOf sets d c fs)
 first-told sets d most base cs c fs f l =
     ap (ofAnswer sets d most) (sym (answer-only 7 d base cs (answered c fs) f))
     ∙ ap (λ (b : Bool). cond b (header (headingOf sets d c fs)) (more-rows (length (tableOf 7 d sets fs)))) (le-leb (length (tableOf 7 d sets fs)) most l)
 
-none-told : (sets : List Set) (d : List ℕ) (most : ℕ) (base : List (P 7)) (cs : List (Candidate 7)) → None 7 d base cs → ofAnswer sets d most (answer 7 d base cs) ≡ no-candidate
+none-told : (sets : List Set) (d : List ℕ) (most : ℕ) (base : List (P 7)) (cs : List (Candidate 7)) → None 7 d base cs
+    → ofAnswer sets d most (answer 7 d base cs) ≡ no-candidate
 none-told sets d most base cs n = ap (ofAnswer sets d most) (sym (answer-only 7 d base cs (refused 7) (refl, n)))
 
 first-rebase : (h g : ℕ → ℕ) (key : ℕ) (bs : List Base) → firstBase key (map (rebase h g) bs) ≡ onSome (rebase h g) (firstBase key bs)
@@ -130,7 +135,8 @@ module _ (t t′ : List ℕ) (w : Reordered t t′) (h g : ℕ → ℕ) (f : Fol
       unfolding told
       told-before = ap (ofBase (definition t) d most key) e
 
-      told-after : told (definition t′) d most key ≡ retold h g d (definition t .sets) (ofAnswer (definition t .sets) d most (answer 7 d (trees (b .params)) stands))
+      told-after : told (definition t′) d most key ≡ retold h g d (definition t .sets)
+          (ofAnswer (definition t .sets) d most (answer 7 d (trees (b .params)) stands))
       unfolding told
       told-after =
           ap (ofBase (definition t′) d most key) (base-is (some b) e)
@@ -140,7 +146,8 @@ module _ (t t′ : List ℕ) (w : Reordered t t′) (h g : ℕ → ℕ) (f : Fol
 
   -- ---- two calls
   module _ (d : List ℕ) (table : List ℕ) (w₁ : Within t d) (w₂ : Within t′ d)
-      (r : Decoded) (table₁ : List ℕ) (c₁ : Decodes t d region speed table r table₁) (r′ : Decoded) (table₂ : List ℕ) (c₂ : Decodes t′ d region speed table r′ table₂) where
+      (r : Decoded) (table₁ : List ℕ) (c₁ : Decodes t d region speed table r table₁) (r′ : Decoded) (table₂ : List ℕ)
+      (c₂ : Decodes t′ d region speed table r′ table₂) where
     abbrev most : ℕ
     most = length table / 7
 
@@ -160,14 +167,19 @@ module _ (t t′ : List ℕ) (w : Reordered t t′) (h g : ℕ → ℕ) (f : Fol
         }
 
     module _ (b : Base) (e : firstBase key (definition t .bases) ≡ some b) where
-      first-after : (c : Candidate 7) (fs : List (Field 7)) → First 7 d (trees (b .params)) stands c fs → length (tableOf 7 d (definition t .sets) fs) ≤ most
-          → Gives table (withNumber h (headerOf (right d speed) (headingOf (definition t .sets) d c fs))) (map (renumbered g) (tableOf 7 d (definition t .sets) fs)) r′ table₂
+      first-after : (c : Candidate 7) (fs : List (Field 7)) → First 7 d (trees (b .params)) stands c fs
+          → length (tableOf 7 d (definition t .sets) fs) ≤ most
+          → Gives table (withNumber h (headerOf (right d speed) (headingOf (definition t .sets) d c fs)))
+          (map (renumbered g) (tableOf 7 d (definition t .sets) fs)) r′ table₂
       first-after c fs first l =
-          subst (λ (x : DecodedHeader). Gives table x (map (renumbered g) (tableOf 7 d (definition t .sets) fs)) r′ table₂) (heading-header (headingOf (definition t .sets) d c fs))
+          subst (λ (x : DecodedHeader). Gives table x (map (renumbered g) (tableOf 7 d (definition t .sets) fs)) r′ table₂)
+          (heading-header (headingOf (definition t .sets) d c fs))
           (gives t′ d region speed table r′ table₂ w₂ c₂ (reheading h g d (definition t .sets) (headingOf (definition t .sets) d c fs))
-          (tells-after _ (told-after d most b e ∙ ap (retold h g d (definition t .sets)) (first-told (definition t .sets) d most (trees (b .params)) stands c fs first l))))
+          (tells-after _ (told-after d most b e ∙ ap (retold h g d (definition t .sets))
+          (first-told (definition t .sets) d most (trees (b .params)) stands c fs first l))))
 
-      first-before : (c : Candidate 7) (fs : List (Field 7)) → First 7 d (trees (b .params)) (candidatesOf key (definition t)) c fs → length (tableOf 7 d (definition t .sets) fs) ≤ most
+      first-before : (c : Candidate 7) (fs : List (Field 7)) → First 7 d (trees (b .params)) (candidatesOf key (definition t)) c fs
+          → length (tableOf 7 d (definition t .sets) fs) ≤ most
           → Gives table (headerOf (right d speed) (headingOf (definition t .sets) d c fs)) (tableOf 7 d (definition t .sets) fs) r table₁
       first-before c fs first l =
           gives t d region speed table r table₁ w₁ c₁ (headingOf (definition t .sets) d c fs)
@@ -177,7 +189,8 @@ module _ (t t′ : List ℕ) (w : Reordered t t′) (h g : ℕ → ℕ) (f : Fol
       none-after n =
           told-after d most b e
           ∙ ap (retold h g d (definition t .sets))
-          (none-told (definition t .sets) d most (trees (b .params)) stands (none-moved 7 d (trees (b .params)) (candidatesOf key (definition t)) stands stands-moved n))
+          (none-told (definition t .sets) d most (trees (b .params)) stands
+          (none-moved 7 d (trees (b .params)) (candidatesOf key (definition t)) stands stands-moved n))
 
       none-before : None 7 d (trees (b .params)) (candidatesOf key (definition t)) → told (definition t) d most key ≡ no-candidate
       none-before n = told-before d most b e ∙ none-told (definition t .sets) d most (trees (b .params)) (candidatesOf key (definition t)) n
@@ -197,7 +210,8 @@ module _ (t t′ : List ℕ) (w : Reordered t t′) (h g : ℕ → ℕ) (f : Fol
           );
           one-holds = λ b e c fs o l. (
             first-before b e c fs (only-first 7 d (trees (b .params)) (candidatesOf key (definition t)) c fs o) l,
-            first-after b e c fs (only-first 7 d (trees (b .params)) stands c fs (only-moved 7 d (trees (b .params)) (candidatesOf key (definition t)) stands c fs stands-moved o)) l,
+            first-after b e c fs (only-first 7 d (trees (b .params)) stands c fs
+                (only-moved 7 d (trees (b .params)) (candidatesOf key (definition t)) stands c fs stands-moved o)) l,
           );
           some-hold = λ b e s. foremost-some 7 d (trees (b .params)) h (candidatesOf key (definition t)) stands stands-moved stands-rise s;
           more-hold = λ b e c fs o l.

@@ -55,7 +55,8 @@ module _ {X : Type 0} (before : X → X → Bool) where
   insert-length x [] = refl
   insert-length x (y ∷ ys) = go (before x y) (insert-length x ys)
     where
-      go : (b : Bool) → length (insertBy before x ys) ≡ suc (length ys) → length (cond b (x ∷ y ∷ ys) (y ∷ insertBy before x ys)) ≡ suc (suc (length ys))
+      go : (b : Bool) → length (insertBy before x ys) ≡ suc (length ys)
+          → length (cond b (x ∷ y ∷ ys) (y ∷ insertBy before x ys)) ≡ suc (suc (length ys))
       go true e = refl
       go false e = ap suc e
 
@@ -92,7 +93,8 @@ module _ {X : Type 0} (before : X → X → Bool) where
       where
         go : (b : Bool) → before x y ≡ b → (c : Bool) → test x ≡ c → (e : Bool) → test y ≡ e
             → only test (insertBy before x ys) ≡ cond c (x ∷ only test ys) (only test ys)
-            → only test (cond b (x ∷ y ∷ ys) (y ∷ insertBy before x ys)) ≡ cond c (x ∷ cond e (y ∷ only test ys) (only test ys)) (cond e (y ∷ only test ys) (only test ys))
+            → only test (cond b (x ∷ y ∷ ys) (y ∷ insertBy before x ys))
+            ≡ cond c (x ∷ cond e (y ∷ only test ys) (only test ys)) (cond e (y ∷ only test ys) (only test ys))
         go true p c q e r ih = rw (q, r)
         go false p true q true r ih = absurd (true≢false (sym (alike x y q r) ∙ p))
         go false p true q false r ih = rw r ih
@@ -124,7 +126,8 @@ module _ {X : Type 0} (test : X → Bool) where
   placed-only [] (y ∷ ys) a e = absurd (let z : suc (length ys) ≡ 0 = e in omega arith)
   placed-only (x ∷ xs) [] a e = go (test x) refl e (placed-only xs [] tt)
     where
-      go : (b : Bool) → test x ≡ b → 0 ≡ length (cond b (x ∷ only test xs) (only test xs)) → (0 ≡ length (only test xs) → only test (placed test [] xs) ≡ [])
+      go : (b : Bool) → test x ≡ b → 0 ≡ length (cond b (x ∷ only test xs) (only test xs))
+          → (0 ≡ length (only test xs) → only test (placed test [] xs) ≡ [])
           → only test (x ∷ placed test [] xs) ≡ []
       go true q l ih = absurd (let z : 0 ≡ suc (length (only test xs)) = l in omega arith)
       go false q l ih = rw q (ih l)
@@ -197,7 +200,8 @@ module _ (ss : List (Section Line)) where
       subst (Sorted nameUpTo) (sym blocks-are) (sort-sorted nameUpTo (λ r s. up-to-total (nameOf r) (nameOf s)) (blocks saysOf ss))
 
   -- and those of one name stay as they stood
-  pub namesakes-stay : (name : List ℕ) → only (λ s. same (nameOf s) name) (blocks saysOf (byName ss)) ≡ only (λ s. same (nameOf s) name) (blocks saysOf ss)
+  pub namesakes-stay : (name : List ℕ) → only (λ s. same (nameOf s) name) (blocks saysOf (byName ss))
+      ≡ only (λ s. same (nameOf s) name) (blocks saysOf ss)
   namesakes-stay name =
       ap (only (λ s. same (nameOf s) name)) blocks-are
       ∙ sort-stays nameUpTo (λ s. same (nameOf s) name) (λ r s. up-to-same name (nameOf r) (nameOf s)) (blocks saysOf ss)
@@ -211,7 +215,8 @@ module _ (t : List ℕ) (v : verdict t ≡ Accepted) where
       (subst (Moved (blocks saysOf (sectionsOf t))) (sym (blocks-are (sectionsOf t))) (sort-moved nameUpTo (blocks saysOf (sectionsOf t))))
 
 -- W-213 of the text sorted by name
-pub sorting-harmless : (t : List ℕ) (region speed : ℕ) (d table : List ℕ) → Within t d → (r : Decoded) (table₁ : List ℕ) → Decodes t d region speed table r table₁
+pub sorting-harmless : (t : List ℕ) (region speed : ℕ) (d table : List ℕ) → Within t d → (r : Decoded) (table₁ : List ℕ)
+    → Decodes t d region speed table r table₁
     → (r′ : Decoded) (table₂ : List ℕ) → Decodes (sortedText t) d region speed table r′ table₂
     → Follows (newHeader (byName (sectionsOf t))) (newParam (byName (sectionsOf t))) (byName (sectionsOf t)) (sectionsOf (sortedText t))
     × Harmless t (sortedText t) d region speed table (newHeader (byName (sectionsOf t))) (newParam (byName (sectionsOf t))) r table₁ r′ table₂

@@ -8,13 +8,15 @@ use Rattle.text.specs.Text.{lines}
 use Rattle.text.specs.Print.{Every}
 use Rattle.frame_definition.specs.Definition.{Frame, frequencies, bases, frames, sets, definition}
 use Rattle.reorder.specs.Moved.{Moved}
-use Rattle.reorder.specs.Blocks.{from, Section, tally, untilNext, sections, blocks, linesOf, headerNumbers, paramNumbers, ended, Line, saysOf, sectionsOf}
+use Rattle.reorder.specs.Blocks.{from, Section, tally, untilNext, sections, blocks, linesOf, headerNumbers, paramNumbers, ended, Line, saysOf}
+use Rattle.reorder.specs.Blocks.{sectionsOf}
 use Rattle.reorder.specs.Reorder.{Reordered, newHeader, newParam, Follows}
 use Rattle.reorder.proofs.Moved.{collect, sum, moved-sum}
 use Rattle.reorder.proofs.Parts.{frequencyAt, frameAt, setAt, inSection, frequencies-in, bases-in, frames-in, sets-in, records-of}
 use Rattle.reorder.proofs.Places.{every-moved, sum-moved, frequencies-stay, bases-stay, sets-stay, frames-move}
 use Rattle.reorder.proofs.Numbers.{occurs, occurs-append, occurs-from, from-length, places}
-use Rattle.reorder.proofs.Sections.{Proper, sections-proper, bare, none-before, sections-again, headers-from, params-from, params-all, headerOnce, headers-occur, paramOnce, params-occur, headers-many, params-many}
+use Rattle.reorder.proofs.Sections.{Proper, sections-proper, bare, none-before, sections-again, headers-from, params-from, params-all, headerOnce}
+use Rattle.reorder.proofs.Sections.{headers-occur, paramOnce, params-occur, headers-many, params-many}
 use Rattle.reorder.proofs.Whole.{has-ended}
 use Rattle.reorder.proofs.Follow.{rebase, reframe, AllGo, all-go, frames-go, bases-go, collect-same, frequency-free, set-free}
 
@@ -45,9 +47,11 @@ module _ (t t′ : List ℕ) (w : Reordered t t′) where
   headers-once : (k : ℕ) → occurs k (headerNumbers saysOf Y) ≤ 1
   headers-once k =
       let a : occurs k (headerNumbers saysOf Y) ≡ sum (headerOnce saysOf k) (blocks saysOf Y) = headers-occur saysOf k (blocks saysOf Y) in
-      let b : sum (headerOnce saysOf k) (blocks saysOf X) ≡ sum (headerOnce saysOf k) (blocks saysOf Y) = moved-sum (headerOnce saysOf k) (blocks saysOf X) (blocks saysOf Y) (w .moved) in
+      let b : sum (headerOnce saysOf k) (blocks saysOf X) ≡ sum (headerOnce saysOf k) (blocks saysOf Y) =
+      moved-sum (headerOnce saysOf k) (blocks saysOf X) (blocks saysOf Y) (w .moved) in
       let c : occurs k (headerNumbers saysOf X) ≡ sum (headerOnce saysOf k) (blocks saysOf X) = headers-occur saysOf k (blocks saysOf X) in
-      subst (λ (m : ℕ). m ≤ 1) (sym (a ∙ sym b ∙ sym c ∙ ap (occurs k) (headers-from saysOf (ended (lines t)) 0 0))) (occurs-from k 0 (tally saysOf 0x48 (ended (lines t))))
+      subst (λ (m : ℕ). m ≤ 1) (sym (a ∙ sym b ∙ sym c ∙ ap (occurs k) (headers-from saysOf (ended (lines t)) 0 0)))
+      (occurs-from k 0 (tally saysOf 0x48 (ended (lines t))))
 
   params-once : (k : ℕ) → occurs k (paramNumbers saysOf Y) ≤ 1
   params-once k =
@@ -109,7 +113,8 @@ module _ (t t′ : List ℕ) (w : Reordered t t′) where
         ap (bases 0) (records-of (lines t′))
         ∙ bases-in saysOf (ended (lines t′))
         ∙ bases-go saysOf h g Y Z go
-        ∙ ap (map (rebase h g)) (sym (bases-stay saysOf X Y (w .others)) ∙ sym (bases-in saysOf (ended (lines t))) ∙ sym (ap (bases 0) (records-of (lines t))))
+        ∙ ap (map (rebase h g)) (sym (bases-stay saysOf X Y (w .others)) ∙ sym (bases-in saysOf (ended (lines t)))
+        ∙ sym (ap (bases 0) (records-of (lines t))))
 
     -- the H lines of t as they stand in t′
     abbrev pub standingFrames : List Frame
@@ -117,7 +122,8 @@ module _ (t t′ : List ℕ) (w : Reordered t t′) where
 
     pub frames-moved : Moved (definition t .frames) standingFrames
     frames-moved =
-        subst (λ (z : List Frame). Moved z standingFrames) (sym (ap (frames 0 0) (records-of (lines t)) ∙ frames-in saysOf (ended (lines t)))) (frames-move saysOf X Y (w .moved))
+        subst (λ (z : List Frame). Moved z standingFrames) (sym (ap (frames 0 0) (records-of (lines t)) ∙ frames-in saysOf (ended (lines t))))
+        (frames-move saysOf X Y (w .moved))
 
     pub frames-same : definition t′ .frames ≡ map (reframe h g) standingFrames
     frames-same = ap (frames 0 0) (records-of (lines t′)) ∙ frames-in saysOf (ended (lines t′)) ∙ frames-go saysOf h g Y Z go

@@ -24,7 +24,8 @@ module _ {L : Type 0} (says : L → Option Record) where
       rest = sections says (more 0x48 (says l) h) (more 0x50 (says l) n) ls
 
       go : (b : Bool) → untilNext says ls ++ linesOf says rest ≡ ls
-          → cond b [] (l ∷ untilNext says ls) ++ linesOf says (cond b (record { headers = h; params = n; owner = l; under = untilNext says ls } ∷ rest) rest) ≡ l ∷ ls
+          → cond b [] (l ∷ untilNext says ls) ++ linesOf says
+          (cond b (record { headers = h; params = n; owner = l; under = untilNext says ls } ∷ rest) rest) ≡ l ∷ ls
       go true ih = ap (λ (z : List L). l ∷ z) ih
       go false ih = ap (λ (z : List L). l ∷ z) ih
 
@@ -46,7 +47,8 @@ none-first (l ∷ m ∷ ms) n e =
     let a : Allowed rules [] (form (fields l)) (λ r. judge rules (r ∷ []) (suc n) (m ∷ ms)) =
     accepted-line rules [] n (form (fields l)) (λ r. judge rules (r ∷ []) (suc n) (m ∷ ms))
     (sym (judge-line rules [] n l (m ∷ ms) (λ q. let z : _≡_ {A = ℕ} 0 1 = cc in omega arith)) ∙ e) in
-    ap (λ (b : Bool). cond b [] (l ∷ untilNext saysOf (ended (m ∷ ms)))) (ap (λ (x : Option Record). ownsMore x) (a .is) ∙ first-owns (a .said) (a .owned))
+    ap (λ (b : Bool). cond b [] (l ∷ untilNext saysOf (ended (m ∷ ms))))
+    (ap (λ (x : Option Record). ownsMore x) (a .is) ∙ first-owns (a .said) (a .owned))
 
 pub whole : (t : List ℕ) → verdict t ≡ Accepted → ended (lines t) ≡ linesOf saysOf (sectionsOf t)
 whole t v =

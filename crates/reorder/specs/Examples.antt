@@ -52,7 +52,8 @@ abbrev PY : Line
 PY = 80 ∷ 9 ∷ 48 ∷ 9 ∷ 48 ∷ 9 ∷ 52 ∷ 9 ∷ 72 ∷ 69 ∷ 88 ∷ 9 ∷ 84 ∷ 119 ∷ 111 ∷ 9 ∷ 45 ∷ 9 ∷ 45 ∷ 9 ∷ 45 ∷ []
 
 abbrev PY2 : Line
-PY2 = 80 ∷ 9 ∷ 48 ∷ 9 ∷ 49 ∷ 9 ∷ 52 ∷ 9 ∷ 72 ∷ 69 ∷ 88 ∷ 9 ∷ 84 ∷ 104 ∷ 114 ∷ 101 ∷ 101 ∷ 9 ∷ 45 ∷ 9 ∷ 45 ∷ 9 ∷ 45 ∷ []
+PY2 = 80 ∷ 9 ∷ 48 ∷ 9 ∷ 49 ∷ 9 ∷ 52 ∷ 9 ∷ 72 ∷ 69 ∷ 88 ∷ 9 ∷ 84 ∷ 104 ∷ 114 ∷ 101 ∷ 101 ∷ 9 ∷ 45 ∷ 9 ∷ 45 ∷ 9 ∷ 45
+    ∷ []
 
 abbrev VY : Line
 VY = 86 ∷ 9 ∷ 72 ∷ 111 ∷ 109 ∷ 101 ∷ 9 ∷ 50 ∷ []
@@ -106,20 +107,44 @@ unfolding saysOf
 sorted = refl
 
 -- 02 C3: y, with other numbers
-y-before : rowsOf (toldOf before (0x02 ∷ 0xC3 ∷ []) 0 0 30) ≡ (0 ∷ 0 ∷ 0 ∷ 8 ∷ 1 ∷ 2 ∷ 0 ∷ []) ∷ (2 ∷ 0 ∷ 8 ∷ 4 ∷ 1 ∷ 12 ∷ 0 ∷ []) ∷ (3 ∷ 0 ∷ 12 ∷ 4 ∷ 1 ∷ 3 ∷ 0 ∷ []) ∷ []
-unfolding told answer reading baseRead listed exists packed innerAt ordered insert widthOf valueAt inFirst through firstNamed valueOf bitsAt trees kids ofLevel tableFrom innerTable numbersOf rowsEach
+y-before : rowsOf (toldOf before (0x02 ∷ 0xC3 ∷ []) 0 0 30)
+    ≡ (0 ∷ 0 ∷ 0 ∷ 8 ∷ 1 ∷ 2 ∷ 0 ∷ []) ∷ (2 ∷ 0 ∷ 8 ∷ 4 ∷ 1 ∷ 12 ∷ 0 ∷ [])
+    ∷ (3 ∷ 0 ∷ 12 ∷ 4 ∷ 1 ∷ 3 ∷ 0 ∷ []) ∷ []
+unfolding told answer reading baseRead listed exists packed innerAt ordered insert widthOf valueAt inFirst through firstNamed valueOf bitsAt trees kids
+    ofLevel tableFrom innerTable numbersOf rowsEach
 y-before = refl
 
-y-after : rowsOf (toldOf after (0x02 ∷ 0xC3 ∷ []) 0 0 30) ≡ (0 ∷ 0 ∷ 0 ∷ 8 ∷ 1 ∷ 2 ∷ 0 ∷ []) ∷ (1 ∷ 0 ∷ 8 ∷ 4 ∷ 1 ∷ 12 ∷ 0 ∷ []) ∷ (2 ∷ 0 ∷ 12 ∷ 4 ∷ 1 ∷ 3 ∷ 0 ∷ []) ∷ []
-unfolding told answer reading baseRead listed exists packed innerAt ordered insert widthOf valueAt inFirst through firstNamed valueOf bitsAt trees kids ofLevel tableFrom innerTable numbersOf rowsEach
+y-after : rowsOf (toldOf after (0x02 ∷ 0xC3 ∷ []) 0 0 30)
+    ≡ (0 ∷ 0 ∷ 0 ∷ 8 ∷ 1 ∷ 2 ∷ 0 ∷ []) ∷ (1 ∷ 0 ∷ 8 ∷ 4 ∷ 1 ∷ 12 ∷ 0 ∷ [])
+    ∷ (2 ∷ 0 ∷ 12 ∷ 4 ∷ 1 ∷ 3 ∷ 0 ∷ []) ∷ []
+unfolding told answer reading baseRead listed exists packed innerAt ordered insert widthOf valueAt inFirst through firstNamed valueOf bitsAt trees kids
+    ofLevel tableFrom innerTable numbersOf rowsEach
 y-after = refl
 
 header-before : decoded before (0x02 ∷ 0xC3 ∷ []) 0 0 30
-    ≡ Header (record { number = 1; key = 8; flags = record { ack = false; routed = false; multicast = false; error = true }; payload = 2; right = false; rows = 3 })
-unfolding told answer reading baseRead listed exists packed innerAt ordered insert widthOf valueAt inFirst through firstNamed valueOf bitsAt trees kids ofLevel tableFrom innerTable numbersOf rowsEach right plus
+    ≡ Header (record {
+      number = 1;
+      key = 8;
+      flags = record { ack = false; routed = false; multicast = false; error = true };
+      payload = 2;
+      right =
+          false;
+      rows = 3;
+    })
+unfolding told answer reading baseRead listed exists packed innerAt ordered insert widthOf valueAt inFirst through firstNamed valueOf bitsAt trees kids
+    ofLevel tableFrom innerTable numbersOf rowsEach right plus
 header-before = refl
 
 header-after : decoded after (0x02 ∷ 0xC3 ∷ []) 0 0 30
-    ≡ Header (record { number = 0; key = 8; flags = record { ack = false; routed = false; multicast = false; error = true }; payload = 2; right = false; rows = 3 })
-unfolding told answer reading baseRead listed exists packed innerAt ordered insert widthOf valueAt inFirst through firstNamed valueOf bitsAt trees kids ofLevel tableFrom innerTable numbersOf rowsEach right plus
+    ≡ Header (record {
+      number = 0;
+      key = 8;
+      flags = record { ack = false; routed = false; multicast = false; error = true };
+      payload = 2;
+      right =
+          false;
+      rows = 3;
+    })
+unfolding told answer reading baseRead listed exists packed innerAt ordered insert widthOf valueAt inFirst through firstNamed valueOf bitsAt trees kids
+    ofLevel tableFrom innerTable numbersOf rowsEach right plus
 header-after = refl

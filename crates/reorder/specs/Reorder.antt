@@ -87,12 +87,14 @@ pub record Refuses (table : List ℕ) (y : Refusal) (r : Decoded) (table′ : Li
   pub as-it-was : table′ ≡ table
 
 -- c holds, by the reading fs, and of the candidates of cs that hold none has a lower number after the move
-pub record Foremost (n : ℕ) (d : List ℕ) (base : List (P n)) (cs : List (Candidate n)) (h : ℕ → ℕ) (c : Candidate n) (fs : List (Field n)) : Type 0 where
+pub record Foremost (n : ℕ) (d : List ℕ) (base : List (P n)) (cs : List (Candidate n)) (h : ℕ → ℕ) (c : Candidate n)
+    (fs : List (Field n)) : Type 0 where
   pub front : List (Candidate n)
   pub back : List (Candidate n)
   pub place : cs ≡ front ++ c ∷ back
   pub holds : Holds n d base c fs
-  pub least : (xs : List (Candidate n)) (b : Candidate n) (ys : List (Candidate n)) → cs ≡ xs ++ b ∷ ys → (gs : List (Field n)) → Holds n d base b gs → h (c .number) ≤ h (b .number)
+  pub least : (xs : List (Candidate n)) (b : Candidate n) (ys : List (Candidate n)) → cs ≡ xs ++ b ∷ ys → (gs : List (Field n))
+      → Holds n d base b gs → h (c .number) ≤ h (b .number)
 
 -- ---- by the text t: the base header, the candidates, and for a candidate and its reading the answer and its rows
 module _ (t : List ℕ) where
@@ -109,21 +111,27 @@ module _ (t : List ℕ) where
   rowsBy d fs = tableOf 7 d (definition t .sets) fs
 
 -- r and table₁ are what a call answers and leaves by t, r′ and table₂ what it answers and leaves by t′, for the same MPDU, region, speed and table
-pub record Harmless (t t′ d : List ℕ) (region speed : ℕ) (table : List ℕ) (h g : ℕ → ℕ) (r : Decoded) (table₁ : List ℕ) (r′ : Decoded) (table₂ : List ℕ) : Type 0 where
+pub record Harmless (t t′ d : List ℕ) (region speed : ℕ) (table : List ℕ) (h g : ℕ → ℕ) (r : Decoded) (table₁ : List ℕ) (r′ : Decoded)
+    (table₂ : List ℕ) : Type 0 where
   -- the base key is the same
   pub key-same : keyOf t′ region speed ≡ keyOf t region speed
   -- no base header has it, before and after
-  pub no-base : baseBy t region speed ≡ none → Refuses table (NoBase (keyOf t region speed)) r table₁ × Refuses table (NoBase (keyOf t region speed)) r′ table₂
+  pub no-base : baseBy t region speed ≡ none → Refuses table (NoBase (keyOf t region speed)) r table₁
+      × Refuses table (NoBase (keyOf t region speed)) r′ table₂
   -- where no candidate holds, none holds after the move, and both calls say so
   pub none-holds : (b : Base) → baseBy t region speed ≡ some b → None 7 d (trees (b .params)) (candidatesBy t region speed)
       → NoneHolds (definition t′) d (keyOf t′ region speed) × Refuses table NoCandidate r table₁ × Refuses table NoCandidate r′ table₂
   -- where exactly one holds, both calls answer it: key, flags, payload offset, checksum result and rows are the same but for the numbers of H and P lines
-  pub one-holds : (b : Base) → baseBy t region speed ≡ some b → (c : Candidate 7) (fs : List (Field 7)) → Only 7 d (trees (b .params)) (candidatesBy t region speed) c fs
+  pub one-holds : (b : Base) → baseBy t region speed ≡ some b → (c : Candidate 7) (fs : List (Field 7))
+      → Only 7 d (trees (b .params)) (candidatesBy t region speed) c fs
       → length (rowsBy t d fs) ≤ length table / 7
-      → Gives table (headerBy t d speed c fs) (rowsBy t d fs) r table₁ × Gives table (withNumber h (headerBy t d speed c fs)) (map (renumbered g) (rowsBy t d fs)) r′ table₂
+      → Gives table (headerBy t d speed c fs) (rowsBy t d fs) r table₁
+      × Gives table (withNumber h (headerBy t d speed c fs)) (map (renumbered g) (rowsBy t d fs)) r′ table₂
   -- where some hold, one of them stands first after the move
   pub some-hold : (b : Base) → baseBy t region speed ≡ some b → Some 7 d (trees (b .params)) (candidatesBy t region speed)
       → (c : Candidate 7) × (fs : List (Field 7)) × Foremost 7 d (trees (b .params)) (candidatesBy t region speed) h c fs
   -- and that one is the answer after it
-  pub more-hold : (b : Base) → baseBy t region speed ≡ some b → (c : Candidate 7) (fs : List (Field 7)) → Foremost 7 d (trees (b .params)) (candidatesBy t region speed) h c fs
-      → length (rowsBy t d fs) ≤ length table / 7 → Gives table (withNumber h (headerBy t d speed c fs)) (map (renumbered g) (rowsBy t d fs)) r′ table₂
+  pub more-hold : (b : Base) → baseBy t region speed ≡ some b → (c : Candidate 7) (fs : List (Field 7))
+      → Foremost 7 d (trees (b .params)) (candidatesBy t region speed) h c fs
+      → length (rowsBy t d fs) ≤ length table / 7 → Gives table (withNumber h (headerBy t d speed c fs))
+      (map (renumbered g) (rowsBy t d fs)) r′ table₂
