@@ -5,9 +5,8 @@ use Prim.Native.Nat.{ℕ, zero, suc, _+_, _-_, _*_, _/_, _%_, _^_, _≤_}
 use native.Mathlib.Nat.{add-mul, mul-assoc, zero-add}
 use native.Mathlib.Omega.{arith}
 use lib.Dec.{T}
-use lib.ListN.{length, take, drop, length-take, length-drop}
+use lib.ListN.{length}
 use lib.Pow.{pow-add, high, low, areBytes}
-use lib.Seq.{getD-take, getD-drop}
 use Rattle.laws.proofs.Bytes.{byte-first, bytes-rest}
 use Rattle.bits.specs.Bits.{bitsAt, numberAfter}
 use Rattle.bits.proofs.BitLaws.{bits-lt, bits-join, bits-piece}
@@ -46,25 +45,3 @@ bits-digits d s w h l =
     let j : numberAfter 0 d ≡ (bitsAt d 0 s * 2 ^ w + bitsAt d s w) * 2 ^ c + bitsAt d (s + w) c =
     sym (bits-number d h) ∙ ap (bitsAt d 0) e ∙ bits-join d 0 (s + w) c ∙ (rw (bits-join d 0 s w, zero-add (s + w), zero-add s)) in
     sym (rw (j, high (bitsAt d 0 s * 2 ^ w + bitsAt d s w) c (bits-lt d (s + w) c)) (low (bitsAt d 0 s) w (bits-lt d s w)))
-
--- ---- a part of the bytes
-bits-take : (d : List ℕ) (n s w : ℕ) → s + w ≤ n * 8 → bitsAt (take n d) s w ≡ bitsAt d s w
-unfolding bitsAt
-bits-take d n s zero h = refl
-bits-take d n s (suc w) h = rw (bits-take d n s w (omega arith), getD-take n d ((s + w) / 8) 0 (omega arith))
-
-bits-drop : (d : List ℕ) (i s w : ℕ) → bitsAt (drop i d) s w ≡ bitsAt d (i * 8 + s) w
-unfolding bitsAt
-bits-drop d i s zero = refl
-bits-drop d i s (suc w) =
-    let a : (i * 8 + s + w) / 8 ≡ i + (s + w) / 8 = omega arith in
-    let b : (i * 8 + s + w) % 8 ≡ (s + w) % 8 = omega arith in
-    rw (bits-drop d i s w, getD-drop i d ((s + w) / 8) 0, a, b)
-
--- the bits of n whole bytes from the byte i on form the number of those bytes
-pub bits-bytes : (d : List ℕ) (i n : ℕ) → T (areBytes (take n (drop i d))) → i + n ≤ length d → bitsAt d (i * 8) (n * 8) ≡ numberAfter 0 (take n (drop i d))
-bits-bytes d i n h l =
-    let e : length (take n (drop i d)) ≡ n = simp (length-take, length-drop) (omega arith) in
-    let z : i * 8 + 0 ≡ i * 8 = omega arith in
-    let y : 8 * n ≡ n * 8 = omega arith in
-    sym (rw (e, y, bits-take (drop i d) n 0 (n * 8) (omega arith), bits-drop d i 0 (n * 8), z) at (sym (bits-number (take n (drop i d)) h)))
