@@ -26,6 +26,7 @@ pub fn sample(seed: u64, kinds: &str) -> Result<Vec<Vec<u8>>, String> {
     requests.extend(about_lengths());
     requests.extend(about_headers());
     requests.extend(about_commands());
+    requests.extend(about_bits());
     lines.extend(requests.iter().map(Request::line));
 
     let generator = Generator::new(seed, kinds)?;
@@ -358,4 +359,16 @@ pub fn entries_254_and_255() -> (&'static str, Vec<u8>) {
         Q|0|VARIANT|c|-|-\nR|254|255|-|0\nQ|0|BYTE|d|255|1\nQ|0|BYTE|e|254|1\n";
     let payload = [&[0x20, 0x01, 253][..], &[0xA5; 253], &[2, 0xAA, 0xBB, 1, 2, 3]].concat();
     (text, payload)
+}
+
+/// Every width at every place of two bytes, the two widths next to those that are read too; and
+/// every width up to the last bit, and a bit past it. The first bytes tell the places apart: from
+/// four bits on, no two places have the same number.
+fn about_bits() -> Vec<Request> {
+    let bytes = [0x09, 0xAF, 0x17, 0xC3, 0x5A, 0x81, 0xE6, 0x2D, 0x94, 0x7B];
+    let end = 8 * bytes.len() as u64;
+    let within = (0..16).flat_map(|place| (0..=65).map(move |width| (place, width)));
+    let at_the_end = (1..=64).flat_map(|width| [(end - width, width), (end - width + 1, width)]);
+    let asked = within.chain(at_the_end);
+    asked.map(|(place, width)| Request::Bits { place, width, bytes: bytes.to_vec() }).collect()
 }
