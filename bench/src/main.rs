@@ -1,7 +1,8 @@
 //! What the library's calls cost, each against its measure, in one process, and the stack they take:
-//! `parse_payload`, `decode_header` and `decode_params` against zniff-rs, the checks of definition
-//! texts against a C loop.
+//! `parse_payload`, `read_bits`, `decode_header` and `decode_params` against zniff-rs, the checks of
+//! definition texts against a C loop.
 
+mod bits;
 mod check;
 mod clock;
 mod commands;
@@ -18,6 +19,7 @@ mod texts;
 fn main() {
     parse::run();
     check::run();
+    bits::run();
     headers::run();
     params::run();
 }

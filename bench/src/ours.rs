@@ -16,6 +16,13 @@ pub struct TapAnswer {
     value: u64,
 }
 
+/// `is_read` says whether there is a value.
+#[repr(C)]
+pub struct TapBits {
+    is_read: bool,
+    value: u64,
+}
+
 unsafe extern "C" {
     /// A slice passes as its pointer and its length.
     pub fn tap_parse_payload(
@@ -26,6 +33,7 @@ unsafe extern "C" {
     ) -> TapAnswer;
     pub fn tap_check_frame_text(text: *const u8, text_length: usize) -> TapAnswer;
     pub fn tap_check_command_text(text: *const u8, text_length: usize) -> TapAnswer;
+    fn tap_read_bits(data: *const u8, data_length: usize, start: u64, width: u64) -> TapBits;
 }
 
 /// Where a walk over loaded lines ends, and its rows.
@@ -213,6 +221,14 @@ pub fn verdict(check: Check, text: &[u8]) -> (u64, u64) {
     // SAFETY: the slice is valid for the call, which only reads it.
     let answer = unsafe { check(text.as_ptr(), text.len()) };
     (answer.refusal, answer.value)
+}
+
+/// The number that so many bits form from the bit `start` on, if they are read.
+#[inline]
+pub fn read_bits(data: &[u8], start: u64, width: u64) -> Option<u64> {
+    // SAFETY: the slice is valid for the call, which only reads it.
+    let bits = unsafe { tap_read_bits(data.as_ptr(), data.len(), start, width) };
+    bits.is_read.then_some(bits.value)
 }
 
 /// A table for any payload.
