@@ -1,5 +1,5 @@
-"""A reader of frames and commands by a definition text, written from document 01 ('Definition text', 'Lawful reading of a
-header', 'Parameters of a command') and from nothing else: what the proved code is held to here.
+"""A reader of frames and commands by a definition text, written from document 01 (the rules T, H and C of docs/RULES.md) and
+from nothing else: what the proved code is held to here.
 
 It takes texts that the check accepts and does not judge them. It is written to be read, not to be fast.
 """
@@ -131,12 +131,12 @@ class Header:
 
 
 def in_order(fields):
-    """'Fields go by order, ties by text.'"""
+    """H4: by order, and fields of one order as they stand."""
     return sorted(fields, key=lambda p: p.order)
 
 
 def find(fields, path):
-    """'A path takes the first field of each name, level by level.'"""
+    """H6: the field that a path means, or None."""
     for name in path.split("."):
         found = next((f for f in fields if f.p.name == name), None)
         if found is None:
@@ -151,7 +151,7 @@ def value_at(fields, path):
 
 
 def bits_at(mpdu, start, bits):
-    """'Its value is its bits, first bit highest, if the width is 64 or less.'"""
+    """H5: the value of some bits, or None."""
     if bits > 64:
         return None
     whole = int.from_bytes(mpdu, "big")
@@ -159,7 +159,7 @@ def bits_at(mpdu, start, bits):
 
 
 def symbol_of(text, p, value):
-    """'Its symbol is the first E with that key in the first D of that name.'"""
+    """H17: the symbol's number in its set and its word, or None."""
     if p.defines is None or value is None:
         return None
     entries = next((entries for name, entries in text.sets if name == p.defines), [])
@@ -167,7 +167,7 @@ def symbol_of(text, p, value):
 
 
 def read_field(text, mpdu, p, start, earlier):
-    """The field at a bit place if it exists there, else None; earlier: the fields already read in the same list."""
+    """H8, H9: the field at a bit place if it exists there, else None; earlier: what was read of its list."""
     if p.optional is not None and not value_at(earlier, p.optional):
         return None
     bits = p.bits if p.size is None else 8 * (value_at(earlier, p.size) or 0)
@@ -178,8 +178,7 @@ def read_field(text, mpdu, p, start, earlier):
 
 
 def read_inner(text, mpdu, parent, end, room):
-    """'Take them while the declared widths so far fit the parent; each starts at the parent's end less that sum; one that
-    doesn't exist is skipped but keeps its room.'"""
+    """H12: the fields inside a parent, which ends at a bit and has room for so many."""
     fields = []
     taken = 0
     for p in in_order(parent.inner):
@@ -193,7 +192,7 @@ def read_inner(text, mpdu, parent, end, room):
 
 
 def read_list(text, mpdu, ps, fields):
-    """Outer fields, one after the other; the first that doesn't exist ends the list. fields: those read before."""
+    """H10: outer fields, one after the other; the first that doesn't exist ends the list. fields: those read before."""
     fields = list(fields)
     for p in in_order(ps):
         at = fields[-1].start + fields[-1].bits if fields else 0
@@ -211,7 +210,7 @@ def base_key(text, region, speed):
 
 
 def candidates(text, key):
-    """'Every H with that base key and at least one V, in text order.'"""
+    """H3: the candidates for a base key."""
     return [h for h in text.headers if h.base == key and h.validations]
 
 
@@ -259,8 +258,7 @@ def checksum_is_right(mpdu, speed):
 
 
 def header_rows(header):
-    """'P number, parent row + 1 or 0, start bit, bits, 1 if valued, value or 0, E number within its set + 1 or 0. Parent
-    before children.'"""
+    """H18, H19: the rows of a header."""
     rows = []
 
     def lay(fields, parent):
@@ -414,7 +412,7 @@ def read_parameter(q, payload, at, entries):
 
 
 def repetitions(g, payload, at, entries):
-    """'A group repeats as counted, or while bytes remain; a repetition that takes nothing ends it.'"""
+    """C13 to C15: the repetitions of a group at a place of the payload."""
     endless = g.offset == END or g.mask == 0
     count = ((low_byte(entries, g.offset) or 0) & g.mask) >> g.shift
     out = []
@@ -453,8 +451,7 @@ def decode_command(text, payload):
 
 
 def command_rows(entries):
-    """'Kind, line, parent row + 1 or 0, start, end, 1 if valued, value or 0, line of the first K, number of a repetition.
-    Parent before children.'"""
+    """C16, C17: the rows of a command."""
     rows = []
 
     def lay(entries, parent):

@@ -1,21 +1,22 @@
 /* libtap: the tap's calls for C. Build the library with `rt staticlib libtap`.
  *
  * Every call takes every input, ends, keeps to the memory that it is lent, and allocates nothing. A slice passes as its pointer and
- * its length: of bytes in bytes, of a table in numbers. A refusal writes to no table; an answer leaves rows past its last untouched.
+ * its length: of bytes in bytes, of a table in numbers. A refusal writes to no table; an answer writes nothing behind its rows.
  *
- * Refusals, by document 01's numbers, and the `value` that each carries:
+ * Refusals (docs/RULES.md, R1 to R9), and the `value` that each carries:
  *
  *   0  none
- *   1  a line of the text isn't one of the forms                                    the line, from 1
- *   2  a limit of the text is passed                                                the line; 0 for the text's length
- *   3  a line of the text has no owner or parent; P with a size path below
- *      level 0; shift over 7                                                        the line
- *   4  payload over 65,535 bytes; record body, MPDU or command payload over 2,048   the length
- *   5  MPDU or command payload under 2 bytes                                        the length
- *   6  no base header with the key                                                  the key
+ *   1  a line of the text has none of the forms                                     its number, from 1
+ *   2  the text passes a limit                                                      the line; 0 if it is too long
+ *   3  a line of the text is out of place: no owner, no parent, a size path
+ *      below level 0, a shift over 7                                                its number
+ *   4  too long: a payload over 65,535 bytes; a body, an MPDU or a command
+ *      over 2,048                                                                   its length
+ *   5  too short: an MPDU or a command of 0 or 1 byte                               its length
+ *   6  no B has the base key that is sought                                         that key
  *   7  no candidate holds                                                           0
- *   8  the answer has more rows than the table                                      the rows needed
- *   9  a record is not a frame                                                      0
+ *   8  the answer does not fit into the table                                       how many rows it has
+ *   9  a body is not a frame                                                        0
  */
 #ifndef LIBTAP_H
 #define LIBTAP_H
@@ -78,8 +79,8 @@ TapPart tap_record_body(const uint8_t *payload, size_t payload_length, size_t k)
 /* The frame of a record's body. Refuses by 4 and 9. */
 TapFrame tap_parse_record(const uint8_t *body, size_t body_length);
 
-/* Every frame of a payload, a row each: direction, region, channel, rate, RSSI byte, beam count or 0, MPDU start in the payload, MPDU
- * length. Answers how many rows. Refuses by 4 and 8. */
+/* Every frame of a payload, a row each: direction, region, channel, rate; the RSSI's byte; how often the beam stands there, or 0; where the
+ * MPDU starts in the payload, and its length (F17). Answers how many rows. Refuses by 4 and 8. */
 TapAnswer tap_parse_payload(const uint8_t *payload, size_t payload_length, uint64_t *table, size_t table_length);
 
 /* ---- definition texts ---- */
@@ -96,8 +97,8 @@ typedef struct {
     uint64_t value;
 } TapBits;
 
-/* The H's number among the text's H lines, from 0, and its key; the payload starts at byte `payload` of the MPDU; how many rows there
- * are; whether the checksum or CRC is right; the H's flags. */
+/* Which of the text's H lines it is, from 0, and its key; the payload starts at byte `payload` of the MPDU; how many rows there are;
+ * whether the checksum or CRC is right; the H's flags. */
 typedef struct {
     uint64_t refusal;
     uint64_t value;
@@ -118,9 +119,9 @@ TapBits tap_read_bits(const uint8_t *data, size_t data_length, uint64_t start, u
 /* Is the MPDU's last byte its checksum (speeds 0 and 1), or are its last two its CRC (above)? */
 bool tap_check_crc(const uint8_t *mpdu, size_t mpdu_length, uint64_t speed);
 
-/* The header of an MPDU, a row for each field, depth first: the P's number among the text's P lines from 0, parent row + 1 or 0, start
- * bit, bits, 1 if it has a value, the value or 0, the symbol's E within its set, from 0, + 1 or 0. `region` is an F's code, which a PTI
- * region number isn't. Refuses by 1 to 8. At most 128 rows. */
+/* The header of an MPDU, a row for each field, depth first: which of the text's P lines it is, from 0; its parent's row + 1, or 0; its first
+ * bit; how many bits; 1 if it has a value, else 0; the value, or 0; which E of its set is its symbol, + 1, or 0 (H18). `region` is the code
+ * of an F line, not a PTI region. Refuses by 1 to 8. At most 128 rows. */
 TapHeader tap_decode_header(const uint8_t *text, size_t text_length, const uint8_t *mpdu, size_t mpdu_length, uint64_t region,
                             uint64_t speed, uint64_t *rows, size_t rows_length);
 
@@ -134,9 +135,9 @@ typedef struct {
     uint64_t remainder;
 } TapParams;
 
-/* The parameters of a command, whose payload starts with its class and command bytes, a row each: kind (0 parameter, 1 bit child, 2
- * repetition of a group), line in the text from 1, parent row + 1 or 0, start and end in the payload, 1 if it has a value, the value or
- * 0, line of the K that names it or 0, number of a repetition from 0. Refuses by 1 to 5 and 8. */
+/* The parameters of a command, whose payload starts with its class and command bytes, a row each: 0 for a parameter, 1 for some bits of one,
+ * 2 for a repetition of a group; its line in the text, from 1; its parent's row + 1, or 0; where it starts and ends in the payload; 1 if it
+ * has a value, else 0; the value, or 0; the line of the K that names it, or 0; which repetition it is, from 0 (C16). Refuses by 1 to 5 and 8. */
 TapParams tap_decode_params(const uint8_t *text, size_t text_length, const uint8_t *payload, size_t payload_length, uint64_t *rows,
                             size_t rows_length);
 

@@ -1,5 +1,5 @@
 """Frame layouts of ITU-T G.9959 (two channels, three channels) and of Z-Wave Long Range, and PTI records around them, as
-document 01, 'Records and frames', has them. What makes a byte stands here by itself, in no definition text: samples/make and
+F1 to F12 of docs/RULES.md have them. What makes a byte stands here by itself, in no definition text: samples/make and
 definitions/test both take frames from here.
 """
 
@@ -30,7 +30,7 @@ def xor(data):
 
 
 def crc(data):
-    """Two bytes, polynomial 0x1021 from 0x1D0F, high byte first: the checksum at 100 kbit/s and of Long Range."""
+    """The CRC of two bytes (H22 of docs/RULES.md): at 100 kbit/s and for Long Range."""
     check = 0x1D0F
     for byte in data:
         check ^= byte << 8

@@ -8,8 +8,8 @@ const WIDTH: usize = 8;
 /// More rows than a payload can need: a record with a frame has 22 bytes or more.
 const ROWS: usize = 3_000;
 
-/// `refusal` is 0 and `value` how many rows there are, or `refusal` is document 01's number and
-/// `value` what it carries.
+/// `refusal` is 0 and `value` how many rows there are, or `refusal` is one of R1 to R9 of
+/// docs/RULES.md and `value` what it carries.
 #[repr(C)]
 pub struct TapAnswer {
     refusal: u64,
@@ -215,7 +215,7 @@ impl Asked<'_> {
 /// A check of definition texts.
 pub type Check = unsafe extern "C" fn(*const u8, usize) -> TapAnswer;
 
-/// What the check says of a text: 0 and 0, or document 01's number and the line.
+/// What the check says of a text: 0 and 0, or the refusal's number and the line.
 #[inline]
 pub fn verdict(check: Check, text: &[u8]) -> (u64, u64) {
     // SAFETY: the slice is valid for the call, which only reads it.

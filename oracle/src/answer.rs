@@ -1,4 +1,4 @@
-//! The answer to each request: what the Rust says, and document 01's refusals around it.
+//! The answer to each request: what the Rust says, and the refusals of docs/RULES.md around it.
 
 use std::fmt::Write;
 
@@ -17,7 +17,7 @@ use crate::{reading, source};
 /// An answer, without its 0x0A.
 pub struct Answer {
     pub line: String,
-    /// The Rust has none, since a number on its way passes 64 bits: this is document 01's.
+    /// The Rust has none, since a number on its way passes 64 bits: this is the second reading's.
     pub is_past_the_rust: bool,
 }
 
@@ -64,7 +64,7 @@ fn within(limit: usize, bytes: &[u8]) -> Result<(), Refusal> {
     if length <= limit { Ok(()) } else { Err(Refusal { number: 4, carried: length }) }
 }
 
-/// "Other arguments give 0": among them those that the Rust's `u8` cannot hold.
+/// F13: 0 for what the lists do not have, and so for what the Rust's `u8` cannot hold.
 fn rate(channel: u64, region: u64) -> String {
     let rate = match (u8::try_from(channel), u8::try_from(region)) {
         (Ok(channel), Ok(region)) => pti::speed_for(channel, region),

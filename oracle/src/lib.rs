@@ -3,7 +3,7 @@
 //! the two programs over them.
 //!
 //! A new request word has four places: [`request`] (its form), [`answer`] (what the Rust says),
-//! [`generate::KINDS`] (how it is drawn) and, where the document has examples, `examples.txt`.
+//! [`generate::KINDS`] (how it is drawn) and, where the rules have examples, `examples.txt`.
 
 pub mod answer;
 pub mod compare;

@@ -1,4 +1,4 @@
-//! Document 01's limits, which the Rust does not have, and the replay program's own.
+//! The limits of T33 and R4 (docs/RULES.md), which the Rust does not have, and the replay program's.
 
 /// The longest payload that is not refused by 4.
 pub const PAYLOAD: usize = 65_535;

@@ -1,4 +1,4 @@
-//! Refusals by document 01's numbers.
+//! Refusals: R1 to R9 of docs/RULES.md.
 
 use std::fmt::{self, Display};
 

@@ -1,18 +1,16 @@
-//! Answers that have rows, as document 01 numbers them.
+//! Answers that have rows, as H18 and C16 of docs/RULES.md number them.
 
 use std::fmt::{self, Display};
 
 use crate::refusal::Refusal;
 
-/// P number, parent row + 1 or 0, start bit, bits, 1 if valued, value or 0, E number + 1 or 0.
+/// H18: the numbers of a field's row.
 pub type HeaderRow = [u64; 7];
 
-/// Kind, line, parent row + 1 or 0, start, end, 1 if valued, value or 0, line of a K or 0, number
-/// of a repetition.
+/// C16: the numbers of a row.
 pub type CommandRow = [u64; 9];
 
-/// "The H's number among the H lines from 0, key, flags, payload offset, checksum result, row
-/// count", and the rows.
+/// H20: the answer, with its rows.
 #[derive(Debug, Clone, PartialEq, Eq)]
 pub struct Header {
     pub number: usize,
@@ -24,7 +22,7 @@ pub struct Header {
     pub rows: Vec<HeaderRow>,
 }
 
-/// "Row count, remainder's start in the payload", and the rows.
+/// C18: the answer, with its rows.
 #[derive(Debug, Clone, PartialEq, Eq)]
 pub struct Command {
     pub remainder: usize,
@@ -54,7 +52,7 @@ fn write_rows<const N: usize>(f: &mut fmt::Formatter<'_>, rows: &[[u64; N]]) -> 
     rows.iter().flatten().try_for_each(|number| write!(f, " {number}"))
 }
 
-/// Refusal 8: "the right answer has more rows than the table".
+/// R8: the answer does not fit into the table.
 pub fn within_table<const N: usize>(rows: &[[u64; N]], cap: u64) -> Result<(), Refusal> {
     let needed = rows.len();
     if needed as u64 <= cap { Ok(()) } else { Err(Refusal { number: 8, carried: needed }) }

@@ -1,4 +1,4 @@
-//! The reader of definition texts: what it reads, and what it owes to document 01 for every text.
+//! The reader of definition texts: what it reads, and what it owes to the rules for every text.
 //! Single texts and their answers are in ../vectors, to which `oracle/test` holds it as well.
 
 use oracle::definition::command::{

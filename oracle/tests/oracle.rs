@@ -57,7 +57,7 @@ fn limits_are_where_the_document_has_them() {
     }
 }
 
-/// "2,048 bytes taken, 2,049 refused", of an MPDU and of a command's payload, after the text.
+/// E13, of an MPDU and of a command's payload, after the text.
 #[test]
 fn limits_of_the_walks_are_where_the_document_has_them() {
     let header = |text: &str, length: usize| {

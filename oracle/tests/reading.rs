@@ -13,7 +13,8 @@ fn the_rust_answers_as_the_second_reading() {
     assert!(agree(&Generator::new(2, "header,command").unwrap(), 100_000));
 }
 
-/// "Demand 2's domain: .. no size product or bit sum past 64 bits": elsewhere the Rust answers.
+/// Demand 2's domain ends where a size or a bit place does not fit into 64 bits: elsewhere the Rust
+/// answers.
 #[test]
 fn the_rust_has_no_answer_where_a_size_passes_64_bits() {
     let generator = Generator::new(3, "header").unwrap();

@@ -1,4 +1,4 @@
--- Document 01, "Examples": Q BYTE, Q VARIANT with R 0, 7, shift 0, not ascii; payload 20 01 02 AA BB CC.
+-- E11 (docs/RULES.md), refusals by the same text, and a group.
 use mathlib.Core.Path.{_≡_, refl}
 use mathlib.Core.List.{List, [], _∷_}
 use Prim.Native.Nat.{ℕ}
@@ -22,12 +22,12 @@ payload = 0x20 ∷ 0x01 ∷ 0x02 ∷ 0xAA ∷ 0xBB ∷ 0xCC ∷ []
 abbrev pub lent : List ℕ
 lent = 9 ∷ 9 ∷ 9 ∷ 9 ∷ 9 ∷ 9 ∷ 9 ∷ 9 ∷ 9 ∷ 9 ∷ 9 ∷ 9 ∷ 9 ∷ 9 ∷ 9 ∷ 9 ∷ 9 ∷ 9 ∷ 9 ∷ 9 ∷ []
 
--- by a table of 20 numbers: two rows, "remainder CC"
+-- E11: by a table of 20 numbers
 pub starred : answerOf text payload 20 ≡ Rows 2 (record { 0 = 5 })
 unfolding answerOf answerBy within walk outer sizeOf paramRows paramEntry bigEndian bitRows
 starred = refl
 
--- "value 2 at 2..3, field at 3..5"; the two numbers behind the rows are as they were
+-- E11: the two rows; the two numbers behind them are as they were
 pub starred-rows : tableAfter (definition text) payload lent (answerOf text payload 20)
     ≡ 0 ∷ 1 ∷ 0 ∷ 2 ∷ 3 ∷ 1 ∷ 2 ∷ 0 ∷ 0
     ∷ 0 ∷ 2 ∷ 0 ∷ 3 ∷ 5 ∷ 1 ∷ 0xAABB ∷ 0 ∷ 0

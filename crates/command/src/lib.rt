@@ -1,4 +1,4 @@
-// The parameters of a command, by a definition text: document 01, "Parameters of a command". Counterpart of command_class/decode.rs, whose
+// The parameters of a command, by a definition text: C1 to C19 of docs/RULES.md. Counterpart of command_class/decode.rs, whose
 // calls are all to be had here.
 // The definition is loaded once (crate `command_schema`). One walker reads a list of Qs and Gs over the body, writes the rows for which there is
 // room in its part of the table, and counts all. Where the table may be too small it is run first over an empty part, so that nothing is written before

@@ -1,4 +1,4 @@
--- The definition that an accepted command text stands for, as plain data; document 01, "Parameters of a command", says what is looked for in it.
+-- T32 (docs/RULES.md): the definition that an accepted command text stands for, as plain data; and what C12 looks for in it.
 use Prim.Native.Nat.{ℕ, suc}
 use mathlib.Core.Bool.{Bool, true, false, cond}
 use mathlib.Core.List.{List, [], _∷_}
@@ -34,11 +34,11 @@ numbered n (r ∷ rs) = record { line = n; says = r } ∷ numbered (suc n) rs
 abbrev pub ends : Item → Bool
 ends i = begins (i .says)
 
--- "under a Q, before the next Q or G"
+-- T32: the items of a Q, if these lines follow it
 abbrev pub under : List Item → List Item
 under is = listed ends (λ i. true) is
 
--- "later level 1 Qs are its members, until a level 0 Q or a G"
+-- T32: the members of a G, if these lines follow it
 abbrev pub membersAt : ℕ → List Record → List Parameter
 membersAt n [] = []
 membersAt n (param q ∷ rs) = cond (eqb (q .level) 1) (record { line = n; says = q; items = under (numbered (suc n) rs) } ∷ membersAt (suc n) rs) []
@@ -64,7 +64,7 @@ entriesAt n (fieldEnum b ∷ rs) = entriesAt (suc n) rs
 entriesAt n (const value name ∷ rs) = entriesAt (suc n) rs
 entriesAt n (bitmask length ∷ rs) = entriesAt (suc n) rs
 
--- what a command text defines: its Qs and Gs, in text order
+-- T32: what a command text defines, its Qs and Gs, in text order
 abbrev pub definition : List ℕ → List Entry
 definition t = entriesAt 1 (records form (lines t))
 
@@ -94,7 +94,7 @@ isConst v (fieldEnum b) = false
 isConst v (const value name) = eqb value v
 isConst v (bitmask length) = false
 
--- "line of the first K whose value is .. or 0"
+-- C12: the line of the first K of this value, or 0
 abbrev pub firstConst : ℕ → List Item → ℕ
 firstConst v [] = 0
 firstConst v (i ∷ is) = cond (isConst v (i .says)) (i .line) (firstConst v is)

@@ -1,4 +1,4 @@
--- Document 01, "Limits", said of all the records of a text.
+-- T34 (docs/RULES.md): the limits of T33, said of all the records of a text.
 use Prim.Native.Nat.{_≤_}
 use mathlib.Core.List.{List, [], _∷_}
 use mathlib.Core.Bool.{true}
@@ -6,12 +6,12 @@ use mathlib.Core.Path.{_≡_}
 use Rattle.command_text.specs.Form.{Record}
 use Rattle.command_text.specs.Rules.{begins, count, items}
 
--- "32 lines under a Q": so for each Q, and for each G, which owns none
+-- T33: what stands under each Q, and under each G, which owns none
 abbrev pub FewUnderEach : List Record → Type 0
 FewUnderEach [] = Unit {0}
 FewUnderEach (r ∷ rs) = (begins r ≡ true → items rs ≤ 32) × FewUnderEach rs
 
--- "256 Q and G together"
+-- T34: no limit is passed
 pub record WithinLimits (rs : List Record) : Type 0 where
   pub lines : count rs ≤ 256
   pub under : FewUnderEach rs

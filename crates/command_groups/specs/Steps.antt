@@ -1,4 +1,4 @@
--- What the functions of the walk answer, over the document's definitions. The table t becomes t′, from row k on.
+-- What the functions of the walk answer, over the definitions of the rules. The table t becomes t′, from row k on.
 use mathlib.Core.Bool.{true, false}
 use mathlib.Core.Path.{_≡_}
 use mathlib.Core.List.{List, _∷_}

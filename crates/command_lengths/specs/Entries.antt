@@ -1,4 +1,4 @@
--- Document 01, "Parameters of a command": the entries already answered, and what an offset finds among them.
+-- C2 (docs/RULES.md): the entries answered so far, and what an offset finds among them.
 use Prim.Native.Nat.{ℕ}
 use mathlib.Core.Bool.{cond}
 use mathlib.Core.List.{List, map}
@@ -8,7 +8,7 @@ use lib.ListN.{getD}
 use Rattle.command_lengths.specs.declared.Earlier.{Earlier}
 use Rattle.command_lengths.specs.declared.Earlier.the-variants.{Value, NoValue, NoEntry}
 
--- "An offset counts entries already answered, in the same list." Offsets are 0 to 255.
+-- C2: the entry that an offset of 0 to 255 means
 abbrev pub entryAt : List Earlier → ℕ → Earlier
 entryAt es k = cond (ltb k 256) (getD es k NoEntry) NoEntry
 

@@ -1,4 +1,4 @@
--- Document 01, "Parameters of a command": a Q that exists: its value, its row, its bit children.
+-- C1, C10 to C12 and C16 (docs/RULES.md): a Q that exists: its value, its row, its bit children.
 use mathlib.Core.Bool.{cond, _&&_}
 use mathlib.Core.List.{List, [], _∷_}
 use mathlib.Core.Option.{Option, none, some}
@@ -17,7 +17,7 @@ use Rattle.command_rows.specs.declared.Row.{Row}
 use Rattle.command_param.specs.declared.Uint.{Uint}
 use Rattle.command_param.specs.declared.Uint.the-variants.{Is, Not}
 
--- "Body is the payload after two bytes; rows count from the payload's start."
+-- C1: a place of the body, counted from the payload's first byte
 abbrev pub inPayload : ℕ → ℕ
 inPayload at = 2 + at
 
@@ -28,11 +28,11 @@ unfoldable pub bigEndian : ℕ → List ℕ → ℕ
 bigEndian v [] = v
 bigEndian v (b ∷ bs) = bigEndian (v * 256 + b) bs
 
--- "Value: big-endian, for 1 to 8 bytes."
+-- C10: the value of bytes, if they have one
 abbrev pub valueOf : List ℕ → Uint
 valueOf bs = cond (leb 1 (length bs) && leb (length bs) 8) (Is (bigEndian 0 bs)) Not
 
--- "1 if valued, value or 0"
+-- C16: numbers 5 and 6 of a row
 abbrev pub valued : Uint → ℕ
 valued (Is v) = 1
 valued Not = 0
@@ -41,19 +41,19 @@ abbrev pub orZero : Uint → ℕ
 orZero (Is v) = v
 orZero Not = 0
 
--- "line of the first K whose value is the low byte (CONST, its first A and first R not ascii) or 0"
+-- C12: the line of the K that names the value, or 0
 abbrev pub constLine : Field → Uint → ℕ
 constLine q (Is v) = cond (q .named) (firstConst (v % 256) (q .items)) 0
 constLine q Not = 0
 
--- the entry that it is for those after it
+-- C2: the entry that it is for those after it
 abbrev pub entryOf : Uint → Earlier
 entryOf (Is v) = Value (v % 256)
 entryOf Not = NoValue
 
 -- ---- bit children
 
--- "T is 1 if the byte meets the mask, else 0; S and U are the byte masked, then shifted right."
+-- C11: the value of a T, S or U line on the byte b
 abbrev pub bitValue : ℕ → Record → Option ℕ
 bitValue b (param q) = none
 bitValue b (group g) = none
@@ -65,6 +65,7 @@ bitValue b (fieldEnum f) = some (masked b (f .mask) (record { 0 = f .shift }))
 bitValue b (const value name) = none
 bitValue b (bitmask length) = none
 
+-- C16: the row of a bit child
 abbrev pub bitRow : ℕ → ℕ → ℕ → ℕ → Row
 bitRow line parent start v =
     record { kind = 1; line = line; parent = parent; start = start; end = start + 1; valued = 1; value = v; named = 0; number = 0 }
@@ -74,18 +75,18 @@ abbrev pub bitOnto : ℕ → ℕ → ℕ → Option ℕ → List Row → List Ro
 bitOnto line parent start none rs = rs
 bitOnto line parent start (some v) rs = bitRow line parent start v ∷ rs
 
--- the rows of the byte b, which stands at `start`
+-- C11: the rows of the byte b, which stands at `start`
 unfoldable pub bitRows : ℕ → ℕ → ℕ → List Item → List Row
 bitRows b parent start [] = []
 bitRows b parent start (i ∷ is) = bitOnto (i .line) parent start (bitValue b (i .says)) (bitRows b parent start is)
 
--- "A Q of length 1 has its T, S and U lines as children in text order, all on that byte."
+-- C11: the bit children of a Q that takes the bytes bs
 abbrev pub childRows : Field → ℕ → ℕ → List ℕ → List Row
 childRows q parent start bs = cond (eqb (length bs) 1) (bitRows (getD bs 0 0) parent start (q .items)) []
 
 -- ---- rows
 
--- the row of a Q that takes the bytes bs
+-- C16: the row of a Q that takes the bytes bs
 abbrev pub rowOf : Field → ℕ → ℕ → List ℕ → Row
 rowOf q parent start bs =
     record {
@@ -108,7 +109,7 @@ bytesAt body at n = take n (drop at body)
 abbrev pub sizeAt : List ℕ → Field → List Earlier → ℕ → Size
 sizeAt body q es at = sizeOf (q .offset) (q .mask) (q .rule) es (length body - at)
 
--- "Parent before children": the rows of a Q whose own is row n, and which takes `size` bytes at a place of the body
+-- C17: the rows of a Q whose own is row n, and which takes `size` bytes at a place of the body
 unfoldable pub paramRows : List ℕ → Field → ℕ → ℕ → ℕ → ℕ → List Row
 paramRows body q at size n parent =
     rowOf q parent (inPayload at) (bytesAt body at size) ∷ childRows q (n + 1) (inPayload at) (bytesAt body at size)

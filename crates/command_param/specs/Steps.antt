@@ -1,4 +1,4 @@
--- What the functions answer that read a Q, over the document's definitions. The table t becomes t′, from row k on.
+-- What the functions answer that read a Q, over the definitions of the rules. The table t becomes t′, from row k on.
 use mathlib.Core.Bool.{cond}
 use mathlib.Core.Path.{_≡_}
 use mathlib.Core.List.{List}

@@ -1,4 +1,4 @@
--- Document 01, "Parameters of a command": the rows of a command's table.
+-- C16 (docs/RULES.md): the rows of a command's table.
 use mathlib.Core.Path.{_≡_}
 use mathlib.Core.List.{List, _∷_, [], map}
 use Prim.Native.Nat.{ℕ}
@@ -11,8 +11,7 @@ use Rattle.command_rows.specs.declared.Row.{Row}
 abbrev pub width : ℕ
 width = 9
 
--- "kind (0 parameter, 1 bit child, 2 repetition), line number in the text from 1 (..), parent row + 1 or 0, start, end, 1 if valued, value or 0, line of
--- the first K (..) or 0, number of a repetition from 0, else 0"
+-- C16: the nine numbers, in their order
 abbrev pub numbers : Row → List ℕ
 numbers r = r .kind ∷ r .line ∷ r .parent ∷ r .start ∷ r .end ∷ r .valued ∷ r .value ∷ r .named ∷ r .number ∷ []
 
@@ -20,7 +19,7 @@ numbers r = r .kind ∷ r .line ∷ r .parent ∷ r .start ∷ r .end ∷ r .val
 unfoldable pub written : List ℕ → ℕ → List Row → List ℕ
 written t k rs = puts width t k (map numbers rs)
 
--- the table whose first rows are these, and behind them what stood there
+-- R12: the table whose first rows are these, and behind them what stood there
 unfoldable pub table : List ℕ → List Row → List ℕ
 table t rs = laid t (map numbers rs)
 

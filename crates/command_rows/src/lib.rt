@@ -1,4 +1,4 @@
-// Rows of a command's table: document 01, "Parameters of a command". A function that writes rows is lent the table from its first row on, and
+// Rows of a command's table: C16 of docs/RULES.md. A function that writes rows is lent the table from its first row on, and
 // hands on the rest as a part; what has no room in its part is counted and not written.
 ghost use mathlib.Core.Path.{_≡_};
 ghost use mathlib.Core.List.{[], _∷_};
@@ -11,7 +11,7 @@ pub const WIDTH: usize = 9;
 pub struct Row {
     // 0 parameter, 1 bit child, 2 repetition.
     pub kind: u64,
-    // Its line in the text, from 1; a repetition's is its G's.
+    // Its line in the text, the first being 1. Of a repetition it is the G's.
     pub line: u64,
     // Parent row + 1, or 0.
     pub parent: u64,

@@ -1,4 +1,4 @@
--- Document 01, "Parameters of a command": what the walk looks at in a Q, with its first M, A and R resolved.
+-- C4 to C6 and C12 (docs/RULES.md): what the walk looks at in a Q, with its first M, A and R resolved.
 use Prim.Native.Nat.{ℕ}
 use mathlib.Core.Bool.{Bool, true, false, cond, not, _&&_, _||_}
 use mathlib.Core.List.{List, [], _∷_}
@@ -60,24 +60,23 @@ asBitmask (bitmask length) = some length
 
 -- ---- what a Q's own lines say of its length
 
--- "ARRAY its A, else the rest"
+-- C4: by the first A
 abbrev pub arrayRule : Option (ℕ × Bool) → Rule
 arrayRule none = Open
 arrayRule (some a) = Fixed (a .0)
 
--- "the first R: offset 255 or mask 0 .. or no R means the rest; else the entry's low byte .., masked and shifted"
+-- C6: by the first R
 abbrev pub variantRule : Option Size → Rule
 variantRule none = Open
 variantRule (some s) = cond (eqb (s .offset) 255 || eqb (s .mask) 0) Open (Counted (s .offset) (s .mask) (record { 0 = s .shift }))
 
--- "the first M's length; else the first R": a first M without length hands over too
+-- C5: by the first M; one without a length hands over to R, as none does
 abbrev pub variableRule : Option (Option ℕ) → Option Size → Rule
 variableRule none r = variantRule r
 variableRule (some none) r = variantRule r
 variableRule (some (some n)) r = Fixed n
 
--- "BYTE, STRUCT_BYTE, CONST, MARKER 1; WORD 2; BIT_24 3; DWORD 4; ARRAY its A, else the rest. VARIANT, BITMASK, MULTI_ARRAY: the first M's
--- length; else the first R"
+-- C4: by the type
 abbrev pub ruleOf : ParamType → Option (Option ℕ) → Option (ℕ × Bool) → Option Size → Rule
 ruleOf Byte m a r = Fixed 1
 ruleOf StructByte m a r = Fixed 1
@@ -114,7 +113,7 @@ isConst Variant = false
 isConst Bitmask = false
 isConst MultiArray = false
 
--- "CONST, its first A and first R not ascii"
+-- C12: is the value named by a K
 abbrev pub isNamed : ParamType → Option (ℕ × Bool) → Option Size → Bool
 isNamed type a r = isConst type && (not (arrayAscii a) && not (variantAscii r))
 

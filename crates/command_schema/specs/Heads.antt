@@ -33,7 +33,7 @@ heads (i ∷ is) = onto (i .line) (i .says) is (heads is)
 abbrev pub headsOf : List ℕ → List Head
 headsOf t = heads (numbered 1 (records form (lines t)))
 
--- "later level 1 Qs are its members, until a level 0 Q or a G"
+-- T32: the members of a G, if these heads follow it
 unfoldable pub membersOf : List Head → List Parameter
 membersOf [] = []
 membersOf (isQ q ∷ hs) = cond (eqb (q .says .level) 1) (q ∷ membersOf hs) []

@@ -41,7 +41,7 @@ abbrev pub countBits : List Item → ℕ
 countBits [] = 0
 countBits (i ∷ is) = cond (isBits (i .says)) (suc (countBits is)) (countBits is)
 
--- "32 lines under a Q": so at most 32 T, S and U lines
+-- T33: a Q has at most 32 items, so at most 32 T, S and U lines
 abbrev pub Small : Parameter → Type 0
 Small q = countBits (q .items) ≤ 32
 

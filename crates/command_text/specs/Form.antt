@@ -1,4 +1,4 @@
--- Document 01, "Definition text", command text: the nine forms, and the record that a line of each says.
+-- T21 to T31 (docs/RULES.md): the nine forms of a command text, and the record that a line of each says.
 use Prim.Native.Nat.{ℕ}
 use mathlib.Core.Bool.{Bool, true, false, cond, _&&_}
 use mathlib.Core.List.{List, [], _∷_}
@@ -60,15 +60,15 @@ value l = worth 0 l
 abbrev pub given : List ℕ → Option ℕ
 given l = cond (missing l) none (some (value l))
 
--- "A missing shift is 0"
+-- T31: the shift that a field says, 0 where it is missing
 abbrev pub shiftOf : List ℕ → ℕ
 shiftOf l = cond (missing l) 0 (value l)
 
--- "ascii 0/1"
+-- T23, T24: ascii is 1
 abbrev pub asciiOf : List ℕ → Bool
 asciiOf l = eqb (value l) 1
 
--- "Types, here and below, are spelled as the source's XML names": those of one byte, BYTE, STRUCT_BYTE, CONST, MARKER
+-- T30: the types of one byte, BYTE, STRUCT_BYTE, CONST, MARKER
 abbrev pub byteType : List ℕ → Typed
 byteType l =
     cond (same l (0x42 ∷ 0x59 ∷ 0x54 ∷ 0x45 ∷ [])) (Is Byte)
@@ -76,14 +76,14 @@ byteType l =
     (cond (same l (0x43 ∷ 0x4f ∷ 0x4e ∷ 0x53 ∷ 0x54 ∷ [])) (Is Const)
     (cond (same l (0x4d ∷ 0x41 ∷ 0x52 ∷ 0x4b ∷ 0x45 ∷ 0x52 ∷ [])) (Is Marker) Not)))
 
--- those of two to four bytes: WORD, BIT_24, DWORD
+-- T30: those of two to four bytes, WORD, BIT_24, DWORD
 abbrev pub wordType : List ℕ → Typed
 wordType l =
     cond (same l (0x57 ∷ 0x4f ∷ 0x52 ∷ 0x44 ∷ [])) (Is Word)
     (cond (same l (0x42 ∷ 0x49 ∷ 0x54 ∷ 0x5f ∷ 0x32 ∷ 0x34 ∷ [])) (Is Bit24)
     (cond (same l (0x44 ∷ 0x57 ∷ 0x4f ∷ 0x52 ∷ 0x44 ∷ [])) (Is Dword) Not))
 
--- the others: ARRAY, VARIANT, BITMASK, MULTI_ARRAY
+-- T30: the others, ARRAY, VARIANT, BITMASK, MULTI_ARRAY
 abbrev pub openType : List ℕ → Typed
 openType l =
     cond (same l (0x41 ∷ 0x52 ∷ 0x52 ∷ 0x41 ∷ 0x59 ∷ [])) (Is Array)
@@ -96,6 +96,7 @@ abbrev pub either : Typed → Typed → Typed
 either (Is type) other = Is type
 either Not other = other
 
+-- T30: the type of a Q
 abbrev pub typeOf : List ℕ → Typed
 typeOf l = either (byteType l) (either (wordType l) (openType l))
 
@@ -103,7 +104,7 @@ abbrev pub known : Typed → Bool
 known (Is type) = true
 known Not = false
 
--- ---- the forms, by their fields: field 0 is the kind; "These are 0 to 255"
+-- ---- the forms, by their fields: field 0 is the kind
 
 abbrev pub paramWords : List (List ℕ) → Bool
 paramWords fs = upTo 1 (field 1 fs) && (known (typeOf (field 2 fs)) && name (field 3 fs))
@@ -111,43 +112,43 @@ paramWords fs = upTo 1 (field 1 fs) && (known (typeOf (field 2 fs)) && name (fie
 abbrev pub paramCondition : List (List ℕ) → Bool
 paramCondition fs = optionalUpTo 255 (field 4 fs) && optionalUpTo 255 (field 5 fs)
 
--- "Q, level 0 or 1, type, name, optional offset ?, optional mask ?"
+-- T21: level, type and name, then the condition's offset and mask
 abbrev pub paramFields : List (List ℕ) → Bool
 paramFields fs = paramWords fs && paramCondition fs
 
 abbrev pub paramForm : List (List ℕ) → Bool
 paramForm fs = eqb (length fs) 6 && paramFields fs
 
--- "G, name, offset, mask, shift"
+-- T22: name, then three numbers
 abbrev pub groupFields : List (List ℕ) → Bool
 groupFields fs = name (field 1 fs) && (upTo 255 (field 2 fs) && (upTo 255 (field 3 fs) && upTo 255 (field 4 fs)))
 
 abbrev pub groupForm : List (List ℕ) → Bool
 groupForm fs = eqb (length fs) 5 && groupFields fs
 
--- "R, offset, mask, shift ?, ascii 0/1"
+-- T23: offset, mask and shift, then ascii
 abbrev pub variantFields : List (List ℕ) → Bool
 variantFields fs = upTo 255 (field 1 fs) && (upTo 255 (field 2 fs) && (optionalUpTo 255 (field 3 fs) && upTo 1 (field 4 fs)))
 
 abbrev pub variantForm : List (List ℕ) → Bool
 variantForm fs = eqb (length fs) 5 && variantFields fs
 
--- "A, length, ascii"
+-- T24: length and ascii
 abbrev pub arrayForm : List (List ℕ) → Bool
 arrayForm fs = eqb (length fs) 3 && (upTo 255 (field 1 fs) && upTo 1 (field 2 fs))
 
--- "T, mask, name (bit flag)"; "K, value, name (const)"
+-- T25, T28: a number and a name
 abbrev pub namedForm : List (List ℕ) → Bool
 namedForm fs = eqb (length fs) 3 && (upTo 255 (field 1 fs) && name (field 2 fs))
 
--- "S, mask, shift ?, name (bit field); U, the same (field enum)"
+-- T26, T27: mask and shift, then a name
 abbrev pub bitsFields : List (List ℕ) → Bool
 bitsFields fs = upTo 255 (field 1 fs) && (optionalUpTo 255 (field 2 fs) && name (field 3 fs))
 
 abbrev pub bitsForm : List (List ℕ) → Bool
 bitsForm fs = eqb (length fs) 4 && bitsFields fs
 
--- "M, length ? (bitmask)"
+-- T29: a length, or none
 abbrev pub bitmaskForm : List (List ℕ) → Bool
 bitmaskForm fs = eqb (length fs) 2 && optionalUpTo 255 (field 1 fs)
 

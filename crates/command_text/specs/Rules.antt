@@ -1,4 +1,4 @@
--- Document 01, "Definition text" and "Refusal numbers": limits and owners of the command text.
+-- T31 to T33 (docs/RULES.md): limits and owners of the command text.
 -- `before` are the records of the lines before, the latest first.
 use Prim.Native.Nat.{ℕ, suc}
 use mathlib.Core.Bool.{Bool, true, false, cond, not, _&&_, _||_}
@@ -31,7 +31,7 @@ abbrev pub items : List Record → ℕ
 items [] = 0
 items (r ∷ rs) = cond (begins r) 0 (suc (items rs))
 
--- "under a Q, before the next Q or G": is the last Q or G a Q
+-- T32: may an item stand here: is the last Q or G a Q
 abbrev pub owned : List Record → Bool
 owned [] = false
 owned (param q ∷ rs) = true
@@ -44,7 +44,7 @@ owned (fieldEnum b ∷ rs) = owned rs
 owned (const value name ∷ rs) = owned rs
 owned (bitmask length ∷ rs) = owned rs
 
--- "later level 1 Qs are its members, until a level 0 Q or a G": is there a G that a level 1 Q would be a member of
+-- T32: is there a G that a level 1 Q would be a member of
 abbrev pub grouped : List Record → Bool
 grouped [] = false
 grouped (param q ∷ rs) = cond (eqb (q .level) 1) (grouped rs) false
@@ -81,11 +81,11 @@ member (fieldEnum b) = false
 member (const value name) = false
 member (bitmask length) = false
 
--- "256 Q and G together, 32 lines under a Q": is one passed by this record. An item line without owner is under nothing
+-- T33: is a limit passed by this record. An item without owner is under nothing
 abbrev pub over : List Record → Record → Bool
 over before r = cond (begins r) (leb 256 (count before)) (owned before && leb 32 (items before))
 
--- "level 1 Q or an item line with no owner or parent; .. shift over 7"
+-- R3, T31, T32: has this record no Q or no G that it needs, or a shift over 7
 abbrev pub lost : List Record → Record → Bool
 lost before r = cond (begins r) (member r && not (grouped before)) (not (owned before)) || ltb 7 (shift r)
 

@@ -1,4 +1,4 @@
--- "While bytes remain" is at most once a byte: a higher limit gives the same. Assumes nothing.
+-- C13: a group that goes on as long as something is left repeats at most once a byte; a higher limit gives the same. Assumes nothing.
 use mathlib.Core.Path.{_≡_, refl, sym}
 use mathlib.Core.Bool.{Bool, true, false, cond}
 use Prim.Native.Nat.{ℕ, zero, suc, _+_, _-_, _≤_, _<_}

@@ -1,4 +1,4 @@
--- What holds of the rows of every answered command: each byte stands in one outer row or in the remainder, and each row lies where its parent does.
+-- C19 (docs/RULES.md): each byte of an answered command stands in one outer row or in the remainder, and each row lies where its parent does.
 use mathlib.Core.Bool.{cond}
 use mathlib.Core.Path.{_≡_}
 use mathlib.Core.List.{List, [], _∷_}
@@ -37,12 +37,12 @@ Inside zero r cs = OnByte r cs
 Inside (suc zero) r cs = cs ≡ []
 Inside (suc (suc k)) r cs = AllParams cs × Follow (r .start) cs (r .end)
 
--- "Parent before children": in rows of which the first is row n, each has its parent before it, and the rows behind it that have it as parent lie in it
+-- C17, C19: in rows of which the first is row n, each has its parent before it, and the rows behind it that have it as parent lie in it
 unfoldable pub Placed : ℕ → List Row → Type 0
 Placed n [] = Unit {0}
 Placed n (r ∷ rs) = (r .parent ≤ n) × Inside (r .kind) r (childrenOf (n + 1) rs) × Placed (n + 1) rs
 
--- demand 3: the outer rows follow one another from the body's start to the remainder, and their bytes and the remainder add up to the body
+-- C19, demand 3: the outer rows follow one another from the body's start to the remainder, and all bytes add up
 pub record Adds (size : ℕ) (rows : List Row) (remainder : ℕ) : Type 0 where
   pub follow : Follow 2 (childrenOf 0 rows) remainder
   pub sum : bytes (childrenOf 0 rows) + (size - remainder) ≡ size - 2

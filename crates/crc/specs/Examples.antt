@@ -1,4 +1,4 @@
--- Checksums worked out elsewhere. (Document 01's own examples are in crate `examples`.)
+-- Checksums worked out elsewhere. (E6 to E8 of docs/RULES.md are in crate `examples`.)
 use mathlib.Core.Path.{_≡_, refl}
 use mathlib.Core.Bool.{true}
 use mathlib.Core.List.{[], _∷_}

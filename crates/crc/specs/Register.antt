@@ -1,4 +1,4 @@
--- The shift register of ITU-T G.9959, which the code goes by: after a message it holds its CRC (register-crc of proofs/Register).
+-- H22 (docs/RULES.md): the shift register of ITU-T G.9959, which the code goes by: after a message it holds its CRC (register-crc of proofs/Register).
 use mathlib.Core.Path.{_≡_}
 use mathlib.Core.List.{List, [], _∷_}
 use Prim.Native.Nat.{ℕ, zero, suc, _*_, _/_, _^_, _<_}
@@ -22,6 +22,7 @@ abbrev pub crcFrom : ℕ → List ℕ → ℕ
 crcFrom r [] = r
 crcFrom r (b ∷ bs) = crcFrom (crcByte r b) bs
 
+-- H22: what the register holds after a message
 abbrev pub register : List ℕ → ℕ
 register m = crcFrom 0x1D0F m
 

@@ -1,4 +1,4 @@
--- Document 01, "Examples": the starred ones, proved together under one claim, over the definitions that the contracts cite.
+-- E1 to E11 (docs/RULES.md), proved together under one claim, over the definitions that the contracts cite.
 use mathlib.Core.Path.{_≡_, refl}
 use mathlib.Core.Bool.{Bool, true, false, cond}
 use mathlib.Core.List.{[], _∷_}
@@ -20,21 +20,20 @@ use Rattle.command.specs.Answer.{answerOf, tableAfter as rowsAfter}
 use Rattle.command.specs.Examples.{text as command-text, payload, lent, starred as params-are, starred-rows as params-rows-are}
 
 pub record Starred : Type 0 where
-  -- "5B 02 00 5D: no body. The same with 00 after it: one empty body."
+  -- E1, E2
   pub no-body : bodies (0x5B ∷ 0x02 ∷ 0x00 ∷ 0x5D ∷ []) ≡ []
   pub empty-body : bodies (0x5B ∷ 0x02 ∷ 0x00 ∷ 0x5D ∷ 0x00 ∷ []) ≡ (3, 0) ∷ []
-  -- "Rates: channel 3 region 12 is 3; 2, 14 is 0."
+  -- E3, E4
   pub long-range : rateOf 3 12 ≡ 3
   pub no-rate : rateOf 2 14 ≡ 0
-  -- "Beams at rate 0: 55 01 02 AA 55 01 02 is 2."
+  -- E5
   pub two-beams : beamsOf 0 (0x55 ∷ 0x01 ∷ 0x02 ∷ 0xAA ∷ 0x55 ∷ 0x01 ∷ 0x02 ∷ []) ≡ 2
-  -- "Speed 0: 01 02 03 FF is right; 00 FF is right. Speed 2: 1D 0F 00 is right; 1D 0F never."
+  -- E6 to E8
   pub sum-right : right (0x01 ∷ 0x02 ∷ 0x03 ∷ 0xFF ∷ []) 0 ≡ true
   pub short-right : right (0x00 ∷ 0xFF ∷ []) 0 ≡ true
   pub crc-right : right (0x1D ∷ 0x0F ∷ 0x00 ∷ []) 2 ≡ true
   pub never-right : (speed : ℕ) → right (0x1D ∷ 0x0F ∷ []) speed ≡ false
-  -- "B 0 with HEX fields Home (8) and Props (8; inner Type 4, Flags 4), H on 0 with V Props.Type 3; speed 0, no F. A5 C3: four rows, Type 3 at bit 12,
-  -- Flags 12 at bit 8, payload offset 2, checksum not right. A5 3C: refusal 7."
+  -- E9, E10
   pub header : decoded text (0xA5 ∷ 0xC3 ∷ []) 0 0 30
       ≡ Header (record { number = 0; key = 0; flags = record { ack = false; routed = false; multicast = false; error = false }; payload = 2; right = false; rows = 4 })
   pub header-rows : tableAfter table (toldOf text (0xA5 ∷ 0xC3 ∷ []) 0 0 30) (decoded text (0xA5 ∷ 0xC3 ∷ []) 0 0 30)
@@ -44,7 +43,7 @@ pub record Starred : Type 0 where
       ∷ 3 ∷ 2 ∷ 8 ∷ 4 ∷ 1 ∷ 12 ∷ 0
       ∷ 9 ∷ 9 ∷ []
   pub no-header : decoded text (0xA5 ∷ 0x3C ∷ []) 0 0 30 ≡ Refused NoCandidate
-  -- "Q BYTE, Q VARIANT with R 0, 7, shift 0, not ascii; payload 20 01 02 AA BB CC: value 2 at 2..3, field at 3..5, remainder CC."
+  -- E11
   pub params : answerOf command-text payload 20 ≡ Rows 2 (record { 0 = 5 })
   pub params-rows : rowsAfter (definition command-text) payload lent (answerOf command-text payload 20)
       ≡ 0 ∷ 1 ∷ 0 ∷ 2 ∷ 3 ∷ 1 ∷ 2 ∷ 0 ∷ 0

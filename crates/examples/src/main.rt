@@ -1,4 +1,4 @@
-// Document 01, "Examples": the starred ones are proved (specs/Examples.antt); all of them are run here, and what is written is held to the
+// The examples of docs/RULES.md: E1 to E11 are proved (specs/Examples.antt); all of them are run here, and what is written is held to the
 // file `stdout`.
 use command::Params;
 use command::decode_params;
@@ -47,7 +47,7 @@ fn print_right(name: &[u8], mpdu: &[u8], speed: u64) {
     print(name, check_crc(mpdu, speed) as u64);
 }
 
-// The header of an MPDU, by document 01's text: what it answers, and the rows of Type and Flags.
+// The header of an MPDU, by the text of E9: what it answers, and the rows of Type and Flags.
 fn print_header(name: &[u8], mpdu: &[u8]) {
     let mut rows = [0; 28];
     let text =
@@ -66,7 +66,7 @@ fn print_header(name: &[u8], mpdu: &[u8]) {
     }
 }
 
-// The parameters of a command, by document 01's text: how many rows, where each starts and ends, their values, and where the remainder starts.
+// The parameters of a command, by the text of E11: how many rows, where each starts and ends, their values, and where the remainder starts.
 fn print_params(name: &[u8], payload: &[u8]) {
     let mut rows = [0; 18];
     let text = b"Q\t0\tBYTE\tLength\t-\t-\nQ\t0\tVARIANT\tData\t-\t-\nR\t0\t7\t0\t0\n";

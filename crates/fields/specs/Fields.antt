@@ -1,4 +1,4 @@
--- Loaded P lines: "one flat list", twelve numbers a line. Level, order and bits; where the name, the define set, the optional path and the size path
+-- Loaded P lines, one flat list of them, twelve numbers a line. Level, order and bits; where the name, the define set, the optional path and the size path
 -- stand in the text, each by its start and its length, of no bytes where it is missing; the number among the P lines of the text.
 use mathlib.Core.List.{List, [], _∷_, map}
 use Prim.Native.Nat.{ℕ, zero, suc, _+_, _*_}

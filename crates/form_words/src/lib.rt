@@ -1,4 +1,4 @@
-// The forms of both definition texts, and what is wrong with a field, in words, with document 01's names of the fields.
+// The forms of both definition texts, and what is wrong with a field, in words; the fields are named as in docs/RULES.md.
 use fault::Fault;
 use fault::Want;
 use piece::field_of;

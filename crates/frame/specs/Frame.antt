@@ -1,4 +1,4 @@
--- Document 01, "Records and frames": the frame in a record's body. A body is the list of its bytes.
+-- F7 to F12 and F16 (docs/RULES.md): the frame in a record's body. A body is the list of its bytes.
 use mathlib.Core.Bool.{Bool, cond, not, _&&_, _||_}
 use mathlib.Core.List.{List}
 use Prim.Native.Nat.{ℕ, _+_, _-_, _%_}
@@ -18,23 +18,24 @@ use Rattle.frame.specs.declared.Parsed.the-variants.{Frame, Refused}
 use Rattle.radio.specs.Speed.{rateOf}
 use Rattle.radio.specs.Beam.{beamsOf}
 
--- "first byte 2 or 3, header 12 or 19 bytes"; 0 for any other first byte
+-- F7: the header's length by the first byte; 0 for a byte that no header has
 abbrev pub headerOf : ℕ → ℕ
 headerOf version = cond (eqb version 2) 12 (cond (eqb version 3) 19 0)
 
--- "its last byte 0xF8 (Rx, trailer 6) or 0xFC (Tx, trailer 5)"; 0 for any other last byte
+-- F7: the trailer's length by the header's last byte; 0 for a byte that no header has
 abbrev pub trailerOf : ℕ → ℕ
 trailerOf start = cond (eqb start 0xF8) 6 (cond (eqb start 0xFC) 5 0)
 
+-- F7: the direction by the header's last byte
 abbrev pub directionOf : ℕ → Direction
 directionOf start = cond (eqb start 0xF8) Rx Tx
 
--- "The trailer starts with 0xF9 (Rx) or 0xFD (Tx)"
+-- F11: the tag that a frame has, if it is no beam
 abbrev pub successOf : Direction → ℕ
 successOf Rx = 0xF9
 successOf Tx = 0xFD
 
--- "Rx trailer: tag, RSSI (signed), region, channel, protocol, one more; Tx lacks RSSI, which is 0. Region, channel, protocol are low four bits"
+-- F9: what the bytes of a trailer say
 abbrev pub fieldsOf : Direction → List ℕ → Trailer
 fieldsOf Rx t = record { tag = getD t 0 0; rssi = getD t 1 0; region = getD t 2 0 % 16; channel = getD t 3 0 % 16; protocol = getD t 4 0 % 16 }
 fieldsOf Tx t = record { tag = getD t 0 0; rssi = 0; region = getD t 1 0 % 16; channel = getD t 2 0 % 16; protocol = getD t 3 0 % 16 }
@@ -50,37 +51,38 @@ start b = getD b (header b - 1) 0
 abbrev pub trailer : List ℕ → ℕ
 trailer b = trailerOf (start b)
 
--- "At least one byte must stand between."
+-- F8: is there a middle byte
 abbrev pub between : List ℕ → Bool
 between b = not (eqb (header b) 0) && (not (eqb (trailer b) 0) && ltb (header b + trailer b) (length b))
 
--- the middle bytes, m of them
+-- F8: the middle bytes
 abbrev pub middle : List ℕ → List ℕ
 middle b = take (length b - trailer b - header b) (drop (header b) b)
 
 abbrev pub fields : List ℕ → Trailer
 fields b = fieldsOf (directionOf (start b)) (drop (length b - trailer b) b)
 
--- "unless the first middle byte is 0x55: then it's a beam in either case"
+-- F10: are these the middle bytes of a beam
 abbrev pub isBeam : List ℕ → Bool
 isBeam m = eqb (getD m 0 0) 0x55
 
--- "The trailer starts with 0xF9 (Rx) or 0xFD (Tx), unless .. it's a beam"; "protocol must be 6"
+-- F11: is the trailer one of a frame
 abbrev pub holds : Direction → Bool → Trailer → Bool
 holds d beam t = eqb (t .protocol) 6 && (beam || eqb (t .tag) (successOf d))
 
+-- F11: is a body a frame
 abbrev pub isFrame : List ℕ → Bool
 isFrame b = between b && holds (directionOf (start b)) (isBeam (middle b)) (fields b)
 
--- "MPDU: the m middle bytes; if not a beam, m > 7 and the byte l at middle place 7 is at most m, the first l of them."
+-- F12: how many of the middle bytes are the MPDU
 abbrev pub mpduOf : List ℕ → ℕ
 mpduOf m = cond (not (isBeam m) && (ltb 7 (length m) && leb (getD m 7 0) (length m))) (getD m 7 0) (length m)
 
--- "beam count or none"
+-- F16: how often the beam stands there, or that it is none
 abbrev pub beamsIn : ℕ → List ℕ → Beams
 beamsIn rate m = cond (isBeam m) (Count (beamsOf rate m)) NoBeam
 
--- the frame of a direction, a trailer and middle bytes, which start at a place of the body
+-- F16: the frame of a direction, a trailer and middle bytes, which start at a place of the body
 abbrev pub framed : Direction → Trailer → ℕ → List ℕ → PtiFrame
 framed d t at m =
     record {
@@ -94,9 +96,10 @@ framed d t at m =
       length = mpduOf m;
     }
 
+-- F16: the frame of a body
 abbrev pub frameOf : List ℕ → PtiFrame
 frameOf b = framed (directionOf (start b)) (fields b) (header b) (middle b)
 
--- a single record: refusal 4 over 2,048 bytes, 9 if it is not a frame
+-- F16, R11: what `parse_record` answers
 abbrev pub parsedOf : List ℕ → Parsed
 parsedOf b = cond (leb (length b) 2048) (cond (isFrame b) (Frame (frameOf b)) (Refused NotAFrame)) (Refused (TooLong (length b)))

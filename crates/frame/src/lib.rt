@@ -1,4 +1,4 @@
-// The frame in a record's body: document 01, "Body: first byte 2 or 3, header 12 or 19 bytes".
+// The frame in a record's body: F7 to F12 and F16 of docs/RULES.md.
 use radio::beam::BEAM_MARKER;
 use radio::beam::beam_count;
 use radio::rssi::signed;

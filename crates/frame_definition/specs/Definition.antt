@@ -1,4 +1,4 @@
--- The definition that an accepted frame text stands for, as plain data; document 01, "Lawful reading of a header", says what is looked for in it.
+-- T20 (docs/RULES.md): the definition that an accepted frame text stands for, as plain data; and what H1, H2, H3 and H17 look for in it.
 use Prim.Native.Nat.{ℕ, suc}
 use mathlib.Core.Bool.{Bool, true, false, cond, _&&_}
 use mathlib.Core.List.{List, [], _∷_}
@@ -46,7 +46,7 @@ pub record Set : Type 0 where
   pub name : List ℕ
   pub entries : List Entry
 
--- what a frame text defines, each list in text order
+-- T20: what a frame text defines, each list in text order
 pub record Definition : Type 0 where
   pub frequencies : List Frequency
   pub bases : List Base
@@ -55,7 +55,7 @@ pub record Definition : Type 0 where
 
 -- ---- from the records of the lines
 
--- "The last F, B, H or D line owns what follows": the records up to the next such line
+-- T17: the records up to the next F, B, H or D line
 abbrev pub below : List Record → List Record
 below rs = under rs
 
@@ -137,22 +137,22 @@ sets (entry key text ∷ rs) = sets rs
 abbrev pub defined : List Record → Definition
 defined rs = record { frequencies = frequencies rs; bases = bases 0 rs; frames = frames 0 0 rs; sets = sets rs }
 
--- what a frame text defines
+-- T20: what a frame text defines
 abbrev pub definition : List ℕ → Definition
 definition t = defined (records form (lines t))
 
 -- ---- what is looked for
 
--- "that of the first F with the region's code, else 0"
+-- H1: the base key of a region
 abbrev pub keyFor : ℕ → List Frequency → ℕ
 keyFor region [] = 0
 keyFor region (f ∷ fs) = cond (eqb (f .code) region) (f .key) (keyFor region fs)
 
--- "Base key: 2 at speed 3; else that of the first F with the region's code, else 0"
+-- H1: the base key at a speed
 abbrev pub baseKey : ℕ → ℕ → Definition → ℕ
 baseKey region speed d = cond (eqb speed 3) 2 (keyFor region (d .frequencies))
 
--- "The base header is the first B with that key"
+-- H2: the base header
 abbrev pub firstBase : ℕ → List Base → Option Base
 firstBase key [] = none
 firstBase key (b ∷ bs) = cond (eqb (b .key) key) (some b) (firstBase key bs)
@@ -165,17 +165,17 @@ abbrev pub some? : {A : Type 0} → List A → Bool
 some? [] = false
 some? (x ∷ xs) = true
 
--- "Candidates: every H with that base key and at least one V, in text order"
+-- H3: the candidates for a base key
 abbrev pub candidates : ℕ → List Frame → List Frame
 candidates key [] = []
 candidates key (f ∷ fs) = cond (isKey key (f .says .base) && some? (f .validations)) (f ∷ candidates key fs) (candidates key fs)
 
--- "the first D of that name"
+-- H17: the define set of a name
 abbrev pub firstSet : List ℕ → List Set → Option Set
 firstSet name [] = none
 firstSet name (s ∷ ss) = cond (same (s .name) name) (some s) (firstSet name ss)
 
--- "the first E with that key": its number within its set, from 0, + 1, or 0; n E lines come before these
+-- H17: the number of an E in its set, plus 1, or 0; n E lines come before these
 abbrev pub firstEntry : ℕ → ℕ → List Entry → ℕ
 firstEntry key n [] = 0
 firstEntry key n (e ∷ es) = cond (eqb (e .key) key) (suc n) (firstEntry key (suc n) es)

@@ -1,4 +1,4 @@
--- Document 01, "Limits", said of all the records of a text.
+-- T34 (docs/RULES.md): the limits of T33, said of all the records of a text.
 use Prim.Native.Nat.{_≤_}
 use mathlib.Core.List.{List, [], _∷_}
 use mathlib.Core.Bool.{true}
@@ -7,7 +7,7 @@ use Rattle.frame_text.specs.Form.{Record, frequency, base, header, param, valid
 use Rattle.frame_text.specs.Rules.{count, owns}
 use Rattle.frame_definition.specs.Definition.{below}
 
--- "64 P under one B or H, .. 16 V under one H, .. 64 E each": what stands under an owner that these records follow
+-- T33: what stands under an owner that these records follow
 pub record Few (rs : List Record) : Type 0 where
   pub params : count 0x50 (below rs) ≤ 64
   pub validations : count 0x56 (below rs) ≤ 16
@@ -18,7 +18,7 @@ abbrev pub FewUnderEach : List Record → Type 0
 FewUnderEach [] = Unit {0}
 FewUnderEach (r ∷ rs) = (owns r ≡ true → Few rs) × FewUnderEach rs
 
--- "level 0 to 7"
+-- T33: no level is over 7
 abbrev pub LevelsFit : List Record → Type 0
 LevelsFit [] = Unit {0}
 LevelsFit (frequency code key ∷ rs) = LevelsFit rs
@@ -29,7 +29,7 @@ LevelsFit (validation path value ∷ rs) = LevelsFit rs
 LevelsFit (set name ∷ rs) = LevelsFit rs
 LevelsFit (entry key text ∷ rs) = LevelsFit rs
 
--- "16 F, 16 B, 64 H, .. 16 D"
+-- T34: no limit is passed
 pub record WithinLimits (rs : List Record) : Type 0 where
   pub frequencies : count 0x46 rs ≤ 16
   pub bases : count 0x42 rs ≤ 16

@@ -1,4 +1,4 @@
--- Document 01, "Definition text", frame text: the seven forms, and the record that a line of each says.
+-- T9 to T16 (docs/RULES.md): the seven forms of a frame text, and the record that a line of each says.
 use Prim.Native.Nat.{ℕ}
 use mathlib.Core.Bool.{Bool, true, false, cond, _&&_}
 use mathlib.Core.List.{List, [], _∷_}
@@ -59,14 +59,14 @@ value l = worth 0 l
 abbrev pub names : List ℕ → Path
 names l = split 0x2e l
 
--- "Types .. are spelled as the source's XML names": NUMBER, NUMBER_SIGNED, NODE_NUMBER
+-- T16: NUMBER, NUMBER_SIGNED, NODE_NUMBER
 abbrev pub numberType : List ℕ → Typed
 numberType l =
     cond (same l (0x4e ∷ 0x55 ∷ 0x4d ∷ 0x42 ∷ 0x45 ∷ 0x52 ∷ [])) (Is Number)
     (cond (same l (0x4e ∷ 0x55 ∷ 0x4d ∷ 0x42 ∷ 0x45 ∷ 0x52 ∷ 0x5f ∷ 0x53 ∷ 0x49 ∷ 0x47 ∷ 0x4e ∷ 0x45 ∷ 0x44 ∷ [])) (Is NumberSigned)
     (cond (same l (0x4e ∷ 0x4f ∷ 0x44 ∷ 0x45 ∷ 0x5f ∷ 0x4e ∷ 0x55 ∷ 0x4d ∷ 0x42 ∷ 0x45 ∷ 0x52 ∷ [])) (Is NodeNumber) Not))
 
--- HEX, BOOLEAN, BITMASK
+-- T16: HEX, BOOLEAN, BITMASK
 abbrev pub otherType : List ℕ → Typed
 otherType l =
     cond (same l (0x48 ∷ 0x45 ∷ 0x58 ∷ [])) (Is Hex)
@@ -78,6 +78,7 @@ abbrev pub either : Typed → Typed → Typed
 either (Is type) other = Is type
 either Not other = other
 
+-- T16: the type of a P
 abbrev pub typeOf : List ℕ → Typed
 typeOf l = either (numberType l) (otherType l)
 
@@ -85,7 +86,7 @@ abbrev pub known : Typed → Bool
 known (Is type) = true
 known Not = false
 
--- "one field of four digits 0/1 (ack, routed, multicast, error)"
+-- T11: four digits, each 0 or 1
 abbrev pub flags : List ℕ → Bool
 flags l = eqb (length l) 4 && within 0x30 0x31 l
 
@@ -94,15 +95,15 @@ flag k l = eqb (getD l k 0) 0x31
 
 -- ---- the forms, by their fields: field 0 is the kind
 
--- "F, code, base key"; "code, key, bits 0 to 255"
+-- T9: code and base key
 abbrev pub frequencyForm : List (List ℕ) → Bool
 frequencyForm fs = eqb (length fs) 3 && (upTo 255 (field 1 fs) && upTo 255 (field 2 fs))
 
--- "B, key"
+-- T10: key
 abbrev pub baseForm : List (List ℕ) → Bool
 baseForm fs = eqb (length fs) 2 && upTo 255 (field 1 fs)
 
--- "H, key, base key ?, one field of four digits 0/1 .., name"
+-- T11: key, base key, flags, name
 abbrev pub headerForm : List (List ℕ) → Bool
 headerForm fs = eqb (length fs) 5 && (upTo 255 (field 1 fs) && (optionalUpTo 255 (field 2 fs) && (flags (field 3 fs) && name (field 4 fs))))
 
@@ -115,19 +116,19 @@ paramPaths fs = optionalName (field 6 fs) && (optionalPath (field 7 fs) && optio
 abbrev pub paramWords : List (List ℕ) → Bool
 paramWords fs = known (typeOf (field 4 fs)) && (plain (field 5 fs) && paramPaths fs)
 
--- "P, level, order, bits, type, name, define set ?, optional path ?, size path ?"; "Order is 0 to 65535"; "P's level only by 2"
+-- T12: three numbers, of which the level has no bound here, then type and name, then the set and the two paths
 abbrev pub paramForm : List (List ℕ) → Bool
 paramForm fs = eqb (length fs) 9 && (paramNumbers fs && paramWords fs)
 
--- "V, path, value 0 to 65535"
+-- T13: path and value
 abbrev pub validationForm : List (List ℕ) → Bool
 validationForm fs = eqb (length fs) 3 && (path (field 1 fs) && upTo 65535 (field 2 fs))
 
--- "D, set name"
+-- T14: name
 abbrev pub setForm : List (List ℕ) → Bool
 setForm fs = eqb (length fs) 2 && name (field 1 fs)
 
--- "E, key 0 to 65535, text (a name)"
+-- T15: key and word
 abbrev pub entryForm : List (List ℕ) → Bool
 entryForm fs = eqb (length fs) 3 && (upTo 65535 (field 1 fs) && name (field 2 fs))
 

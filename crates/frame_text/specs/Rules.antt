@@ -1,4 +1,4 @@
--- Document 01, "Definition text" and "Refusal numbers": limits and owners of the frame text.
+-- T17 to T19 and T33 (docs/RULES.md): limits and owners of the frame text.
 -- `before` are the records of the lines before, the latest first.
 use Prim.Native.Nat.{ℕ, zero, suc}
 use mathlib.Core.Bool.{Bool, true, false, cond, not, _&&_, _||_}
@@ -25,7 +25,7 @@ abbrev pub count : ℕ → List Record → ℕ
 count k [] = 0
 count k (r ∷ rs) = cond (eqb (letter r) k) (suc (count k rs)) (count k rs)
 
--- F, B, H and D lines own what follows
+-- T17: is it an F, B, H or D line
 abbrev pub owns : Record → Bool
 owns (frequency code key) = true
 owns (base key) = true
@@ -35,29 +35,29 @@ owns (validation path value) = false
 owns (set name) = true
 owns (entry key text) = false
 
--- "The last F, B, H or D line owns what follows": its kind, or 0
+-- T17: the kind of the owner, or 0
 abbrev pub owner : List Record → ℕ
 owner [] = 0
 owner (r ∷ rs) = cond (owns r) (letter r) (owner rs)
 
--- what stands under it
+-- T17: what stands under it
 abbrev pub under : List Record → List Record
 under [] = []
 under (r ∷ rs) = cond (owns r) [] (r ∷ under rs)
 
--- "P needs a B or H"
+-- T17: may a P stand here
 abbrev pub holdsParams : List Record → Bool
 holdsParams before = eqb (owner before) 0x42 || eqb (owner before) 0x48
 
--- "V an H"
+-- T17: may a V stand here
 abbrev pub holdsValidations : List Record → Bool
 holdsValidations before = eqb (owner before) 0x48
 
--- "E a D"
+-- T17: may an E stand here
 abbrev pub holdsEntries : List Record → Bool
 holdsEntries before = eqb (owner before) 0x44
 
--- "the last P of level n, if no lower P and no F, B, H or D line came between": is there one
+-- T18: is there a P of level n that a P of the next level would lie in
 abbrev pub parent : ℕ → List Record → Bool
 parent n [] = false
 parent n (frequency code key ∷ rs) = false
@@ -68,7 +68,7 @@ parent n (validation path value ∷ rs) = parent n rs
 parent n (set name ∷ rs) = false
 parent n (entry key text ∷ rs) = parent n rs
 
--- "A P of level n+1 is inside the last P of level n": has a P of this level its parent
+-- T18: has a P of this level its parent
 abbrev pub inside : ℕ → List Record → Bool
 inside zero before = true
 inside (suc n) before = parent n before
@@ -78,8 +78,7 @@ abbrev pub isGiven : {A : Type 0} → Option A → Bool
 isGiven none = false
 isGiven (some a) = true
 
--- "16 F, 16 B, 64 H, 64 P under one B or H, level 0 to 7, 16 V under one H, 16 D, 64 E each": is one passed by this record.
--- A P, V or E without owner is under nothing
+-- T33: is a limit passed by this record. A P, V or E without owner is under nothing
 abbrev pub over : List Record → Record → Bool
 over before (frequency code key) = leb 16 (count 0x46 before)
 over before (base key) = leb 16 (count 0x42 before)
@@ -89,7 +88,7 @@ over before (validation path value) = holdsValidations before && leb 16 (count 0
 over before (set name) = leb 16 (count 0x44 before)
 over before (entry key text) = holdsEntries before && leb 64 (count 0x45 (under before))
 
--- "P, V, E .. with no owner or parent; P with size path at level 1 or deeper"
+-- R3, T19: has this record no owner or no parent, or a size path below level 0
 abbrev pub lost : List Record → Record → Bool
 lost before (frequency code key) = false
 lost before (base key) = false

@@ -1,5 +1,5 @@
--- Document 01, "Lawful reading of a header", "Refusal numbers": what is answered for a frame text t and the bytes d of an MPDU, as the rules compute it, and
--- what that says of the lawful readings.
+-- H20, R10 and R11 (docs/RULES.md): what is answered for a frame text t and the bytes d of an MPDU, as it is computed, and what that says of the lawful
+-- readings.
 use mathlib.Core.Path.{_≡_}
 use mathlib.Core.Bool.{Bool, cond}
 use mathlib.Core.List.{List, []}
@@ -27,7 +27,7 @@ use Rattle.header.specs.declared.Decoded.the-variants.{Header, Refused}
 
 -- ---- every number
 
--- "A header answer: the H's number among the H lines from 0, key, flags, payload offset, checksum result, row count."
+-- H20: the numbers of the answer
 abbrev pub headerOf : Bool → Heading → DecodedHeader
 headerOf ok h =
     record {
@@ -39,23 +39,23 @@ headerOf ok h =
       rows = length (h .rows);
     }
 
--- 6, 7 and 8, or the answer
+-- R6 to R8, or the answer
 abbrev pub ofTold : Bool → Told → Decoded
 ofTold ok (no-base key) = Refused (NoBase key)
 ofTold ok no-candidate = Refused NoCandidate
 ofTold ok (more-rows n) = Refused (MoreRows n)
 ofTold ok (header h) = Header (headerOf ok h)
 
--- 4, "MPDU .. over 2,048"; 5, "MPDU .. under 2 bytes"
+-- R4, R5, R11: an MPDU that is too long or too short
 abbrev pub sized : List ℕ → Decoded → Decoded
 sized d r = cond (ltb 2048 (length d)) (Refused (TooLong (length d))) (cond (ltb (length d) 2) (Refused (TooShort (length d))) r)
 
--- 1, 2 and 3: "Decoding calls test the definition themselves."
+-- R1 to R3, R11: the call checks the text itself
 abbrev pub judged : Verdict → Decoded → Decoded
 judged text.Accepted r = r
 judged (text.Refused x) r = Refused x
 
--- "Base key: 2 at speed 3; else that of the first F with the region's code, else 0."
+-- H1: the base key by the text
 abbrev pub keyOf : List ℕ → ℕ → ℕ → ℕ
 keyOf t region speed = baseKey region speed (definition t)
 
@@ -63,16 +63,18 @@ keyOf t region speed = baseKey region speed (definition t)
 abbrev pub toldOf : List ℕ → List ℕ → ℕ → ℕ → ℕ → Told
 toldOf t d region speed room = told (definition t) d (room / 7) (keyOf t region speed)
 
+-- H20, R10: what `decode_header` answers: first the text decides, then the length, then what is told
 abbrev pub decoded : List ℕ → List ℕ → ℕ → ℕ → ℕ → Decoded
 decoded t d region speed room = judged (verdict t) (sized d (ofTold (right d speed) (toldOf t d region speed room)))
 
--- "No refusal writes to a table; an answer leaves rows past its last untouched."
+-- the rows of what is told
 abbrev pub rowsOf : Told → List (List ℕ)
 rowsOf (no-base key) = []
 rowsOf no-candidate = []
 rowsOf (more-rows n) = []
 rowsOf (header h) = h .rows
 
+-- R12: the table after an answer or a refusal
 abbrev pub tableAfter : List ℕ → Told → Decoded → List ℕ
 tableAfter table x (Header h) = laid table (rowsOf x)
 tableAfter table x (Refused y) = table
@@ -106,15 +108,14 @@ Says def d most key ok (Refused NotAFrame) = ⊥
 abbrev pub Enough : Definition → List ℕ → ℕ → ℕ → Base → Type 0
 Enough def d most key b = (c : Candidate 7) (fs : List (Field 7)) → First 7 d (trees (b .params)) (candidatesOf key def) c fs → length (tableOf 7 d (def .sets) fs) ≤ most
 
--- "A header is answered exactly when some candidate with at least one validation has a lawful reading that meets all its validations; the answer is the
--- first such in the text; refusal 7 comes only if none exists."
+-- H15, demand 3: there is an answer exactly if some candidate holds; it is the first that does; and 7 comes exactly if none does
 pub record Demand (def : Definition) (d : List ℕ) (key : ℕ) (ok : Bool) (b : Base) (r : Decoded) : Type 0 where
   pub exactly : ((h : DecodedHeader) × (r ≡ Header h)) ↔ Some 7 d (trees (b .params)) (candidatesOf key def)
   pub the-first : (h : DecodedHeader)
       → (r ≡ Header h) ↔ ((c : Candidate 7) × (fs : List (Field 7)) × First 7 d (trees (b .params)) (candidatesOf key def) c fs × (h ≡ headerOf ok (headingOf (def .sets) d c fs)))
   pub only-seven : (r ≡ Refused NoCandidate) ↔ None 7 d (trees (b .params)) (candidatesOf key def)
 
--- ---- what a call of `decode_header` answers and leaves
+-- ---- H20: what a call of `decode_header` answers and leaves
 pub record Decodes (t d : List ℕ) (region speed : ℕ) (table : List ℕ) (r : Decoded) (table′ : List ℕ) : Type 0 where
   pub answer : r ≡ decoded t d region speed (length table)
   pub rows : table′ ≡ tableAfter table (toldOf t d region speed (length table)) r

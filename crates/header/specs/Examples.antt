@@ -1,4 +1,4 @@
--- Document 01, "Examples": B 0 with HEX fields Home (8) and Props (8; inner Type 4, Flags 4), H on 0 with V Props.Type 3; speed 0, no F.
+-- E9 and E10 (docs/RULES.md), and refusals by the same text.
 use mathlib.Core.Path.{_≡_, refl}
 use mathlib.Core.Bool.{true, false}
 use mathlib.Core.List.{List, [], _∷_}
@@ -23,13 +23,13 @@ abbrev pub text : List ℕ
 text =
     66 ∷ 9 ∷ 48 ∷ 10 ∷ 80 ∷ 9 ∷ 48 ∷ 9 ∷ 48 ∷ 9 ∷ 56 ∷ 9 ∷ 72 ∷ 69 ∷ 88 ∷ 9 ∷ 72 ∷ 111 ∷ 109 ∷ 101 ∷ 9 ∷ 45 ∷ 9 ∷ 45 ∷ 9 ∷ 45 ∷ 10 ∷ 80 ∷ 9 ∷ 48 ∷ 9 ∷ 49 ∷ 9 ∷ 56 ∷ 9 ∷ 72 ∷ 69 ∷ 88 ∷ 9 ∷ 80 ∷ 114 ∷ 111 ∷ 112 ∷ 115 ∷ 9 ∷ 45 ∷ 9 ∷ 45 ∷ 9 ∷ 45 ∷ 10 ∷ 80 ∷ 9 ∷ 49 ∷ 9 ∷ 48 ∷ 9 ∷ 52 ∷ 9 ∷ 72 ∷ 69 ∷ 88 ∷ 9 ∷ 84 ∷ 121 ∷ 112 ∷ 101 ∷ 9 ∷ 45 ∷ 9 ∷ 45 ∷ 9 ∷ 45 ∷ 10 ∷ 80 ∷ 9 ∷ 49 ∷ 9 ∷ 49 ∷ 9 ∷ 52 ∷ 9 ∷ 72 ∷ 69 ∷ 88 ∷ 9 ∷ 70 ∷ 108 ∷ 97 ∷ 103 ∷ 115 ∷ 9 ∷ 45 ∷ 9 ∷ 45 ∷ 9 ∷ 45 ∷ 10 ∷ 72 ∷ 9 ∷ 48 ∷ 9 ∷ 48 ∷ 9 ∷ 48 ∷ 48 ∷ 48 ∷ 48 ∷ 9 ∷ 120 ∷ 10 ∷ 86 ∷ 9 ∷ 80 ∷ 114 ∷ 111 ∷ 112 ∷ 115 ∷ 46 ∷ 84 ∷ 121 ∷ 112 ∷ 101 ∷ 9 ∷ 51 ∷ 10 ∷ []
 
--- A5 C3, by a table of 30 numbers: four rows, payload offset 2, checksum not right
+-- E9: A5 C3, by a table of 30 numbers
 pub a5c3 : decoded text (0xA5 ∷ 0xC3 ∷ []) 0 0 30
     ≡ Header (record { number = 0; key = 0; flags = record { ack = false; routed = false; multicast = false; error = false }; payload = 2; right = false; rows = 4 })
 unfolding told answer reading baseRead listed exists packed innerAt ordered insert widthOf valueAt inFirst through firstNamed valueOf bitsAt trees kids ofLevel tableFrom innerTable numbersOf rowsEach right plus
 a5c3 = refl
 
--- Type 3 at bit 12, Flags 12 at bit 8; the two numbers behind the rows are as they were
+-- E9: the four rows; the two numbers behind them are as they were
 abbrev pub table : List ℕ
 table = 9 ∷ 9 ∷ 9 ∷ 9 ∷ 9 ∷ 9 ∷ 9 ∷ 9 ∷ 9 ∷ 9 ∷ 9 ∷ 9 ∷ 9 ∷ 9 ∷ 9 ∷ 9 ∷ 9 ∷ 9 ∷ 9 ∷ 9 ∷ 9 ∷ 9 ∷ 9 ∷ 9 ∷ 9 ∷ 9 ∷ 9 ∷ 9 ∷ 9 ∷ 9 ∷ []
 
@@ -42,7 +42,7 @@ pub a5c3-rows : tableAfter table (toldOf text (0xA5 ∷ 0xC3 ∷ []) 0 0 30) (de
 unfolding told answer reading baseRead listed exists packed innerAt ordered insert widthOf valueAt inFirst through firstNamed valueOf bitsAt trees kids ofLevel tableFrom innerTable numbersOf rowsEach right plus
 a5c3-rows = refl
 
--- A5 3C: refusal 7
+-- E10: A5 3C
 pub a53c : decoded text (0xA5 ∷ 0x3C ∷ []) 0 0 30 ≡ Refused NoCandidate
 unfolding told answer reading baseRead listed exists packed innerAt ordered insert widthOf valueAt inFirst through firstNamed valueOf bitsAt trees kids ofLevel tableFrom innerTable numbersOf rowsEach
 a53c = refl

@@ -28,8 +28,8 @@ ghost use Rattle.header.specs.Decode.{Decodes};
 ghost use Rattle.header.specs.Steps.{Ready, Shows, Picks, Reads};
 ghost use Rattle.candidates.specs.Read.{Roomy, baseOf, HoldsBase};
 
-// A header's answer: the H's number among the H lines, its key and flags, where the payload starts in the MPDU, whether the
-// checksum or CRC is right, and how many rows there are.
+// H20 of docs/RULES.md: which H line it is, its key and flags, where the payload starts in the MPDU, whether the checksum or CRC
+// is right, and how many rows there are.
 pub struct DecodedHeader {
     pub number: usize,
     pub key: u16,

@@ -96,7 +96,7 @@ module _ (n : ℕ) (d : List ℕ) (base : List (P n)) where
       }
   more c cs h (refused k) f = (f .0, none-more c cs h (f .1))
 
-  -- the answer says what the document says
+  -- the answer says what H15 says
   pub answer-says : (cs : List (Candidate n)) → Answers n d base cs (answer n d base cs)
   unfolding answer
   answer-says [] = (refl, λ xs c ys e fs h. none-split xs c ys e)

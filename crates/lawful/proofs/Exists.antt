@@ -1,4 +1,4 @@
--- The tests of a field's existence say what the document says. Assumes nothing.
+-- The tests of a field's existence say what H9 says. Assumes nothing.
 use mathlib.Core.Bool.{Bool, true, false, _&&_, true≢false}
 use mathlib.Core.Path.{_≡_, refl, sym, _∙_}
 use Prim.Native.Nat.{ℕ, _+_, _*_}

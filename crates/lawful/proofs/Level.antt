@@ -1,4 +1,4 @@
--- The Ps directly inside a P are those that document 01 means, and the trees of an accepted text have all its P lines. Assumes nothing.
+-- The Ps directly inside a P are those that T18 means, and the trees of an accepted text have all its P lines. Assumes nothing.
 use mathlib.Core.Bool.{Bool, true, false, cond}
 use mathlib.Core.Path.{_≡_, refl, sym, ap, _∙_, subst}
 use mathlib.Core.Logic.{inl, inr, _↔_}

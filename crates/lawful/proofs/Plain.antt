@@ -1,4 +1,4 @@
--- Where no P line at level 1 or deeper has a size path, no P inside another has one. Assumes nothing.
+-- T19: where no P line below level 0 has a size path, no P inside another has one. Assumes nothing.
 use mathlib.Core.Bool.{Bool, true, false, cond}
 use mathlib.Core.Path.{_≡_, refl}
 use Prim.Native.Nat.{ℕ, zero, suc, _≤_}

@@ -91,7 +91,7 @@ module _ (n : ℕ) (d : List ℕ) where
           subst (λ (k : P n). Lawful n d (InLaw n d) (k ∷ ps) from before (f ∷ g)) o
           (cons-lawful n d (InLaw n d) ps from before f g st (subst (λ (k : ℕ). Lawful n d (InLaw n d) ps (from + k) (before ++ (f ∷ [])) g) w l))
 
-  -- "Each candidate has one lawful reading": the walk's is one, and every one is the walk's
+  -- H25: the walk's reading is lawful, and every lawful one is the walk's
   module _ (base own : List (P n)) where
     pub reading-lawful : Reading n d base own (reading n d base own)
     unfolding reading baseRead

@@ -1,4 +1,4 @@
--- Document 01, "Lawful reading of a header": the candidate that is answered, as the rules compute it.
+-- H14 and H15 (docs/RULES.md): the candidate that is answered, as it is computed.
 use mathlib.Core.Bool.{Bool, true, false, cond, _&&_}
 use Prim.Native.Nat.{ℕ}
 use mathlib.Core.List.{List, [], _∷_}
@@ -18,12 +18,12 @@ abbrev pub isValue : Option ℕ → ℕ → Bool
 isValue none v = false
 isValue (some u) v = eqb u v
 
--- "All V must find a value equal to theirs."
+-- H14: does each V find its value
 abbrev pub meetsAll : (n : ℕ) → List ℕ → List (Field n) → List Validation → Bool
 meetsAll n d fs [] = true
 meetsAll n d fs (v ∷ vs) = isValue (valueAt n d (v .path) fs) (v .value) && meetsAll n d fs vs
 
--- the first candidate that has a V and meets all its Vs; 7, "no candidate holds"
+-- H15: the first candidate that has a V and meets all its Vs; else refusal 7
 unfoldable pub answer : (n : ℕ) → List ℕ → List (P n) → List (Candidate n) → Answer n
 answer n d base [] = refused 7
 answer n d base (c ∷ cs) =

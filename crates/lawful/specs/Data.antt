@@ -1,4 +1,4 @@
--- Document 01, "Definition text" and "Lawful reading of a header": P lines as trees, and fields as read.
+-- T12 and T18 (docs/RULES.md): P lines as trees; and fields as read.
 use Prim.Native.Nat.{ℕ, zero, suc, _+_}
 use mathlib.Core.List.{List, [], _∷_}
 use mathlib.Core.Option.{Option}
@@ -13,8 +13,7 @@ Name = List ℕ
 abbrev pub Path : Type 0
 Path = form.Path
 
--- "P, level, order, bits, type, name, define set ?, optional path ?, size path ?": a P line with its number among all P lines, and the Ps inside it.
--- No rule of the reading looks at the type
+-- T12: a P line with its number among all P lines, and the Ps inside it. No rule of the reading looks at the type
 pub record Node (K : Type 0) : Type 0 where
   pub number : ℕ
   pub order : ℕ
@@ -25,7 +24,7 @@ pub record Node (K : Type 0) : Type 0 where
   pub size : Option Path
   pub inside : List K
 
--- "level 0 to 7": what stands inside a P that has n levels below it, and such a P. An outer P is a `P 7`
+-- T33: what stands inside a P that has n levels below it, and such a P. Level 7 is the deepest, so an outer P is a `P 7`
 abbrev pub Kid : ℕ → Type 0
 Kid zero = ⊥
 Kid (suc n) = Node (Kid n)

@@ -1,4 +1,4 @@
--- Validations that the base's fields decide alone: "A path takes the first field of each name", and the base's fields come first.
+-- Validations that the base's fields decide alone: by H6 the first field of a name counts, and the base's fields come first.
 use mathlib.Core.Bool.{Bool, true, false, not, _||_}
 use mathlib.Core.List.{List, [], _∷_}
 use mathlib.Core.Option.{Option, none, some}

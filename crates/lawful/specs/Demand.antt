@@ -1,4 +1,4 @@
--- What an answer says of the lawful readings, without any walk.
+-- H14, H15 and H25 (docs/RULES.md): what an answer says of the lawful readings, without any walk.
 use mathlib.Core.Path.{_≡_}
 use mathlib.Core.Logic.{_↔_}
 use Prim.Native.Nat.{ℕ}
@@ -11,21 +11,21 @@ use Rattle.lawful.specs.Lawful.{Reading}
 use Rattle.lawful.specs.Answer.{Answer, answered, refused}
 use Rattle.lawful.specs.Run.{Run, AllTidy}
 
--- "All V must find a value equal to theirs."
+-- H14: each V finds its value
 abbrev pub Meets : (n : ℕ) → List ℕ → List (Field n) → List Validation → Type 0
 Meets n d fs vs = (xs : List Validation) (v : Validation) (ys : List Validation) → vs ≡ xs ++ v ∷ ys → valueAt n d (v .path) fs ≡ some (v .value)
 
--- the candidate has a validation, fs is a lawful reading of it, and that meets all its validations
+-- H14: the candidate has a validation, fs is a lawful reading of it, and that meets all its validations
 pub record Holds (n : ℕ) (d : List ℕ) (base : List (P n)) (c : Candidate n) (fs : List (Field n)) : Type 0 where
   pub has : c .valid ≡ [] → ⊥
   pub lawful : Reading n d base (c .params) fs
   pub meets : Meets n d fs (c .valid)
 
--- no candidate of cs holds
+-- H15: no candidate of cs holds
 abbrev pub None : (n : ℕ) → List ℕ → List (P n) → List (Candidate n) → Type 0
 None n d base cs = (xs : List (Candidate n)) (c : Candidate n) (ys : List (Candidate n)) → cs ≡ xs ++ c ∷ ys → (fs : List (Field n)) → Holds n d base c fs → ⊥
 
--- c is the first candidate of cs that holds, by the reading fs
+-- H15: c is the first candidate of cs that holds, by the reading fs
 pub record First (n : ℕ) (d : List ℕ) (base : List (P n)) (cs : List (Candidate n)) (c : Candidate n) (fs : List (Field n)) : Type 0 where
   pub front : List (Candidate n)
   pub back : List (Candidate n)
@@ -47,15 +47,13 @@ pub record Some (n : ℕ) (d : List ℕ) (base : List (P n)) (cs : List (Candida
   pub fields : List (Field n)
   pub holds : Holds n d base one fields
 
--- Demand 3. A header is answered exactly when some candidate with at least one validation has a lawful reading that meets all its validations;
--- the answer is the first such in the text; refusal 7 comes only if none exists
+-- H15, demand 3: there is an answer exactly if some candidate holds; it is the first that does; and 7 comes exactly if none does
 pub record Demand3 (n : ℕ) (d : List ℕ) (base : List (P n)) (cs : List (Candidate n)) (a : Answer n) : Type 0 where
   pub exactly : ((c : Candidate n) × (fs : List (Field n)) × (a ≡ answered c fs)) ↔ Some n d base cs
   pub the-first : (c : Candidate n) (fs : List (Field n)) → (a ≡ answered c fs) ↔ First n d base cs c fs
   pub only-seven : (k : ℕ) → (a ≡ refused k) ↔ ((k ≡ 7) × None n d base cs)
 
--- A candidate has one lawful reading. Its outer fields make one unbroken run of bits from bit 0, none overlapping; inner fields stay inside their
--- parent and apart from each other
+-- H25: a candidate has one lawful reading, and its fields lie as `Run` and `AllTidy` say
 pub record OneReading (n : ℕ) (d : List ℕ) (base own : List (P n)) : Type 0 where
   pub fields : List (Field n)
   pub lawful : Reading n d base own fields

@@ -1,4 +1,4 @@
--- Document 01, "Lawful reading of a header": values, paths, widths, and where a field exists.
+-- H5 to H9 (docs/RULES.md): values, paths, widths, and where a field exists. d are the bytes of the MPDU.
 use mathlib.Core.Bool.{cond}
 use Prim.Native.Nat.{ℕ, zero, suc, _+_, _*_, _≤_, _<_}
 use mathlib.Core.List.{List, [], _∷_}
@@ -9,17 +9,16 @@ use Rattle.text.specs.Text.{same}
 use Rattle.bits.specs.Bits.{bitsAt}
 use Rattle.lawful.specs.Data.{Name, Path, Node, P, Seen, Field}
 
--- "Its value is its bits, first bit highest, if the width is 64 or less." d are the bytes of the MPDU
+-- H5: the value of a field, if it has one
 unfoldable pub valueOf : {A G : Type 0} → List ℕ → Seen A G → Option ℕ
 valueOf d f = cond (leb (f .bits) 64) (some (bitsAt d (f .start) (f .bits))) none
 
--- the first field of a name
+-- H6: the first field of a name
 unfoldable pub firstNamed : {A G : Type 0} → Name → List (Seen (Node A) G) → Option (Seen (Node A) G)
 firstNamed x [] = none
 firstNamed x (f ∷ fs) = cond (same (f .param .name) x) (some f) (firstNamed x fs)
 
--- "A path takes the first field of each name, level by level": the last name's field has the value; `deeper` finds the rest of the path inside
--- the field of another name
+-- H6: the last name's field has the value; `deeper` finds the rest of the path inside the field of another name
 unfoldable pub through : {A G : Type 0} → List ℕ → (Path → List G → Option ℕ) → Path → Option (Seen (Node A) G) → Option ℕ
 through d deeper path none = none
 through d deeper [] (some f) = valueOf d f
@@ -29,7 +28,7 @@ unfoldable pub inFirst : {A G : Type 0} → List ℕ → (Path → List G → Op
 inFirst d deeper [] fs = none
 inFirst d deeper (x ∷ path) fs = through d deeper path (firstNamed x fs)
 
--- the value that a path finds in a list of fields
+-- H6: the value that a path finds in a list of fields
 unfoldable pub valueAt : (n : ℕ) → List ℕ → Path → List (Field n) → Option ℕ
 valueAt zero d path fs = inFirst d (λ rest inner. none) path fs
 valueAt (suc n) d path fs = inFirst d (λ rest inner. valueAt n d rest inner) path fs
@@ -39,21 +38,21 @@ abbrev pub orZero : Option ℕ → ℕ
 orZero none = 0
 orZero (some v) = v
 
--- "its width .. (bits, or 8 times the value found by the size path, else 0, in exact whole numbers)"
+-- H8: the width by a P's bits and size path
 abbrev pub widthBy : ℕ → (Path → Option ℕ) → Option Path → ℕ
 widthBy bits find none = bits
 widthBy bits find (some path) = 8 * orZero (find path)
 
--- "Optional and size paths search only the fields already read in the same list": those are `before`
+-- H7, H8: the width of a field; `before` are the fields that were read earlier in its list
 unfoldable pub widthOf : (n : ℕ) → List ℕ → P n → List (Field n) → ℕ
 widthOf n d p before = widthBy (p .bits) (λ path. valueAt n d path before) (p .size)
 
--- "its optional path is missing or finds a nonzero value"
+-- H9: is it wanted by its optional path
 abbrev pub WantedBy : (Path → Option ℕ) → Option Path → Type 0
 WantedBy find none = Unit {0}
 WantedBy find (some path) = 0 < orZero (find path)
 
--- "A field exists at a bit place if its optional path is missing or finds a nonzero value, its width is over 0 .., and it ends within the MPDU."
+-- H9: the field of p exists at a bit place, after the fields `before`
 pub record Exists (n : ℕ) (d : List ℕ) (p : P n) (place : ℕ) (before : List (Field n)) : Type 0 where
   pub wanted : WantedBy (λ path. valueAt n d path before) (p .optional)
   pub wide : 0 < widthOf n d p before

@@ -1,5 +1,5 @@
--- Document 01, "What must change shape": "nested `Vec<Param>`, level-marked lines .. cloned candidate lists, one scratch list of 128 rows". The walk over
--- a flat list of P lines, from the rows before a field to the rows after it.
+-- H9 to H14 (docs/RULES.md) over a flat list of P lines, as the code has them: no trees, and one list of at most 128 rows. The walk goes from the rows
+-- before a field to the rows after it.
 use mathlib.Core.Bool.{Bool, true, cond, _&&_}
 use Prim.Native.Nat.{ℕ, zero, suc, _+_, _-_, _*_}
 use mathlib.Core.List.{List, [], _∷_, _++_, map}
@@ -26,7 +26,7 @@ bitsValue d s w = cond (leb w 64) (some (bitsAt d s w)) none
 unfoldable pub rowAt : List ℕ → ℕ → ℕ → ℕ → ℕ → Row
 rowAt d k p s w = record { number = k; parent = p; start = s; bits = w; valued = isSome (bitsValue d s w); value = orZero (bitsValue d s w) }
 
--- "All V must find a value equal to theirs."
+-- H14: does each V find its value
 unfoldable pub flatMeets : (ℕ → Name) → List Row → List Validation → Bool
 flatMeets names rows [] = true
 flatMeets names rows (v ∷ vs) = isValue (flatValue names rows (v .path) 0) (v .value) && flatMeets names rows vs
@@ -44,7 +44,7 @@ module _ (line : ℕ → Numbered) (inside : ℕ → List ℕ) where
   abbrev pub treeAt : (n : ℕ) → ℕ → P n
   treeAt n i = nodeAt i (kidsAt n i)
 
-  -- "Fields go by order, ties by text."
+  -- H4: the places of P lines, by order
   unfoldable pub insertAt : ℕ → List ℕ → List ℕ
   insertAt j [] = j ∷ []
   insertAt j (k ∷ ks) = cond (leb (line j .says .order) (line k .says .order)) (j ∷ k ∷ ks) (k ∷ insertAt j ks)

@@ -1,4 +1,4 @@
--- Document 01, "Lawful reading of a header": the reading as a relation, without any walk.
+-- H7 and H10 to H13 (docs/RULES.md): the reading as a relation, without any walk.
 use mathlib.Core.Path.{_≡_}
 use Prim.Native.Nat.{ℕ, zero, suc, _+_, _-_, _≤_, _<_}
 use mathlib.Core.List.{List, [], _∷_, _++_}
@@ -13,15 +13,14 @@ abbrev pub params : {A G : Type 0} → List (Seen A G) → List A
 params [] = []
 params (f ∷ fs) = f .param ∷ params fs
 
--- f stands at this bit, exists there by the fields `known`, is as wide as they make it, and what is inside it is lawful
+-- H10: f stands at this bit, exists there by the fields `known`, is as wide as they make it, and what is inside it is lawful
 pub record Stands (n : ℕ) (d : List ℕ) (Law : Field n → Type 0) (bit : ℕ) (known : List (Field n)) (f : Field n) : Type 0 where
   pub place : f .start ≡ bit
   pub exists : Exists n d (f .param) bit known
   pub width : f .bits ≡ widthOf n d (f .param) known
   pub inner : Law f
 
--- "the list of .. fields, in their order, in which each exists where the one before ended (..) and none that exists there at its turn is left out":
--- the fields fs are what is read of the Ps ps, from a bit on, after the fields `before`
+-- H7, H10: the fields fs are what is read of the outer Ps ps, from a bit on, after the fields `before`
 pub record Lawful (n : ℕ) (d : List ℕ) (Law : Field n → Type 0) (ps : List (P n)) (from : ℕ) (before : List (Field n)) (fs : List (Field n)) : Type 0 where
   -- their Ps are the first of ps, in order: one that doesn't exist ends the list, whatever the reason
   pub front : (rest : List (P n)) × (ps ≡ params fs ++ rest)
@@ -49,13 +48,12 @@ abbrev pub held : {n : ℕ} → List (Slot n) → List (Field n)
 held [] = []
 held (s ∷ ss) = onto (s .holds) (held ss)
 
--- "one that doesn't exist is skipped but keeps its room": a slot for p at this place holds a field exactly if p exists there
+-- H12: a slot for p at this place holds a field exactly if p exists there; the slot is there in either case
 abbrev pub Holds : (n : ℕ) → List ℕ → (Field n → Type 0) → ℕ → List (Field n) → P n → Option (Field n) → Type 0
 Holds n d Law bit known p none = Exists n d p bit known → ⊥
 Holds n d Law bit known p (some f) = (f .param ≡ p) × Stands n d Law bit known f
 
--- "Inner fields: take them while the declared widths so far fit the parent; each starts at the parent's end less that sum":
--- the slots ss are those of the Ps ps inside a field that ends at `end` and is `wide` bits wide, after the fields `before`
+-- H7, H12: the slots ss are those of the Ps ps inside a field that ends at `end` and is `wide` bits wide, after the fields `before`
 pub record Slots (n : ℕ) (d : List ℕ) (Law : Field n → Type 0) (ps : List (P n)) (end wide : ℕ) (before : List (Field n)) (ss : List (Slot n)) : Type 0 where
   -- one for each of the first of ps, in order
   pub front : (rest : List (P n)) × (ps ≡ ofs ss ++ rest)
@@ -67,7 +65,7 @@ pub record Slots (n : ℕ) (d : List ℕ) (Law : Field n → Type 0) (ps : List 
   pub each : (xs : List (Slot n)) (s : Slot n) (ys : List (Slot n)) → ss ≡ xs ++ s ∷ ys
       → Holds n d Law (end - (room xs + s .of .bits)) (before ++ held xs) (s .of) (s .holds)
 
--- the fields inside f are what the slots inside it hold
+-- H12: the fields inside f are what the slots inside it hold
 pub record Inside (n : ℕ) (d : List ℕ) (Law : Field n → Type 0) (f : Field (suc n)) : Type 0 where
   pub params : List (P n)
   pub in-order : InOrder (f .param .inside) params
@@ -75,12 +73,12 @@ pub record Inside (n : ℕ) (d : List ℕ) (Law : Field n → Type 0) (f : Field
   pub lawful : Slots n d Law params (f .start + f .bits) (f .bits) [] slots
   pub holds : f .inner ≡ held slots
 
--- "So a field and the list of fields inside it are each read through the other": what is inside f is lawful, at every depth
+-- H13: what is inside f is lawful, at every depth
 abbrev pub InLaw : (n : ℕ) → List ℕ → Field n → Type 0
 InLaw zero d f = Unit {0}
 InLaw (suc n) d f = Inside n d (InLaw n d) f
 
--- "The reading is the list of base fields .. (bit 0 for the first) .. Then the same for the candidate's fields from there."
+-- H11: the candidate's list starts where the base's ended
 pub record Reading (n : ℕ) (d : List ℕ) (base own : List (P n)) (fs : List (Field n)) : Type 0 where
   pub base-params : List (P n)
   pub base-order : InOrder base base-params

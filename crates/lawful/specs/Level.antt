@@ -1,4 +1,4 @@
--- Document 01, "Definition text": which P is inside which, said of places in a list of P lines.
+-- T18 (docs/RULES.md): which P is inside which, said of places in a list of P lines.
 use mathlib.Core.Path.{_≡_}
 use mathlib.Core.Logic.{_⊎_}
 use Prim.Native.Nat.{ℕ, zero, suc, _+_, _≤_, _<_}
@@ -8,7 +8,7 @@ use Rattle.frame_definition.specs.Definition.{Numbered}
 use Rattle.lawful.specs.Data.{Kid}
 use Rattle.lawful.specs.Loaded.{saidAt}
 
--- "A P of level n+1 is inside the last P of level n, if no lower P .. came between."
+-- T18: the P at place j lies in the P at place i
 pub record IsInside (ps : List Numbered) (i j : ℕ) : Type 0 where
   pub after : i < j
   pub there : j < length ps

@@ -1,4 +1,4 @@
--- Document 01, "Lawful reading of a header": "Fields go by order, ties by text."
+-- H4 (docs/RULES.md): the order in which the fields of a list are read.
 use mathlib.Core.Bool.{cond}
 use mathlib.Core.Path.{_≡_}
 use Prim.Native.Nat.{ℕ, _≤_}
@@ -21,7 +21,7 @@ unfoldable pub only : {K : Type 0} → ℕ → List (Node K) → List (Node K)
 only o [] = []
 only o (p ∷ ps) = cond (eqb (p .order) o) (p ∷ only o ps) (only o ps)
 
--- qs are the Ps ps by order, and those of one order stand as in the text
+-- H4: qs are the Ps ps by order, and those of one order stand as in the text
 pub record InOrder {K : Type 0} (ps qs : List (Node K)) : Type 0 where
   pub rising : Rising qs
   pub ties : (o : ℕ) → only o qs ≡ only o ps

@@ -1,4 +1,4 @@
--- The rows of a reading while it is made: "P number .., parent row + 1 or 0, start bit, bits, 1 if valued, value or 0"; and a path looked up in them.
+-- H18 and H19 (docs/RULES.md): the rows of a reading while it is made, six numbers each, without the symbol; and a path looked up in them.
 use mathlib.Core.Bool.{cond, _&&_}
 use Prim.Native.Nat.{ℕ, zero, suc, _+_}
 use mathlib.Core.List.{List, [], _∷_, _++_}
@@ -35,7 +35,7 @@ unfoldable pub innerRows : (n : ℕ) → List ℕ → ℕ → Field n → List R
 innerRows zero d at f = []
 innerRows (suc n) d at f = rowsEach (λ m g. rowOf d at g ∷ innerRows n d (m + 1) g) at (f .inner)
 
--- "Parent before children, children in walk order": the rows of fields, from the row `at` on, if their parent's row + 1 is given
+-- H19: the rows of fields, from the row `at` on, if their parent's row + 1 is given
 unfoldable pub rowsOf : (n : ℕ) → List ℕ → ℕ → ℕ → List (Field n) → List Row
 rowsOf n d parent at fs = rowsEach (λ m g. rowOf d parent g ∷ innerRows n d (m + 1) g) at fs
 
@@ -58,7 +58,7 @@ fromRow path deeper none = none
 fromRow [] deeper (some w) = rowValue (w .row)
 fromRow (y ∷ path) deeper (some w) = deeper (w .at + 1)
 
--- "A path takes the first field of each name, level by level": the value that it finds, from the rows with the parent p on
+-- H6: the value that a path finds, from the rows with the parent p on
 unfoldable pub flatValue : (ℕ → Name) → List Row → Path → ℕ → Option ℕ
 flatValue names rows [] p = none
 flatValue names rows (x ∷ path) p = fromRow path (λ q. flatValue names rows path q) (findRow names p x 0 rows)

@@ -1,4 +1,4 @@
--- Document 01, "Lawful reading of a header": the rows of the answer, seven numbers each.
+-- H17 to H19 (docs/RULES.md): the rows of the answer, seven numbers each.
 use mathlib.Core.List.{List, [], _∷_}
 use mathlib.Core.Option.{Option, none, some}
 use Prim.Native.Nat.{ℕ, zero, suc, _+_}
@@ -8,17 +8,18 @@ use Rattle.lawful.specs.Find.{valueOf, orZero}
 use Rattle.lawful.specs.Rows.{Row, isSome, rowValue, rowsEach}
 use Rattle.lawful.specs.Loaded.{saidAt, numberAt}
 
--- "Its symbol is the first E with that key in the first D of that name": the E's number within its set, from 0, + 1, or 0
+-- H17: the number of the symbol's E in its set, plus 1, or 0
 abbrev pub entryOf : Option Set → ℕ → ℕ
 entryOf none v = 0
 entryOf (some s) v = firstEntry v 0 (s .entries)
 
+-- H17: the same by the name of the set; 0 where there is no name or no value
 abbrev pub symbolOf : List Set → Option Name → Option ℕ → ℕ
 symbolOf sets none v = 0
 symbolOf sets (some name) none = 0
 symbolOf sets (some name) (some v) = entryOf (firstSet name sets) v
 
--- "Row: P number among all P lines from 0, parent row + 1 or 0, start bit, bits, 1 if valued, value or 0, E number within its set, from 0, + 1 or 0."
+-- H18: the row of a field whose parent's row + 1 is given
 unfoldable pub numbersOf : {K G : Type 0} → List ℕ → List Set → ℕ → Seen (Node K) G → List ℕ
 numbersOf d sets parent f =
     f .param .number ∷ parent ∷ f .start ∷ f .bits ∷ isSome (valueOf d f) ∷ orZero (valueOf d f) ∷ symbolOf sets (f .param .set) (valueOf d f) ∷ []
@@ -28,11 +29,11 @@ unfoldable pub innerTable : (n : ℕ) → List ℕ → List Set → ℕ → Fiel
 innerTable zero d sets at f = []
 innerTable (suc n) d sets at f = rowsEach (λ m g. numbersOf d sets at g ∷ innerTable n d sets (m + 1) g) at (f .inner)
 
--- "Parent before children, children in walk order."
+-- H19: the rows of fields, from the row `at` on, if their parent's row + 1 is given
 unfoldable pub tableFrom : (n : ℕ) → List ℕ → List Set → ℕ → ℕ → List (Field n) → List (List ℕ)
 tableFrom n d sets parent at fs = rowsEach (λ m g. numbersOf d sets parent g ∷ innerTable n d sets (m + 1) g) at fs
 
--- the rows of the outer fields of a reading
+-- H19: the rows of the outer fields of a reading
 abbrev pub tableOf : (n : ℕ) → List ℕ → List Set → List (Field n) → List (List ℕ)
 tableOf n d sets fs = tableFrom n d sets 0 0 fs
 

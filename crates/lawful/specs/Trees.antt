@@ -1,4 +1,4 @@
--- Document 01, "Definition text": the P lines under a B or an H as trees.
+-- T18 (docs/RULES.md): the P lines under a B or an H as trees.
 use mathlib.Core.Bool.{cond}
 use mathlib.Core.List.{List, [], _∷_}
 use Prim.Native.Nat.{ℕ, zero, suc}
@@ -20,8 +20,7 @@ node p kids =
       inside = kids;
     }
 
--- "A P of level n+1 is inside the last P of level n, if no lower P .. came between": the Ps of a level, up to the next P of a lower level. `make` makes
--- each of its line and the lines behind it
+-- T18: the Ps of a level, up to the next P of a lower level. `make` makes each of its line and the lines behind it
 unfoldable pub ofLevel : {K : Type 0} → (Numbered → List Numbered → K) → ℕ → List Numbered → List K
 ofLevel make level [] = []
 ofLevel make level (p ∷ ps) =
@@ -33,7 +32,7 @@ unfoldable pub kids : (n : ℕ) → ℕ → List Numbered → List (Kid n)
 kids zero level ps = []
 kids (suc n) level ps = ofLevel (λ p rest. node p (kids n (suc level) rest)) level ps
 
--- the outer Ps of an owner's P lines: level 0, and seven levels below it
+-- T18: the outer Ps of an owner's P lines: level 0, and seven levels below it
 unfoldable pub trees : List Numbered → List (P 7)
 trees ps = ofLevel (λ p rest. node p (kids 7 1 rest)) 0 ps
 

@@ -1,4 +1,4 @@
--- Document 01, "Lawful reading of a header": the reading as its rules compute it.
+-- H9 to H13 (docs/RULES.md): the reading as it is computed.
 use mathlib.Core.Bool.{Bool, true, cond, _&&_}
 use Prim.Native.Nat.{ℕ, zero, suc, _+_, _-_, _*_}
 use mathlib.Core.List.{List, [], _∷_, _++_}
@@ -9,7 +9,7 @@ use Rattle.lawful.specs.Data.{Path, P, Inner, Field, total}
 use Rattle.lawful.specs.Find.{valueAt, orZero, widthOf}
 use Rattle.lawful.specs.Order.{ordered}
 
--- "A field exists at a bit place if ..": the tests
+-- H9, as tests
 abbrev pub wantedBy : (Path → Option ℕ) → Option Path → Bool
 wantedBy find none = true
 wantedBy find (some path) = ltb 0 (orZero (find path))
@@ -19,8 +19,7 @@ exists n d p s before =
     wantedBy (λ path. valueAt n d path before) (p .optional)
     && (ltb 0 (widthOf n d p before) && leb (s + widthOf n d p before) (length d * 8))
 
--- "Inner fields: take them while the declared widths so far fit the parent; each starts at the parent's end less that sum; one that doesn't exist
--- is skipped but keeps its room." `end` and `room` are what is left of the parent; `read k s fs` is the field k at the bit s, after the fields fs
+-- H12: `end` and `room` are what is left of the parent; `read k s fs` is the field k at the bit s, after the fields fs
 unfoldable pub packed : (n : ℕ) → List ℕ → (P n → ℕ → List (Field n) → Field n) → List (P n) → ℕ → ℕ → List (Field n) → List (Field n)
 packed n d read [] end room before = []
 packed n d read (k ∷ ks) end room before =
@@ -34,17 +33,17 @@ packed n d read (k ∷ ks) end room before =
 abbrev pub made : (n : ℕ) → P n → ℕ → ℕ → List (Inner n) → Field n
 made n p s wide inner = record { param = p; start = s; bits = wide; inner = inner }
 
--- the fields inside the field p, which ends at `end` and is `wide` bits wide
+-- H13: the fields inside the field p, which ends at `end` and is `wide` bits wide
 unfoldable pub innerAt : (n : ℕ) → List ℕ → P n → ℕ → ℕ → List (Inner n)
 innerAt zero d p end wide = []
 innerAt (suc n) d p end wide =
     packed n d (λ k s fs. made n k s (widthOf n d k fs) (innerAt n d k (s + widthOf n d k fs) (widthOf n d k fs))) (ordered (p .inside)) end wide []
 
--- the field p at the bit s, after the fields `before`
+-- H13: the field p at the bit s, after the fields `before`
 abbrev pub fieldAt : (n : ℕ) → List ℕ → P n → ℕ → List (Field n) → Field n
 fieldAt n d p s before = made n p s (widthOf n d p before) (innerAt n d p (s + widthOf n d p before) (widthOf n d p before))
 
--- "each exists where the one before ended": fields from the bit s on, after the fields `before`. The first that does not exist ends the list
+-- H10: outer fields from the bit s on, after the fields `before`. The first that does not exist ends the list
 unfoldable pub listed : (n : ℕ) → List ℕ → List (P n) → ℕ → List (Field n) → List (Field n)
 listed n d [] s before = []
 listed n d (p ∷ ps) s before =
@@ -52,9 +51,10 @@ listed n d (p ∷ ps) s before =
     (fieldAt n d p s before ∷ listed n d ps (s + widthOf n d p before) (before ++ (fieldAt n d p s before ∷ [])))
     []
 
--- "the list of base fields .. Then the same for the candidate's fields from there"
+-- H11: the base's fields, from bit 0
 unfoldable pub baseRead : (n : ℕ) → List ℕ → List (P n) → List (Field n)
 baseRead n d base = listed n d (ordered base) 0 []
 
+-- H11: these, and behind them the candidate's
 unfoldable pub reading : (n : ℕ) → List ℕ → List (P n) → List (P n) → List (Field n)
 reading n d base own = baseRead n d base ++ listed n d (ordered own) (total (baseRead n d base)) (baseRead n d base)

@@ -32,9 +32,7 @@ fn tell_params(params: Params) -> TapParams
     }
 }
 
-// The parameters of a command by its text, into the table, nine numbers a row: kind (0 parameter, 1 bit child, 2 repetition), line in the
-// text from 1, parent row + 1 or 0, start, end, 1 if valued, value, line of the K that names it or 0, number of a repetition. Refusals 1 to
-// 5 and 8.
+// The parameters of a command by its text, into the table, the nine numbers of C16 (docs/RULES.md) a row. Refusals 1 to 5 and 8.
 #[no_mangle]
 pub extern "C" fn tap_decode_params(text: &[u8], payload: &[u8], rows: &mut [u64]) -> TapParams
     ensures { λ r. ⌜ ToldParams (now (text .entry)) (now (payload .entry)) (now (rows .entry)) r (now (rows .exit)) ⌝ }

@@ -77,7 +77,7 @@ pub extern "C" fn tap_count_records(payload: &[u8]) -> TapAnswer
     tell_count(count)
 }
 
-// Body k of a payload, from 0, as a part of the payload; an empty part where there is none or the payload is too long.
+// Where body k of a payload lies, from 0; an empty part where there is none or the payload is too long.
 #[no_mangle]
 pub extern "C" fn tap_record_body(payload: &[u8], k: usize) -> TapPart
     ensures { λ r. ⌜ r ≡ part (spanOf (now (payload .entry)) k) ⌝ }
@@ -153,8 +153,7 @@ fn tell(frames: Frames) -> TapAnswer
     }
 }
 
-// Every frame of a payload into a table, eight numbers a row: direction (0 Rx, 1 Tx), region, channel, rate, RSSI byte, beam count or
-// 0 for none, MPDU start in the payload, MPDU length. Answers the rows, or refusal 4 or 8.
+// Every frame of a payload into a table, the eight numbers of F17 (docs/RULES.md) a row. Answers the rows, or refusal 4 or 8.
 #[no_mangle]
 pub extern "C" fn tap_parse_payload(payload: &[u8], table: &mut [u64]) -> TapAnswer
     ensures { λ r. ⌜ Told (now (payload .entry)) (now (table .entry)) r (now (table .exit)) ⌝ }

@@ -15,8 +15,8 @@ pub struct TapBits {
     pub value: u64,
 }
 
-// A header as C has it: where `refusal` is 0, the H's number among the H lines, its key, where the payload starts in the MPDU, how many
-// rows there are, whether the checksum or CRC is right, and the H's four flags.
+// A header as C has it: where `refusal` is 0, which H line it is, its key, where the payload starts in the MPDU, how many rows there
+// are, whether the checksum or CRC is right, and the H's four flags.
 #[repr(C)]
 pub struct TapHeader {
     pub refusal: u64,
@@ -104,8 +104,7 @@ fn tell_header(decoded: Decoded) -> TapHeader
     }
 }
 
-// The header of an MPDU by a frame text, its rows into the table, seven numbers a row: P's number among the P lines, parent row + 1 or 0,
-// start bit, bits, 1 if valued, value, E's number within its set + 1 or 0. `region` is an F's code. Refusals 1 to 8.
+// The header of an MPDU by a frame text, its rows into the table, the seven numbers of H18 (docs/RULES.md) a row. `region` is an F's code. Refusals 1 to 8.
 #[no_mangle]
 pub extern "C" fn tap_decode_header(
     text: &[u8],

@@ -1,4 +1,4 @@
--- Document 01, "Definition text", as tables: how many fields follow a letter, and what each of them must be.
+-- T9 to T15 and T21 to T29 (docs/RULES.md) as tables: how many fields follow a letter, and what each of them must be.
 -- The crate `advice` proves that they say what the forms say.
 use Prim.Native.Nat.{ℕ}
 use mathlib.Core.Bool.{cond}
@@ -17,11 +17,11 @@ commandCount c =
     cond (eqb c 0x51) 5 (cond (eqb c 0x47) 4 (cond (eqb c 0x52) 4 (cond (eqb c 0x41) 2 (cond (eqb c 0x54) 2
     (cond (eqb c 0x53) 3 (cond (eqb c 0x55) 3 (cond (eqb c 0x4b) 2 (cond (eqb c 0x4d) 1 0))))))))
 
--- "H, key, base key ?, one field of four digits 0/1 .., name"
+-- T11: an H
 abbrev pub wantHeader : ℕ → Want
 wantHeader k = cond (eqb k 1) (Number 255) (cond (eqb k 2) (OptionalNumber 255) (cond (eqb k 3) Flags Name))
 
--- "P, level, order, bits, type, name, define set ?, optional path ?, size path ?"
+-- T12: a P
 abbrev pub wantNumbers : ℕ → Want
 wantNumbers k = cond (eqb k 1) Level (cond (eqb k 2) (Number 65535) (Number 255))
 
@@ -29,31 +29,31 @@ abbrev pub wantParam : ℕ → Want
 wantParam k =
     cond (eqb k 4) FrameType (cond (eqb k 5) Plain (cond (eqb k 6) OptionalName (cond (eqb k 7) OptionalPath (cond (eqb k 8) OptionalPath (wantNumbers k)))))
 
--- "V, path, value 0 to 65535"
+-- T13: a V
 abbrev pub wantValidation : ℕ → Want
 wantValidation k = cond (eqb k 1) Path (Number 65535)
 
--- "E, key 0 to 65535, text (a name)"; "T, mask, name"; "K, value, name"
+-- T15, T25, T28: an E, a T, a K
 abbrev pub wantNamed : ℕ → ℕ → Want
 wantNamed k most = cond (eqb k 1) (Number most) Name
 
--- "Q, level 0 or 1, type, name, optional offset ?, optional mask ?"
+-- T21: a Q
 abbrev pub wantParameter : ℕ → Want
 wantParameter k = cond (eqb k 1) (Number 1) (cond (eqb k 2) CommandType (cond (eqb k 3) Name (OptionalNumber 255)))
 
--- "G, name, offset, mask, shift"
+-- T22: a G
 abbrev pub wantGroup : ℕ → Want
 wantGroup k = cond (eqb k 1) Name (Number 255)
 
--- "R, offset, mask, shift ?, ascii 0/1"
+-- T23: an R
 abbrev pub wantVariant : ℕ → Want
 wantVariant k = cond (eqb k 3) (OptionalNumber 255) (cond (eqb k 4) (Number 1) (Number 255))
 
--- "A, length, ascii"
+-- T24: an A
 abbrev pub wantArray : ℕ → Want
 wantArray k = cond (eqb k 1) (Number 255) (Number 1)
 
--- "S, mask, shift ?, name"; "U, the same"
+-- T26, T27: an S, a U
 abbrev pub wantBits : ℕ → Want
 wantBits k = cond (eqb k 1) (Number 255) (cond (eqb k 2) (OptionalNumber 255) Name)
 

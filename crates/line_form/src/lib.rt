@@ -1,5 +1,5 @@
 // The forms of both definition texts as tables: how many fields follow a letter, and what each of them must be.
-// Document 01, "Definition text", has them in words.
+// T9 to T15 and T21 to T29 of docs/RULES.md have them in words.
 use fault::Want;
 ghost use mathlib.Core.Path.{_≡_};
 ghost use Rattle.line_form.specs.Form.{frameCount, commandCount, wantHeader, wantNumbers, wantParam, wantParameter, wantGroup, wantVariant, wantBits, wantArray, wantNamed, wantValidation, frameWant, itemWant, wantOf};
@@ -38,7 +38,7 @@ pub fn command_count(letter: u8) -> usize
     }
 }
 
-// H, key, base key ?, flags, name.
+// T11: an H.
 fn want_header(k: usize) -> Want
     ensures { λ r. ⌜ r ≡ wantHeader k ⌝ }
 {
@@ -50,7 +50,7 @@ fn want_header(k: usize) -> Want
     }
 }
 
-// P, level, order, bits, type, name, define set ?, optional path ?, size path ?: its numbers.
+// T12: the numbers of a P.
 fn want_numbers(k: usize) -> Want
     ensures { λ r. ⌜ r ≡ wantNumbers k ⌝ }
 {
@@ -75,7 +75,7 @@ fn want_param(k: usize) -> Want
     }
 }
 
-// Q, level, type, name, optional offset ?, optional mask ?.
+// T21: a Q.
 fn want_parameter(k: usize) -> Want
     ensures { λ r. ⌜ r ≡ wantParameter k ⌝ }
 {
@@ -87,7 +87,7 @@ fn want_parameter(k: usize) -> Want
     }
 }
 
-// G, name, offset, mask, shift.
+// T22: a G.
 fn want_group(k: usize) -> Want
     ensures { λ r. ⌜ r ≡ wantGroup k ⌝ }
 {
@@ -97,7 +97,7 @@ fn want_group(k: usize) -> Want
     }
 }
 
-// R, offset, mask, shift ?, ascii.
+// T23: an R.
 fn want_variant(k: usize) -> Want
     ensures { λ r. ⌜ r ≡ wantVariant k ⌝ }
 {
@@ -108,7 +108,7 @@ fn want_variant(k: usize) -> Want
     }
 }
 
-// S or U, mask, shift ?, name.
+// T26, T27: an S, a U.
 fn want_bits(k: usize) -> Want
     ensures { λ r. ⌜ r ≡ wantBits k ⌝ }
 {
@@ -119,7 +119,7 @@ fn want_bits(k: usize) -> Want
     }
 }
 
-// A, length, ascii.
+// T24: an A.
 fn want_array(k: usize) -> Want
     ensures { λ r. ⌜ r ≡ wantArray k ⌝ }
 {
@@ -129,7 +129,7 @@ fn want_array(k: usize) -> Want
     }
 }
 
-// A number of at most this, and then a name: E, T, K.
+// T15, T25, T28: a number of at most this, and then a name, in an E, a T, a K.
 fn want_named(k: usize, most: u16) -> Want
     ensures { λ r. ⌜ r ≡ wantNamed k most ⌝ }
 {
@@ -139,7 +139,7 @@ fn want_named(k: usize, most: u16) -> Want
     }
 }
 
-// V, path, value.
+// T13: a V.
 fn want_validation(k: usize) -> Want
     ensures { λ r. ⌜ r ≡ wantValidation k ⌝ }
 {

@@ -1,4 +1,4 @@
-// How a run of tap ends. The last line of its output is `ok`, `refused N V` (a refusal of document 01: its number and what it
+// How a run of tap ends. The last line of its output is `ok`, `refused N V` (a refusal of docs/RULES.md: its number and what it
 // carries) or `failed`. Where it failed, one line on standard error says why.
 use libc::STDERR_FILENO;
 use libc::STDOUT_FILENO;

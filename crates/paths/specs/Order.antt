@@ -1,4 +1,4 @@
--- "Fields go by order, ties by text": fields of one list, chosen one after the other.
+-- H4 (docs/RULES.md): fields of one list, chosen one after the other.
 use mathlib.Core.Path.{_≡_}
 use mathlib.Core.Bool.{Bool, true, cond}
 use mathlib.Core.List.{List, [], _∷_}

@@ -1,6 +1,6 @@
 // What a path finds among the rows that a walk has read. Counterpart of `find_param` of frame_definition/decode.rs.
-// The rows stand in a scratch table, six numbers each: the place of the P among the loaded lines, parent row + 1 or 0, start bit, bits,
-// 1 if valued, value or 0. Names and paths stay parts of the text.
+// The rows stand in a scratch table, six numbers each: the place of the P among the loaded lines, and then numbers 1 to 5 of H18
+// (docs/RULES.md). Names and paths stay parts of the text.
 pub mod order;
 
 use fields::WIDTH;

@@ -1,4 +1,4 @@
-// "Fields go by order, ties by text": a choice of the next, in place of a sort.
+// H4 of docs/RULES.md: a choice of the next field, in place of a sort.
 use fields::WIDTH;
 ghost use mathlib.Core.Path.{_≡_};
 ghost use Prim.Native.Nat.{_+_, _*_, _≤_};

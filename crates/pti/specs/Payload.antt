@@ -1,4 +1,4 @@
--- Document 01, "Records and frames": the frames of a payload as rows of a table, eight numbers a row.
+-- F17 and F18 (docs/RULES.md): the frames of a payload as rows of a table, eight numbers a row.
 use mathlib.Core.Path.{_≡_}
 use mathlib.Core.Bool.{cond}
 use mathlib.Core.List.{List, [], _∷_}
@@ -19,23 +19,22 @@ use Rattle.pti.specs.declared.payload.Frames.the-variants.{Rows, Refused
 use Rattle.records.specs.Records.{bodies, bytesOf}
 use Rattle.frame.specs.Frame.{isFrame, frameOf}
 
--- direction 0 is Rx, 1 is Tx
+-- F17: 0 is Rx, 1 is Tx
 abbrev pub directionNumber : Direction → ℕ
 directionNumber Rx = 0
 directionNumber Tx = 1
 
--- the beam count, or 0 for none: a beam counts at least 1
+-- F17: the beam count, or 0 for none; a beam counts at least 1
 abbrev pub beamsNumber : Beams → ℕ
 beamsNumber (Count n) = n
 beamsNumber NoBeam = 0
 
--- "direction, region, channel, rate, RSSI, beam count or none, MPDU start in the payload (..), MPDU length": the row of a frame whose body
--- starts at a place of the payload. The RSSI is its byte.
+-- F17: the row of a frame whose body starts at this place of the payload
 abbrev pub rowOf : ℕ → PtiFrame → List ℕ
 rowOf body f =
     directionNumber (f .direction) ∷ f .region ∷ f .channel ∷ f .rate ∷ ofZ w8 (f .rssi) ∷ beamsNumber (f .beams) ∷ (body + f .start .0) ∷ f .length ∷ []
 
--- the rows of the bodies that hold a frame, in their order
+-- F18: the rows of the bodies that hold a frame, in their order
 unfoldable pub rowsIn : List ℕ → List (ℕ × ℕ) → List (List ℕ)
 rowsIn s [] = []
 rowsIn s (b ∷ bs) = cond (isFrame (bytesOf s b)) (rowOf (b .0) (frameOf (bytesOf s b)) ∷ rowsIn s bs) (rowsIn s bs)
@@ -43,19 +42,19 @@ rowsIn s (b ∷ bs) = cond (isFrame (bytesOf s b)) (rowOf (b .0) (frameOf (bytes
 abbrev pub rowsOf : List ℕ → List (List ℕ)
 rowsOf s = rowsIn s (bodies s)
 
--- refusal 4 for a payload over 65,535 bytes; 8 where the table has fewer rows; else the number of rows
+-- F18, R11: how many rows there are, or the refusal, for a table of `room` numbers
 abbrev pub framesOf : List ℕ → ℕ → Frames
 framesOf s room =
     cond (leb (length s) 65535)
     (cond (leb (length (rowsOf s)) (room / 8)) (Rows (length (rowsOf s))) (Refused (MoreRows (length (rowsOf s)))))
     (Refused (TooLong (length s)))
 
--- "No refusal writes to a table; an answer leaves rows past its last untouched."
+-- R12: the table after an answer or a refusal
 abbrev pub tableAfter : List ℕ → List ℕ → Frames → List ℕ
 tableAfter s t (Rows n) = laid t (rowsOf s)
 tableAfter s t (Refused x) = t
 
--- what a call of `parse_payload` answers and leaves, for a payload s and a table t
+-- F18: what a call of `parse_payload` answers and leaves, for a payload s and a table t
 pub record Parses (s t : List ℕ) (r : Frames) (t′ : List ℕ) : Type 0 where
   pub answer : r ≡ framesOf s (length t)
   pub table : t′ ≡ tableAfter s t r

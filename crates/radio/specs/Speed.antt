@@ -1,5 +1,4 @@
--- Document 01, "Records and frames": "Rates stand in a single table of 512 rates, sixteen channels by thirty-two regions,
--- equal to the four lists of speed.rs (53 entries) and 0 elsewhere; other arguments give 0."
+-- F13 (docs/RULES.md): the rate of a channel in a region.
 use mathlib.Core.Path.{_≡_}
 use mathlib.Core.Bool.{Bool, false, cond, _&&_, _||_}
 use mathlib.Core.List.{List, [], _∷_}
@@ -7,7 +6,7 @@ use Prim.Native.Nat.{ℕ, _+_, _*_, _<_}
 use lib.Dec.{eqb}
 use lib.ListN.{getD}
 
--- the four lists, as pairs of a channel and a region: 9.6 kbit/s
+-- the four lists of zniff-rs, as pairs of a channel and a region: 9.6 kbit/s
 abbrev pub baud9600 : List (ℕ × ℕ)
 baud9600 = (2, 1) ∷ (2, 2) ∷ (2, 3) ∷ (2, 4) ∷ (2, 5) ∷ (2, 6) ∷ (2, 8) ∷ (2, 9) ∷ (2, 11) ∷ (2, 12) ∷ (2, 13) ∷ (2, 15) ∷ (2, 16) ∷ []
 
@@ -28,7 +27,7 @@ abbrev pub contains : List (ℕ × ℕ) → ℕ → ℕ → Bool
 contains [] channel region = false
 contains (x ∷ xs) channel region = (eqb channel (x .0) && eqb region (x .1)) || contains xs channel region
 
--- the rate: 0 is 9.6 kbit/s, 1 is 40, 2 is 100, 3 is Long Range; 0 for a pair that no list has
+-- F13: 0 is 9.6 kbit/s, 1 is 40, 2 is 100, 3 is Long Range; 0 for a pair that no list has
 unfoldable pub rateOf : ℕ → ℕ → ℕ
 rateOf channel region =
     cond (contains baud9600 channel region) 0
@@ -36,6 +35,6 @@ rateOf channel region =
     (cond (contains baud100k channel region) 2
     (cond (contains baudLr channel region) 3 0)))
 
--- a table has the rate of each of sixteen channels in each of thirty-two regions
+-- F13: a table has the rate of each of 16 channels in each of 32 regions
 pub record RateTable (t : List ℕ) : Type 0 where
   pub entry : (channel region : ℕ) → channel < 16 → region < 32 → getD t (channel * 32 + region) 0 ≡ rateOf channel region

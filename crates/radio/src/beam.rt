@@ -1,4 +1,4 @@
-// How often a wake-up beam stands in the middle bytes of a record: document 01, "Beam width w is 4 at rate 3, else 3".
+// How often a wake-up beam stands in the middle bytes of a record: F14 and F15 of docs/RULES.md.
 ghost use mathlib.Core.Path.{_≡_};
 ghost use mathlib.Core.Bool.{cond, _&&_};
 ghost use Prim.Native.Nat.{_<_, _≤_};

@@ -1,4 +1,4 @@
-// Channel and region to bit rate: document 01, "a single table of 512 rates, sixteen channels by thirty-two regions".
+// Channel and region to bit rate: F13 of docs/RULES.md.
 ghost use mathlib.Core.Path.{_≡_};
 ghost use Rattle.radio.specs.Speed.{rateOf, RateTable};
 

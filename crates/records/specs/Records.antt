@@ -1,4 +1,4 @@
--- Document 01, "Records and frames": the records of a payload and their bodies. A body is its start in the payload and its length.
+-- F1 to F6 (docs/RULES.md): the records of a payload and their bodies. A body is its start in the payload and its length.
 use mathlib.Core.Path.{_≡_}
 use mathlib.Core.Bool.{Bool, cond, _&&_}
 use mathlib.Core.List.{List, [], _∷_}
@@ -12,8 +12,7 @@ use Rattle.records.specs.declared.RecordAt.the-variants.{Record, Stop}
 use Rattle.records.specs.declared.Counted.{Counted}
 use Rattle.records.specs.declared.Counted.the-variants.{Records, Refused}
 
--- "A payload of 4 bytes or fewer has no records." A record stands at a place, "while it is inside the payload: n is the byte there. Stop if
--- place + n is at or past the end, the byte before isn't 0x5B, or the byte at place + n isn't 0x5D."
+-- F1: does a record stand at this place
 abbrev pub stands : List ℕ → ℕ → Bool
 stands s at =
     ltb 4 (length s)
@@ -21,14 +20,15 @@ stands s at =
     && (ltb (at + getD s at 0) (length s)
     && (eqb (getD s (at - 1) 0) 0x5B && eqb (getD s (at + getD s at 0) 0) 0x5D)))
 
+-- F1: the record at this place, if one stands there
 abbrev pub recordAt : List ℕ → ℕ → RecordAt
 recordAt s at = cond (stands s at) (Record (getD s at 0)) Stop
 
--- "If n is 2 or more, the body is bytes place+2 up to place+n, end excluded."
+-- F2: the body of a record at a place, if it has one, in front of others
 abbrev pub bodyOf : ℕ → ℕ → List (ℕ × ℕ) → List (ℕ × ℕ)
 bodyOf at n others = cond (leb 2 n) ((at + 2, n - 2) ∷ others) others
 
--- the bodies from a place on, of at most so many records: "Go on by n + 2."
+-- F3: the bodies from a place on, of at most so many records
 abbrev pub upTo : ℕ → List ℕ → ℕ → List (ℕ × ℕ)
 upTo zero s at = []
 upTo (suc m) s at = cond (stands s at) (bodyOf at (getD s at 0) (upTo m s (at + getD s at 0 + 2))) []
@@ -37,15 +37,15 @@ upTo (suc m) s at = cond (stands s at) (bodyOf at (getD s at 0) (upTo m s (at + 
 unfoldable pub bodiesFrom : List ℕ → ℕ → List (ℕ × ℕ)
 bodiesFrom s at = upTo (length s) s at
 
--- "From place 1"
+-- F3, F4: the bodies of a payload, in order; the first place is 1
 abbrev pub bodies : List ℕ → List (ℕ × ℕ)
 bodies s = bodiesFrom s 1
 
--- "One call counts the bodies, or refuses by 4" (payload over 65,535)
+-- F5: what `count_records` answers
 abbrev pub countedOf : List ℕ → Counted
 countedOf s = cond (leb (length s) 65535) (Records (length (bodies s))) (Refused (TooLong (length s)))
 
--- "another takes k, from 0, and body k is shown as a part of the payload itself (an empty part if there is none or 4 holds)"
+-- F6: where body k lies; nothing, at 0, where there is none
 abbrev pub spanOf : List ℕ → ℕ → ℕ × ℕ
 spanOf s k = cond (leb (length s) 65535) (getD (bodies s) k (0, 0)) (0, 0)
 
@@ -53,7 +53,7 @@ spanOf s k = cond (leb (length s) 65535) (getD (bodies s) k (0, 0)) (0, 0)
 abbrev pub bytesOf : List ℕ → ℕ × ℕ → List ℕ
 bytesOf s b = take (b .1) (drop (b .0) s)
 
--- the slice r is that part of the slice s itself: it lies in the same memory, that much further on, and has those bytes
+-- F6: the slice r is that part of the slice s: it lies in the same memory, that much further on, and has those bytes
 pub record PartOf (s r : RefT (List ℕ)) (b : ℕ × ℕ) : Type 0 where
   pub block : ptr r .0 ≡ ptr s .0
   pub place : ptr r .1 ≡ ptr s .1 + b .0

@@ -1,4 +1,4 @@
-// The records of a payload: how many bodies there are, and each as a part of the payload itself.
+// The records of a payload (F1 to F6 of docs/RULES.md): how many bodies there are, and each as a part of the payload.
 use refusal::Refusal;
 ghost use mathlib.Core.Path.{_≡_};
 ghost use Prim.Native.Nat.{_<_, _+_, _^_};
@@ -137,7 +137,7 @@ pub fn find_body(payload: &[u8], k: usize) -> Span
     }
 }
 
-// Body k of a payload, from 0, as a part of the payload itself; an empty part where there is none or the payload is too long.
+// Body k of a payload, from 0: a part of the payload, which is empty where there is none or the payload is too long.
 pub fn record_body(payload: &[u8], k: usize) -> &[u8]
     ensures { λ r. ⌜ PartOf (payload .entry) r (spanOf (now (payload .entry)) k) ⌝ }
 {

@@ -1,9 +1,9 @@
--- Document 01, "Refusal numbers": the number of each case, and what it carries.
+-- R1 to R9 (docs/RULES.md): the number of each refusal, and what it carries.
 use Prim.Native.Nat.{ℕ}
 use Rattle.refusal.specs.declared.Refusal.{Refusal}
 use Rattle.refusal.specs.declared.Refusal.the-variants.{Form, Limit, Owner, TooLong, TooShort, NoBase, NoCandidate, MoreRows, NotAFrame}
 
--- the column "No."
+-- R1 to R9: the case of refusal n has the number n
 abbrev pub numberOf : Refusal → ℕ
 numberOf (Form line) = 1
 numberOf (Limit line) = 2
@@ -15,7 +15,7 @@ numberOf NoCandidate = 7
 numberOf (MoreRows rows) = 8
 numberOf NotAFrame = 9
 
--- the column "Carries"
+-- R1 to R9: a line, a length, a key, a count of rows, or 0
 abbrev pub carriedBy : Refusal → ℕ
 carriedBy (Form line) = line
 carriedBy (Limit line) = line

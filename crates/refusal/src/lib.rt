@@ -1,31 +1,31 @@
-// Why a call refuses: document 01, "Refusal numbers". One case a number, with what it carries.
+// Why a call refuses: R1 to R9 of docs/RULES.md. One case a number, with what it carries.
 // Every public call of the tap answers with its numbers or with one of these.
 ghost use mathlib.Core.Path.{_≡_};
 ghost use Rattle.refusal.specs.Refusal.{numberOf, carriedBy};
 
 pub enum Refusal {
-    // 1: a line of a definition text isn't one of the forms. Carries the line, from 1.
+    // 1: a line of a definition text has none of the forms. Carries the line, from 1.
     Form(usize),
     // 2: a limit is passed. Carries the line, or 0 for the length of the text.
     Limit(usize),
     // 3: a line has no owner or parent, or has what its place forbids. Carries the line.
     Owner(usize),
-    // 4: a payload, record body, MPDU or command payload is too long. Carries its length.
+    // 4: a payload, a record's body, an MPDU or a command is too long. Carries its length.
     TooLong(usize),
-    // 5: an MPDU or command payload is too short. Carries its length.
+    // 5: an MPDU or a command is too short. Carries its length.
     TooShort(usize),
-    // 6: there is no base header with the key. Carries the key.
+    // 6: no B has the base key that is sought. Carries the key.
     NoBase(usize),
     // 7: no candidate holds.
     NoCandidate,
-    // 8: the right answer has more rows than the table. Carries the rows needed.
+    // 8: the answer does not fit into the table. Carries how many rows it has.
     MoreRows(usize),
-    // 9: a single record is not a frame.
+    // 9: a body that was handed over by itself is no frame.
     NotAFrame,
 }
 
 impl Refusal {
-    // The number that document 01 gives the case.
+    // The number of the case.
     pub fn number(self) -> u8
         ensures { λ r. ⌜ r ≡ numberOf self ⌝ }
     {

@@ -1,4 +1,4 @@
-// A PTI region's number isn't an F code: this is the table of definitions/README.md that leads from one to the other.
+// PTI regions and F codes are numbered apart: this is the table of definitions/README.md that leads from one to the other.
 
 // The F code of a PTI region. One that there isn't has a code that no F line has.
 pub fn frame_code(region: u64) -> u64 {

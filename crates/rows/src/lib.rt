@@ -1,4 +1,4 @@
-// Row tables: document 01, "Tables" of the calls that answer rows. A table is a lent slice of numbers, row by row;
+// Row tables: R12 of docs/RULES.md. A table is a lent slice of numbers, row by row;
 // a row stands at a place if all of it lies inside the table.
 ghost use mathlib.Core.Path.{_≡_};
 ghost use Rattle.rows.specs.Rows.{put};

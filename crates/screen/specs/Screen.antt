@@ -1,5 +1,4 @@
--- Document 01, "Records and frames": "The frame table handed to the screen is a row of frame records: direction, region, channel, rate, RSSI, beam count or none, MPDU start in the payload
--- (in the body, for a single record), MPDU length." A flat row is eight numbers in that order; flat rows stand one behind the other in a list of numbers.
+-- F19 (docs/RULES.md): frame records for the screen. A flat row is eight numbers, as F17 says; flat rows stand one behind the other in a list of numbers.
 use mathlib.Core.Path.{_≡_}
 use mathlib.Core.Bool.{cond, not, _&&_}
 use mathlib.Core.List.{List, [], _∷_, _++_}
@@ -10,8 +9,8 @@ use mir.Syntax.{w8}
 use mir.Val.{toZ}
 use Rattle.screen.specs.declared.FrameRecord.{FrameRecord}
 
--- The frame record of the flat row that comes first in these numbers: the RSSI is the signed number of its byte, and there is a beam count where it isn't 0. Of a number that is
--- wider than its field, which no flat row of a frame has, the low bits are kept.
+-- F19: the frame record of the flat row that comes first in these numbers: the RSSI is the signed number of its byte, and there is a beam
+-- count where it isn't 0. Of a number that is wider than its field, which no flat row of a frame has, the low bits are kept.
 unfoldable pub recordOf : List ℕ → FrameRecord
 recordOf row =
     record {
@@ -26,7 +25,7 @@ recordOf row =
       length = getD row 7 0;
     }
 
--- "a row of frame records": those of the first n flat rows.
+-- F19: the frame records of the first n flat rows.
 abbrev pub recordsOf : ℕ → List ℕ → List FrameRecord
 recordsOf zero rows = []
 recordsOf (suc n) rows = recordOf rows ∷ recordsOf n (drop 8 rows)
@@ -35,11 +34,11 @@ recordsOf (suc n) rows = recordOf rows ∷ recordsOf n (drop 8 rows)
 abbrev pub filled : ℕ → List ℕ → List FrameRecord → List FrameRecord
 filled n rows frames = recordsOf n rows ++ drop n frames
 
--- How many are filled of n: all, where the table has n records and the numbers are n flat rows or more; else none.
+-- F19: how many are filled of n. All, where the table has n records and the numbers are n flat rows or more; else none.
 unfoldable pub fillableOf : ℕ → ℕ → ℕ → ℕ
 fillableOf n records numbers = cond (leb n records && leb n (numbers / 8)) n 0
 
--- The answer, and the frame table then.
+-- F19: the answer, and the frame table then.
 pub record Filled (rows : List ℕ) (n : ℕ) (entry : List FrameRecord) (answer : ℕ) (exit : List FrameRecord) : Type 0 where
   pub count : answer ≡ fillableOf n (length entry) (length rows)
   pub table : exit ≡ filled answer rows entry

@@ -1,4 +1,4 @@
-// The frame table handed to the screen: a row of frame records, filled from the flat rows of `parse_payload`.
+// Frame records for the screen, filled from the flat rows of `parse_payload`: F19 of docs/RULES.md.
 use radio::rssi::signed;
 ghost use mathlib.Core.Path.{_≡_};
 ghost use Prim.Native.Nat.{_≤_, _+_, _*_};

@@ -1,5 +1,5 @@
 // tap: the Z-Wave frames of a capture, and the definitions that name them, for people. The last line of the output is `ok`,
-// `refused N V` (a refusal of document 01: its number and what it carries) or `failed`. A program has no exit status here;
+// `refused N V` (a refusal of docs/RULES.md: its number and what it carries) or `failed`. A program has no exit status here;
 // bin/tap makes one of that line.
 use check::same;
 use check_file::check_definition;

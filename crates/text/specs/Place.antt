@@ -1,4 +1,4 @@
--- A place in a text, and the line that is read there.
+-- T8 (docs/RULES.md): a place in a text, and the line that is read there.
 use Prim.Native.Nat.{ℕ, zero, suc, _+_, _-_, _≤_, _<_}
 use mathlib.Core.Bool.{cond}
 use mathlib.Core.Path.{_≡_}
@@ -29,7 +29,7 @@ abbrev pub longer : ℕ → First → First
 longer x unended = unended
 longer x (ended fs rest) = ended (onto x fs) rest
 
--- the first line of a text: its fields are parted by 0x09, and 0x0A ends it
+-- T1, T2: the first line of a text
 abbrev pub first : List ℕ → First
 first [] = unended
 first (x ∷ xs) = cond (eqb x 0x0a) (ended ([] ∷ []) xs) (cond (eqb x 0x09) (after ([] ∷ []) (first xs)) (longer x (first xs)))
@@ -39,7 +39,7 @@ abbrev pub short : First → First
 short unended = unended
 short (ended fs rest) = cond (leb (length fs) 9) (ended fs rest) unended
 
--- the kind of a line: its first field, if that is one byte; else 0, which no form has
+-- T2: the kind of a line, its first field if that is one byte; else 0, which no form has
 abbrev pub kindOf : List (List ℕ) → ℕ
 kindOf [] = 0
 kindOf ([] ∷ fs) = 0
@@ -96,7 +96,7 @@ pub record Cuts (t : List ℕ) (at : ℕ) (r : Fields) : Type 0 where
 abbrev pub heard : List ℕ → Line → First
 heard t r = cond (eqb (r .fields) 0) unended (ended (cells t r) (left t (r .next)))
 
--- what a step from the place p tells: the line there, and the next place
+-- T8: what a step from the place p tells: the line there, and the next place
 pub record Steps (t : List ℕ) (p : Place) (r : Line) : Type 0 where
   pub marked : Marked t (r .marks) (r .fields)
   pub says : short (first (left t p)) ≡ heard t r
@@ -105,7 +105,7 @@ pub record Steps (t : List ℕ) (p : Place) (r : Line) : Type 0 where
   pub on : p .at < r .next .at
   pub within : In t (r .next)
 
--- the place q of the line after that at the place p: behind the next 0x0A, or the end of the text
+-- T8: the place q of the line after that at the place p: behind the next 0x0A, or the end of the text
 pub record Passes (t : List ℕ) (p q : Place) : Type 0 where
   pub says : left t q ≡ drop (cut 0x0a (left t p) + 1) (left t p)
   pub count : q .line ≡ p .line + 1

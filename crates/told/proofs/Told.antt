@@ -1,4 +1,4 @@
--- What is told says what document 01 says, and nothing else does. Assumes nothing.
+-- What is told says what the rules say, and nothing else does. Assumes nothing.
 use mathlib.Core.Bool.{Bool, true, false, cond}
 use mathlib.Core.Path.{_≡_, refl, sym, ap, _∙_, subst}
 use mathlib.Core.Logic.{_↔_}
@@ -34,7 +34,7 @@ module _ (def : Definition) (d : List ℕ) (most key : ℕ) where
   base-told none e = (refl, e)
   base-told (some b) e = answer-told b e (answer 7 d (trees (b .params)) (candidatesOf key def)) (answer-says 7 d (trees (b .params)) (candidatesOf key def))
 
-  -- what is told says what the document says
+  -- what is told says what the rules say
   pub told-says : (r : Told) → r ≡ told def d most key → Says def d most key r
   unfolding told
   told-says r e = subst (Says def d most key) (sym e) (base-told (firstBase key (def .bases)) refl)
@@ -59,7 +59,7 @@ module _ (def : Definition) (d : List ℕ) (most key : ℕ) where
       ap more-rows (s .needed) ∙ sym (chosen-told h (s .chosen) ∙ ap (λ (t : Bool). cond t (header h) (more-rows (length (h .rows)))) (lt-leb (length (h .rows)) most l))
   says-only (header h) s = sym (chosen-told h (s .chosen) ∙ ap (λ (t : Bool). cond t (header h) (more-rows (length (h .rows)))) (le-leb (length (h .rows)) most (s .enough)))
 
-  -- two answers that say what the document says coincide
+  -- two answers that say what the rules say coincide
   pub says-one : (r q : Told) → Says def d most key r → Says def d most key q → r ≡ q
   says-one r q s u = says-only r s ∙ sym (says-only q u)
 

@@ -1,4 +1,4 @@
--- Document 01's example, and another, worked out from their texts. In the comments `|` is a tab and `/` a line end.
+-- E9, E10 (docs/RULES.md) and another, worked out from their texts. In the comments `|` is a tab and `/` a line end.
 use mathlib.Core.Path.{_≡_, refl}
 use mathlib.Core.Bool.{true, false}
 use mathlib.Core.List.{List, [], _∷_, map}
@@ -27,7 +27,7 @@ text =
 accepted : verdict text ≡ Accepted
 accepted = refl
 
--- A5 C3: four rows, Type 3 at bit 12, Flags 12 at bit 8, payload offset 2
+-- E9: A5 C3
 abbrev rows : List (List ℕ)
 rows =
     (0 ∷ 0 ∷ 0 ∷ 8 ∷ 1 ∷ 0xA5 ∷ 0 ∷ [])
@@ -40,7 +40,7 @@ a5c3 : told (definition text) (0xA5 ∷ 0xC3 ∷ []) 4 0 ≡ header (record { nu
 unfolding told answer reading baseRead listed exists packed innerAt ordered insert widthOf valueAt inFirst through firstNamed valueOf bitsAt trees kids ofLevel tableFrom innerTable numbersOf rowsEach
 a5c3 = refl
 
--- A5 3C: refusal 7
+-- E10: A5 3C
 a53c : told (definition text) (0xA5 ∷ 0x3C ∷ []) 4 0 ≡ no-candidate
 unfolding told answer reading baseRead listed exists packed innerAt ordered insert widthOf valueAt inFirst through firstNamed valueOf bitsAt trees kids ofLevel tableFrom innerTable numbersOf rowsEach
 a53c = refl

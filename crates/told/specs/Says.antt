@@ -46,8 +46,8 @@ Says def d most key no-candidate = NoneHolds def d key
 Says def d most key (more-rows k) = Needs def d most key k
 Says def d most key (header h) = Fits def d most key h
 
--- Demand 3, for a base header that exists and rows enough. A header is answered exactly when some candidate with at least one validation has a lawful
--- reading that meets all its validations; the answer is the first such in the text; refusal 7 comes only if none exists
+-- H15, demand 3, for a base header that exists and rows enough: there is an answer exactly if some candidate holds; it is the first that does; and 7
+-- comes exactly if none does
 pub record Demanded (def : Definition) (d : List ℕ) (key : ℕ) (base : Base) (r : Told) : Type 0 where
   pub exactly : ((h : Heading) × (r ≡ header h)) ↔ Some 7 d (trees (base .params)) (candidatesOf key def)
   pub the-first : (h : Heading) → (r ≡ header h) ↔ ((c : Candidate 7) × (fs : List (Field 7)) × First 7 d (trees (base .params)) (candidatesOf key def) c fs × (h ≡ headingOf (def .sets) d c fs))

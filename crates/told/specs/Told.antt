@@ -1,4 +1,4 @@
--- Document 01, "Refusal numbers", 6 to 8, and "A header answer": what is told of a definition and the bytes d of an MPDU, as the rules compute it.
+-- R6 to R8, H16 and H20 (docs/RULES.md): what is told of a definition and the bytes d of an MPDU, as it is computed.
 use mathlib.Core.Bool.{Bool, cond}
 use mathlib.Core.List.{List, map}
 use mathlib.Core.Option.{Option, none, some}
@@ -12,8 +12,7 @@ use Rattle.lawful.specs.Answer.{Answer, answered, refused, answer}
 use Rattle.lawful.specs.Trees.{trees, candidateOf}
 use Rattle.lawful.specs.Table.{tableOf}
 
--- "A header answer: the H's number among the H lines from 0, key, flags, payload offset, checksum result, row count"; the checksum is no part of the
--- reading, and the row count is that of the rows
+-- H20: an answer; the checksum is no part of the reading, and the row count is that of the rows
 pub record Heading : Type 0 where
   pub number : ℕ
   pub key : ℕ
@@ -24,15 +23,14 @@ pub record Heading : Type 0 where
   pub offset : ℕ
   pub rows : List (List ℕ)
 
--- 6, "no base header with the key", which it carries; 7, "no candidate holds"; 8, "the right answer has more rows than the table", with the rows needed;
--- or the answer
+-- R6 to R8: no base header, with the key; no candidate that holds; more rows than the table has, with their number. Or the answer
 pub data Told : Type 0 where
   no-base : ℕ → Told
   no-candidate : Told
   more-rows : ℕ → Told
   header : Heading → Told
 
--- "The payload offset is the covered bits over 8, rounded up."
+-- H16: the payload offset by the bits of the outer fields
 abbrev pub offsetOf : ℕ → ℕ
 offsetOf bits = (bits + 7) / 8
 
@@ -50,11 +48,11 @@ heading number says bits rows =
       rows = rows;
     }
 
--- the answer for a candidate and its fields
+-- H20: the answer for a candidate and its fields
 abbrev pub headingOf : List Set → List ℕ → Candidate 7 → List (Field 7) → Heading
 headingOf sets d c fs = heading (c .number) (c .says) (total fs) (tableOf 7 d sets fs)
 
--- the answer, if the table has rows enough: it has `most`
+-- R8: the answer, if the table has rows enough: it has `most`
 abbrev pub fitted : ℕ → Heading → Told
 fitted most h = cond (leb (length (h .rows)) most) (header h) (more-rows (length (h .rows)))
 
@@ -62,7 +60,7 @@ abbrev pub ofAnswer : List Set → List ℕ → ℕ → Answer 7 → Told
 ofAnswer sets d most (answered c fs) = fitted most (headingOf sets d c fs)
 ofAnswer sets d most (refused k) = no-candidate
 
--- "Candidates: every H with that base key and at least one V, in text order."
+-- H3: the candidates for a base key, with their P lines as trees
 abbrev pub candidatesOf : ℕ → Definition → List (Candidate 7)
 candidatesOf key def = map candidateOf (candidates key (def .frames))
 
@@ -70,6 +68,6 @@ abbrev pub ofBase : Definition → List ℕ → ℕ → ℕ → Option Base → 
 ofBase def d most key none = no-base key
 ofBase def d most key (some b) = ofAnswer (def .sets) d most (answer 7 d (trees (b .params)) (candidatesOf key def))
 
--- "The base header is the first B with that key."
+-- H2: by the base header
 unfoldable pub told : Definition → List ℕ → ℕ → ℕ → Told
 told def d most key = ofBase def d most key (firstBase key (def .bases))

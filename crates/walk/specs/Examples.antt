@@ -1,4 +1,4 @@
--- Document 01, "Examples": A5 C3 by the fields Home (8) and Props (8; inner Type 4, Flags 4), loaded, is walked as the document says.
+-- E9 (docs/RULES.md): A5 C3 is walked by the loaded P lines of that text.
 use mathlib.Core.Path.{_≡_, refl}
 use mathlib.Core.List.{List, [], _∷_}
 use mathlib.Core.Option.{some}
@@ -33,7 +33,7 @@ lines = fieldsIn text table 4
 abbrev row : ℕ → ℕ → ℕ → ℕ → ℕ → Row
 row place parent start bits value = record { number = place; parent = parent; start = start; bits = bits; valued = 1; value = value }
 
--- Type 3 at bit 12, Flags 12 at bit 8
+-- E9: the four rows
 abbrev rows : List Row
 rows = row 0 0 0 8 0xA5 ∷ row 1 0 8 8 0xC3 ∷ row 2 2 12 4 3 ∷ row 3 2 8 4 12 ∷ []
 

@@ -1,4 +1,4 @@
-// The walk over loaded fields: document 01, "Lawful reading of a header". Counterpart of `decode_param` and of the two loops of
+// The walk over loaded fields: H9 to H13 of docs/RULES.md. Counterpart of `decode_param` and of the two loops of
 // `decode_header` of frame_definition/decode.rs. What is read goes into scratch rows (crate `paths`).
 use bits::Bits;
 use bits::read_bits;

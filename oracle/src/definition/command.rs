@@ -6,7 +6,7 @@ use super::Definition;
 use super::field::{Fields, bit, byte, letter, name, one_of, optional};
 use crate::limits;
 
-/// "Types are spelled as the source's XML names."
+/// T30: the types.
 pub const TYPES: &[(&str, ParamType)] = &[
     ("BYTE", ParamType::Byte),
     ("WORD", ParamType::Word),
@@ -62,7 +62,7 @@ pub struct ParamItem {
     pub kind: ItemKind,
 }
 
-/// What stands on it. "A missing shift is 0."
+/// What stands on it. A shift that is missing is 0 (T31).
 #[derive(Debug, Clone, PartialEq)]
 pub enum ItemKind {
     /// R.
@@ -143,7 +143,7 @@ impl Definition for CommandDefinition {
         Some(Record::ParamItem(ParamItem { line, kind }))
     }
 
-    /// "256 Q and G together, 32 lines under a Q." A line without owner is under nothing.
+    /// T33: does it pass a limit? A line without owner is under nothing.
     fn passes_a_limit(&mut self, record: &Record) -> bool {
         match record {
             Record::Param { .. } | Record::VariantGroup(_) => self.count() == limits::CMD_ITEMS,
@@ -153,7 +153,7 @@ impl Definition for CommandDefinition {
         }
     }
 
-    /// "Level 1 Q or an item line with no owner or parent; .. shift over 7."
+    /// R3: `None` without the Q or the G that it needs, and with a shift over 7 (T31).
     fn place(&mut self, record: Record) -> Option<()> {
         if record.shift() > limits::SHIFT {
             return None;
@@ -194,7 +194,7 @@ impl CommandDefinition {
         self.items.iter().map(lines_of).sum()
     }
 
-    /// "Later level 1 Qs are its members, until a level 0 Q or a G": the G of a level 1 Q.
+    /// T32: the G of a level 1 Q.
     fn last_group(&mut self) -> Option<&mut VariantGroup> {
         match self.items.last_mut()? {
             CmdItem::VariantGroup(group) => Some(group),
@@ -202,7 +202,7 @@ impl CommandDefinition {
         }
     }
 
-    /// "Under a Q, before the next Q or G": the Q of an item line.
+    /// T32: the Q of an item.
     fn last_param(&mut self) -> Option<&mut Param> {
         match self.items.last_mut()? {
             CmdItem::VariantGroup(group) => group.params.last_mut(),

@@ -5,7 +5,7 @@
 const NAME: usize = 40;
 const PATH: usize = 120;
 
-/// "Fields parted by one tab": what is left of a line's fields.
+/// T2: what is left of a line's fields.
 pub struct Fields<'a> {
     left: Vec<&'a [u8]>,
 }
@@ -32,13 +32,13 @@ pub fn letter(field: &[u8]) -> Option<&[u8]> {
     Some(field)
 }
 
-/// "`-` means missing, allowed only where marked ?": the mark.
+/// T4: a field that may be missing.
 pub fn optional<T>(kind: impl Fn(&[u8]) -> Option<T>) -> impl Fn(&[u8]) -> Option<Option<T>> {
     move |field| if field == b"-" { Some(None) } else { kind(field).map(Some) }
 }
 
-/// "Numbers are decimal without leading zeros." One that 64 bits cannot hold is their greatest:
-/// it is past every limit all the same.
+/// T3: a number. One that 64 bits cannot hold is their greatest: it is past every limit all the
+/// same.
 pub fn number(field: &[u8]) -> Option<u64> {
     let all_digits = !field.is_empty() && field.iter().all(u8::is_ascii_digit);
     let leading_zero = field.len() > 1 && field[0] == b'0';
@@ -68,25 +68,25 @@ pub fn bit(field: &[u8]) -> Option<bool> {
     }
 }
 
-/// "One field of four digits 0/1."
+/// T11: the four flags.
 pub fn four_bits(field: &[u8]) -> Option<[bool; 4]> {
     let bits: Vec<bool> = field.chunks(1).map(bit).collect::<Option<_>>()?;
     bits.try_into().ok()
 }
 
-/// "A name is 1 to 40 bytes from 0x20 to 0x7E and isn't `-`."
+/// T5: a name.
 pub fn name(field: &[u8]) -> Option<String> {
     let length_holds = (1..=NAME).contains(&field.len());
     let bytes_hold = field.iter().all(|byte| (0x20..=0x7E).contains(byte));
     (length_holds && bytes_hold && field != b"-").then(|| written(field))
 }
 
-/// "A P name has no dot."
+/// T6: the name of a P.
 pub fn name_without_dot(field: &[u8]) -> Option<String> {
     name(field).filter(|name| !name.contains('.'))
 }
 
-/// "A path is names joined by dots, at most 120 bytes": each part between dots is a name.
+/// T7: a path.
 pub fn path(field: &[u8]) -> Option<String> {
     let parts_hold = field.split(|&byte| byte == b'.').all(|part| name(part).is_some());
     (parts_hold && field.len() <= PATH).then(|| written(field))

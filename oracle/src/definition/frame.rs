@@ -8,7 +8,7 @@ use super::field::{
 };
 use crate::limits;
 
-/// "Types are spelled as the source's XML names."
+/// T16: the types.
 pub const TYPES: &[(&str, ParamType)] = &[
     ("HEX", ParamType::Hex),
     ("NUMBER", ParamType::Number),
@@ -169,8 +169,7 @@ impl Definition for FrameDefinition {
         })
     }
 
-    /// "16 F, 16 B, 64 H, 64 P under one B or H, level 0 to 7, 16 V under one H, 16 D, 64 E each."
-    /// A line without owner is under nothing.
+    /// T33: does it pass a limit? A line without owner is under nothing.
     fn passes_a_limit(&mut self, record: &Record) -> bool {
         match record {
             Record::RadioFrequency(_) => self.radio_frequencies.len() == limits::RADIO_FREQUENCIES,
@@ -192,7 +191,7 @@ impl Definition for FrameDefinition {
         }
     }
 
-    /// "P, V, E .. with no owner or parent; P with size path at level 1 or deeper."
+    /// R3: `None` without owner or parent, and with a size path below level 0 (T19).
     fn place(&mut self, record: Record) -> Option<()> {
         match record {
             Record::RadioFrequency(frequency) => self.radio_frequencies.push(frequency),
@@ -213,7 +212,7 @@ impl Definition for FrameDefinition {
     }
 }
 
-/// "The last F, B, H or D line owns what follows."
+/// T17: the owner of what comes.
 enum Owner<'a> {
     RadioFrequency,
     BaseHeader(&'a mut BaseHeader),
@@ -243,7 +242,7 @@ impl FrameDefinition {
     }
 }
 
-/// "P needs a B or H, V an H, E a D."
+/// T17: what may stand under an owner.
 impl<'a> Owner<'a> {
     fn params(self) -> Option<&'a mut Vec<Param>> {
         match self {
@@ -262,9 +261,8 @@ impl<'a> Owner<'a> {
     }
 }
 
-/// "A P of level n+1 is inside the last P of level n, if no lower P .. came between": the list
-/// that a P of this level belongs to. A later P of a lower level starts a list of its own, so what
-/// it parted from here is not found.
+/// T18: the list that a P of this level belongs to. A later P of a lower level starts a list of its
+/// own, so what it parted from here is not found.
 fn inside(params: &mut Vec<Param>, level: u64) -> Option<&mut Vec<Param>> {
     match level {
         0 => Some(params),

@@ -1,6 +1,7 @@
 //! A reader of definition texts, written from document 01, 'Definition text' and 'Refusal
-//! numbers', alone: the Rust has no such texts, so it is not asked. What it reads is plain data
-//! under the names of the source's two `schema` modules, each record with the number of its line.
+//! numbers', alone (T and R of docs/RULES.md): the Rust has no such texts, so it is not asked. What
+//! it reads is plain data under the names of the source's two `schema` modules, each record with
+//! the number of its line.
 
 pub mod command;
 mod field;
@@ -15,17 +16,17 @@ pub trait Definition: Default {
     /// What a single line stands for.
     type Record;
 
-    /// "A line isn't one of the forms": `None`. `line` is its number, to be kept.
+    /// R1: what a line says, `None` if it has none of the forms. `line` is its number, to be kept.
     fn record(line: usize, fields: &mut Fields) -> Option<Self::Record>;
 
-    /// "A limit of the paragraph above is passed", once this record comes too.
+    /// R2: is a limit passed, once this record comes too?
     fn passes_a_limit(&mut self, record: &Self::Record) -> bool;
 
-    /// Puts a record where it belongs; `None` where refusal 3 says that it may not stand here.
+    /// R3: puts a record where it belongs; `None` where it may not stand here.
     fn place(&mut self, record: Self::Record) -> Option<()>;
 }
 
-/// "Text length comes first; then the first bad line, and on it 1, 2, 3."
+/// R10: what a text stands for, or why it is refused.
 pub fn read<D: Definition>(text: &[u8]) -> Result<D, Refusal> {
     if text.len() > limits::TEXT {
         return Err(Refusal { number: 2, carried: 0 });

@@ -7,10 +7,10 @@ use crate::limits;
 use crate::refusal::Refusal;
 use crate::rows::{self, CommandRow};
 
-/// An entry already answered: its value, if it has one. "A repetition is one entry, without value."
+/// C2: an entry that was answered: its value, if it has one. A repetition is one without a value.
 pub type Entry = Option<u64>;
 
-/// "Body is the payload after two bytes; rows count from the payload's start."
+/// C1: where the body starts in the payload.
 const BEFORE_BODY: usize = 2;
 
 /// The kinds of rows.
@@ -18,7 +18,7 @@ const PARAMETER: u64 = 0;
 const BIT_CHILD: u64 = 1;
 const REPETITION: u64 = 2;
 
-/// The answer, or the refusal, but for 8: "then 4 to 9 in order".
+/// C18, R10: the answer, or the refusal, but for 8.
 pub fn decode_params(
     definition: &CommandDefinition,
     payload: &[u8],
@@ -52,7 +52,7 @@ impl<'a> Walk<'a> {
         self.body.len() - self.place
     }
 
-    /// "Outer: a missing Q is passed over."
+    /// C9: a Q of the outer list, passed over where it does not exist.
     pub fn take_item(&mut self, item: &CmdItem) {
         match item {
             CmdItem::Param(q) => {
@@ -80,7 +80,7 @@ impl<'a> Walk<'a> {
         Some(value)
     }
 
-    /// "A Q of length 1 has its T, S and U lines as children in text order, all on that byte."
+    /// C11: the bit children of a Q that takes one byte.
     fn push_bit_children(&mut self, q: &Param, byte: u8, start: usize) {
         let parent = self.rows.len() as u64;
         for item in &q.items {
@@ -91,8 +91,7 @@ impl<'a> Walk<'a> {
         }
     }
 
-    /// "A group repeats as counted .. or while bytes remain ..; a repetition that takes nothing
-    /// ends it."
+    /// C13, C15: the repetitions of a group.
     fn take_group(&mut self, group: &VariantGroup) {
         let count = repetitions(group, &self.entries);
         let mut number = 0;
@@ -105,7 +104,7 @@ impl<'a> Walk<'a> {
         }
     }
 
-    /// "In a group: [a missing Q] ends that repetition." False where it takes nothing: it has no row.
+    /// C14: a repetition. False where it takes nothing: it has no row.
     fn take_repetition(&mut self, group: &VariantGroup, number: u64) -> bool {
         let (start, row) = (self.place, self.rows.len());
         let line = group.line;
@@ -153,14 +152,13 @@ struct Row {
     repetition: u64,
 }
 
-/// "A Q exists if bytes remain, its condition holds .. and its length isn't 0": its length.
+/// C8: the length of a Q, if it exists.
 pub fn length_if_it_exists(q: &Param, entries: &[Entry], remaining: usize) -> Option<usize> {
     let length = length(q, entries, remaining);
     (remaining > 0 && condition_holds(q, entries) && length > 0).then_some(length)
 }
 
-/// "Offset and mask both given: the entry there has a value whose low byte meets the mask; else it
-/// holds."
+/// C3: does the condition hold?
 fn condition_holds(q: &Param, entries: &[Entry]) -> bool {
     let (Some(offset), Some(mask)) = (q.optional_offset, q.optional_mask) else {
         return true;
@@ -169,7 +167,7 @@ fn condition_holds(q: &Param, entries: &[Entry]) -> bool {
     value.is_some_and(|value| low_byte(value) & mask != 0)
 }
 
-/// "Lengths, cut to what remains."
+/// C4 to C7: the length, cut to what is left.
 fn length(q: &Param, entries: &[Entry], remaining: usize) -> usize {
     let wanted = match q.param_type {
         ParamType::Byte | ParamType::StructByte | ParamType::Const | ParamType::Marker => Some(1),
@@ -184,8 +182,7 @@ fn length(q: &Param, entries: &[Entry], remaining: usize) -> usize {
     wanted.map_or(remaining, |length| length.min(remaining))
 }
 
-/// "Else the first R: offset 255 or mask 0 or no such entry or no R means the rest; else the entry's
-/// low byte (0 if no value), masked and shifted." `None`: the rest.
+/// C6: the length by the first R. `None`: the rest.
 fn length_by_r(q: &Param, entries: &[Entry]) -> Option<usize> {
     let (offset, mask, shift, _) = first_r(q)?;
     if offset == 255 || mask == 0 {
@@ -195,8 +192,7 @@ fn length_by_r(q: &Param, entries: &[Entry]) -> Option<usize> {
     Some(usize::from((entry.map_or(0, low_byte) & mask) >> shift))
 }
 
-/// "As counted (the entry's low byte masked and shifted; no entry or no value: 0), or while bytes
-/// remain if offset is 255 or mask 0": `None`.
+/// C13: how often a group repeats. `None`: to the end.
 pub fn repetitions(group: &VariantGroup, entries: &[Entry]) -> Option<u64> {
     if group.offset == 255 || group.mask == 0 {
         return None;
@@ -209,7 +205,7 @@ fn low_byte(value: u64) -> u8 {
     value.to_le_bytes()[0]
 }
 
-/// "Value: big-endian, for 1 to 8 bytes."
+/// C10: the value of bytes, if they have one.
 fn value(bytes: &[u8]) -> Option<u64> {
     let mut all = [0; 8];
     let place = all.len().checked_sub(bytes.len())?;
@@ -217,7 +213,7 @@ fn value(bytes: &[u8]) -> Option<u64> {
     (!bytes.is_empty()).then_some(u64::from_be_bytes(all))
 }
 
-/// "T is 1 if the byte meets the mask, else 0; S and U are the byte masked, then shifted right."
+/// C11: the value of a T, S or U.
 fn bit_child(kind: &ItemKind, byte: u8) -> Option<u64> {
     match *kind {
         ItemKind::BitFlag { mask, .. } => Some(u64::from(byte & mask != 0)),
@@ -228,8 +224,7 @@ fn bit_child(kind: &ItemKind, byte: u8) -> Option<u64> {
     }
 }
 
-/// "Line of the first K whose value is the low byte (CONST, its first A and first R not ascii) or
-/// 0."
+/// C12: the line of the K that names the value, or 0.
 fn named_by(q: &Param, value: Option<u64>) -> usize {
     let is_ascii = first_a(q).is_some_and(|(_, is_ascii)| is_ascii)
         || first_r(q).is_some_and(|(_, _, _, is_ascii)| is_ascii);

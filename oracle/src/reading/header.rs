@@ -21,7 +21,7 @@ impl Field<'_> {
     }
 }
 
-/// The answer, or the refusal, but for 8: "then 4 to 9 in order".
+/// H20, R10: the answer, or the refusal, but for 8.
 pub fn decode_header(
     definition: &FrameDefinition,
     mpdu: &[u8],
@@ -53,7 +53,7 @@ pub fn decode_header(
     })
 }
 
-/// "Base key: 2 at speed 3; else that of the first F with the region's code, else 0."
+/// H1: the base key.
 pub fn base_key(definition: &FrameDefinition, region: u64, speed: u64) -> u8 {
     let mut frequencies = definition.radio_frequencies.iter();
     match speed {
@@ -62,18 +62,18 @@ pub fn base_key(definition: &FrameDefinition, region: u64, speed: u64) -> u8 {
     }
 }
 
-/// "Candidates: every H with that base key and at least one V, in text order."
+/// H3: the candidates.
 fn candidates(definition: &FrameDefinition, key: u8) -> impl Iterator<Item = (usize, &Header)> {
     let is_candidate = move |h: &Header| h.base_key == Some(key) && !h.validations.is_empty();
     definition.headers.iter().enumerate().filter(move |(_, h)| is_candidate(h))
 }
 
-/// "All V must find a value equal to theirs."
+/// H14: does each V find its value?
 fn holds(header: &Header, fields: &[Field]) -> bool {
     header.validations.iter().all(|v| value(fields, &v.path) == Some(u64::from(v.value)))
 }
 
-/// "The reading is the list of base fields .. Then the same for the candidate's fields from there."
+/// H11: the base's outer fields, and behind them the candidate's.
 fn read<'a>(base: &'a BaseHeader, header: &'a Header, mpdu: &[u8]) -> Vec<Field<'a>> {
     let mut fields = Vec::new();
     read_outer(&base.params, mpdu, &mut fields);
@@ -81,8 +81,8 @@ fn read<'a>(base: &'a BaseHeader, header: &'a Header, mpdu: &[u8]) -> Vec<Field<
     fields
 }
 
-/// "In which each exists where the one before ended (bit 0 for the first)": one that doesn't exist,
-/// for any reason, ends its list.
+/// H10: outer fields, each where the one before ended: one that doesn't exist, for any reason, ends
+/// its list.
 pub fn read_outer<'a>(params: &'a [Param], mpdu: &[u8], fields: &mut Vec<Field<'a>>) {
     for param in in_order(params) {
         let Some(field) = read_field(param, covered(fields), fields, mpdu) else {
@@ -92,20 +92,19 @@ pub fn read_outer<'a>(params: &'a [Param], mpdu: &[u8], fields: &mut Vec<Field<'
     }
 }
 
-/// The bits that outer fields cover: they lie one behind the other.
+/// H16: the bits that outer fields cover: they lie one behind the other.
 pub fn covered(fields: &[Field]) -> usize {
     fields.last().map_or(0, Field::end)
 }
 
-/// "Fields go by order, ties by text."
+/// H4: by order, equal ones as they stand in the text.
 fn in_order(params: &[Param]) -> Vec<&Param> {
     let mut ordered: Vec<&Param> = params.iter().collect();
     ordered.sort_by_key(|param| (param.order, param.line));
     ordered
 }
 
-/// "A field exists at a bit place if its optional path is missing or finds a nonzero value, its
-/// width is over 0 .. and it ends within the MPDU."
+/// H9: the field, if it exists at that bit.
 pub fn read_field<'a>(
     param: &'a Param,
     place: usize,
@@ -123,7 +122,7 @@ pub fn read_field<'a>(
     })
 }
 
-/// "Bits, or 8 times the value found by the size path, else 0, in exact whole numbers."
+/// H8: the width.
 fn width(param: &Param, earlier: &[Field]) -> u128 {
     match &param.size_path {
         Some(path) => 8 * u128::from(value(earlier, path).unwrap_or(0)),
@@ -131,8 +130,7 @@ fn width(param: &Param, earlier: &[Field]) -> u128 {
     }
 }
 
-/// "Take them while the declared widths so far fit the parent; each starts at the parent's end less
-/// that sum; one that doesn't exist is skipped but keeps its room."
+/// H12: the fields inside a field.
 pub fn read_inner<'a>(
     params: &'a [Param],
     parent: usize,
@@ -152,7 +150,7 @@ pub fn read_inner<'a>(
     fields
 }
 
-/// "A path takes the first field of each name, level by level."
+/// H6: the field that a path means.
 pub fn find<'f, 'a>(fields: &'f [Field<'a>], path: &str) -> Option<&'f Field<'a>> {
     let mut names = path.split('.');
     let first = named(fields, names.next()?)?;
@@ -163,12 +161,12 @@ fn named<'f, 'a>(fields: &'f [Field<'a>], name: &str) -> Option<&'f Field<'a>> {
     fields.iter().find(|field| field.param.name == name)
 }
 
-/// The value that a path finds: a field without one is none.
+/// H6: the value that a path finds: a field without one is none.
 pub fn value(fields: &[Field], path: &str) -> Option<u64> {
     find(fields, path)?.value
 }
 
-/// "Its value is its bits, first bit highest, if the width is 64 or less." Nine bytes hold them.
+/// H5: the value of some bits. Nine bytes hold them.
 fn value_of_bits(mpdu: &[u8], start: usize, bits: usize) -> Option<u64> {
     if bits > 64 {
         return None;
@@ -179,8 +177,7 @@ fn value_of_bits(mpdu: &[u8], start: usize, bits: usize) -> Option<u64> {
     Some((from_the_first % (1 << bits)) as u64)
 }
 
-/// "Checksum: speed 0 or 1, one byte, XOR from 0xFF; over 1, two bytes, polynomial 0x1021 from
-/// 0x1D0F, high byte first; an MPDU no longer than its checksum is not right."
+/// H21, H23: is the checksum or the CRC right?
 pub fn checksum_is_right(mpdu: &[u8], speed: u64) -> bool {
     let length = if speed > 1 { 2 } else { 1 };
     let Some((message, checksum)) = mpdu.split_at_checked(mpdu.len().wrapping_sub(length)) else {
@@ -193,8 +190,8 @@ pub fn checksum_is_right(mpdu: &[u8], speed: u64) -> bool {
     }
 }
 
-/// The remainder of the message's bits, first bit highest, with 0x1D0F over the first sixteen and
-/// sixteen zeros behind them, divided by x^16 + x^12 + x^5 + 1.
+/// H22: the remainder of the message's bits, first bit highest, with 0x1D0F over the first sixteen
+/// and sixteen zeros behind them, divided by x^16 + x^12 + x^5 + 1.
 fn crc(message: &[u8]) -> u16 {
     let bits_of = |bytes: &[u8]| -> Vec<bool> {
         bytes.iter().flat_map(|byte| (0..8).rev().map(move |at| byte >> at & 1 == 1)).collect()
@@ -213,7 +210,7 @@ fn crc(message: &[u8]) -> u16 {
     bits[8 * message.len()..].iter().fold(0, |rest, &bit| rest << 1 | u16::from(bit))
 }
 
-/// The rows of fields.
+/// H18: the rows of fields.
 struct Rows<'a> {
     definition: &'a FrameDefinition,
     param_lines: Vec<usize>,
@@ -227,7 +224,7 @@ impl Rows<'_> {
         rows.rows
     }
 
-    /// "Parent before children, children in walk order." `parent`: its row + 1, or 0.
+    /// H19: a row, and behind it those of what is inside. `parent`: its row + 1, or 0.
     fn push(&mut self, fields: &[Field], parent: u64) {
         for field in fields {
             self.rows.push([
@@ -243,12 +240,12 @@ impl Rows<'_> {
         }
     }
 
-    /// "P number among all P lines from 0."
+    /// H18: which of all P lines it is.
     fn number(&self, param: &Param) -> u64 {
         self.param_lines.iter().filter(|&&line| line < param.line).count() as u64
     }
 
-    /// "Its symbol is the first E with that key in the first D of that name": the E's number.
+    /// H17: the number of the symbol's E.
     fn symbol(&self, field: &Field) -> Option<usize> {
         let name = field.param.defines.as_ref()?;
         let set = self.definition.define_sets.iter().find(|set| set.name == *name)?;

@@ -1,7 +1,7 @@
 //! Document 01, 'Lawful reading of a header' and 'Parameters of a command', by themselves: each
-//! sentence a function, in exact numbers. Whoever works on it should not follow the Rust, which
-//! `oracle/test` compares it with. It answers where the Rust cannot, and tells the generator where
-//! a field would lie.
+//! rule (H and C of docs/RULES.md) a function, in exact numbers. Whoever works on it should not
+//! follow the Rust, which `oracle/test` compares it with. It answers where the Rust cannot, and
+//! tells the generator where a field would lie.
 
 pub mod command;
 pub mod header;

@@ -146,7 +146,7 @@ fn answer(header: &DecodedHeader) -> rows::Header {
     }
 }
 
-/// "Parent before children, children in walk order." `parent`: its row + 1, or 0.
+/// H19: a row, and behind it those of what is inside. `parent`: its row + 1, or 0.
 fn push_rows(params: &[DecodedParam], parent: u64, rows: &mut Vec<rows::HeaderRow>) {
     for param in params {
         rows.push([

@@ -32,7 +32,7 @@ fn push_param(random: &mut Random, q: &Param, level: &str, text: &mut Vec<u8>) {
 fn push_item(random: &mut Random, kind: &ItemKind, text: &mut Vec<u8>) {
     let decimal = |number: &u8| number.to_string();
     let ascii = |is_ascii: &bool| if *is_ascii { "1" } else { "0" };
-    // "A missing shift is 0."
+    // T31: a shift that is missing is 0.
     let mut shift = |shift: &u8| match shift {
         0 => random.pick(&["-", "0"]).to_string(),
         _ => shift.to_string(),
