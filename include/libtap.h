@@ -125,6 +125,10 @@ bool tap_check_crc(const uint8_t *mpdu, size_t mpdu_length, uint64_t speed);
 TapHeader tap_decode_header(const uint8_t *text, size_t text_length, const uint8_t *mpdu, size_t mpdu_length, uint64_t region,
                             uint64_t speed, uint64_t *rows, size_t rows_length);
 
+/* Where the command lies in an MPDU whose header ends at byte `payload`, as its answer says: before the checksum. An empty part at 0 where the two
+ * leave no room for one. */
+TapPart tap_command_part(const uint8_t *mpdu, size_t mpdu_length, uint64_t payload, uint64_t speed);
+
 /* ---- commands ---- */
 
 /* How many rows there are, and where the bytes that no parameter takes start in the payload. */

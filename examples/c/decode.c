@@ -92,9 +92,9 @@ static void show_frame(const uint64_t *frame, size_t frame_text_length, size_t c
     for (uint64_t i = 0; i < header.rows; i++) {
         print_numbers("    field", header_rows + i * TAP_HEADER_WIDTH, TAP_HEADER_WIDTH);
     }
-    size_t checksum = rate < 2 ? 1 : 2;
-    if (header.payload + checksum + 2 <= length) {
-        show_command(mpdu + header.payload, length - checksum - header.payload, command_text_length);
+    TapPart command = tap_command_part(mpdu, length, header.payload, rate);
+    if (2 <= command.length) {
+        show_command(mpdu + command.start, command.length, command_text_length);
     }
 }
 

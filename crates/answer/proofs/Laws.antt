@@ -1,16 +1,14 @@
--- Laws of what is lent: the front of a buffer, and a table before and after a call. Assumes nothing.
+-- Laws of a table before and after a call. Assumes nothing.
 use mathlib.Core.Path.{_≡_, sym, _∙_}
 use mathlib.Core.Bool.{true, false}
-use mathlib.Core.List.{List, [], _∷_}
+use mathlib.Core.List.{List}
 use Prim.Native.Nat.{ℕ, _+_, _≤_, _<_}
 use native.Mathlib.Numerals.{add-one}
 use native.Mathlib.Omega.{arith}
-use lib.ListN.{length, getD, set, take, drop, replicate-append-replicate, length-set}
+use lib.ListN.{length, getD, set, take, drop, replicate-append-replicate}
 use lib.Seq.{take-all, take-suc-set}
-use borrow.Author.Tests.{eq-eqb, ne-eqb, lt-ltb, le-ltb}
-use Rattle.io.specs.Digits.{glyph}
+use borrow.Author.Tests.{eq-eqb, ne-eqb}
 use Rattle.laws.proofs.Lists.{next, done}
-use Rattle.request.proofs.Laws.{taken}
 use Rattle.answer.specs.Table.{fresh, isFresh}
 
 -- ---- a part of a table that nothing has been written to
@@ -24,14 +22,6 @@ module _ (t : List ℕ) (i : ℕ) (inv : isFresh t ≡ isFresh (drop i t)) where
   pub fresh-done : length t ≤ i → true ≡ isFresh t
   fresh-done h = rw (inv, done t i h)
 
--- a byte that is put behind what waits
-module _ (out : List ℕ) (at b : ℕ) (inside : at < length out) where
-  pub put-waits : at + 1 ≤ length (set out at b)
-  put-waits = rw length-set (omega arith)
-
-  pub put-holds : 0 < length (set out at b)
-  put-holds = rw length-set (omega arith)
-
 -- ---- filling a table
 pub fill-more : (t : List ℕ) (i : ℕ) → take i t ≡ fresh i → i < length t → take (i + 1) (set t i 0xA5A5A5A5A5A5A5A5) ≡ fresh (i + 1)
 fill-more t i inv h = rw (add-one, take-suc-set t i 0xA5A5A5A5A5A5A5A5 h, inv) (replicate-append-replicate i 1 0xA5A5A5A5A5A5A5A5 ∙ rw add-one)
@@ -41,14 +31,4 @@ fill-done t i n inv e l u =
     let is : i ≡ n = omega arith in
     sym (take-all i t u) ∙ inv ∙ rw is
 
--- ---- digits of an answer
-pub glyph-low : (d : ℕ) → d < 10 → 48 + d ≡ glyph d
-glyph-low d h = rw (lt-ltb d 10 h)
-
-pub glyph-high : (d : ℕ) → 10 ≤ d → 87 + d ≡ glyph d
-glyph-high d h = rw (le-ltb d 10 h)
-
-pub ruleset answer-laws = (put-waits, put-holds, fill-more, fill-done, glyph-low, glyph-high, taken, fresh-not, fresh-more, fresh-done)
-
--- The laws that the proofs of this crate's functions go by.
-pub ruleset laws = (answer-laws)
+pub ruleset laws = (fill-more, fill-done, fresh-not, fresh-more, fresh-done)

@@ -1,10 +1,10 @@
 // A table as a call is lent it: filled before the call, and looked at after it.
-use crate::put;
 use crate::put_refusal;
 use refusal::Refusal;
+use writer::Buffer;
+use writer::put;
 ghost use mathlib.Core.Path.{_≡_};
 ghost use lib.ListN.{length};
-ghost use Rattle.answer.specs.Answer.{Room};
 ghost use Rattle.answer.specs.Table.{fresh, isFresh};
 
 // The most rows that a request may ask for.
@@ -38,21 +38,15 @@ fn is_fresh(table: &[u64]) -> bool
 }
 
 // Says so if something has been written to a part of a table that nothing may write to.
-pub fn put_touched(table: &[u64], out: &mut [u8], used: usize) -> usize
-    requires { ⌜ Room (now out) used ⌝ }
-    ensures { λ r. ⌜ Room (now (out .exit)) r ⌝ }
-{
+pub fn put_touched(out: &mut Buffer, used: usize, table: &[u64]) -> usize {
     if is_fresh(table) {
         return used;
     }
-    put(b" TOUCHED", out, used)
+    put(out, used, b" TOUCHED")
 }
 
 // A refusal, after which nothing may have been written to the table.
-pub fn put_refused(refusal: Refusal, table: &[u64], out: &mut [u8], used: usize) -> usize
-    requires { ⌜ Room (now out) used ⌝ }
-    ensures { λ r. ⌜ Room (now (out .exit)) r ⌝ }
-{
-    let n = put_refusal(refusal, out, used);
-    put_touched(table, out, n)
+pub fn put_refused(out: &mut Buffer, used: usize, refusal: Refusal, table: &[u64]) -> usize {
+    let n = put_refusal(out, used, refusal);
+    put_touched(out, n, table)
 }

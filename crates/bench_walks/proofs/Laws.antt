@@ -20,7 +20,7 @@ use Rattle.frame_definition.specs.declared.Found.{Found}
 use Rattle.frame_definition.specs.declared.Found.the-variants as found
 use Rattle.frame_definition.specs.declared.NextCandidate.{NextCandidate}
 use Rattle.frame_definition.specs.declared.NextCandidate.the-variants as next
-use Rattle.walk.specs.Walk.{Shaped}
+use Rattle.header_walk.specs.Walk.{Shaped}
 use Rattle.header.specs.Decode.{decoded, Decodes}
 use Rattle.header.specs.declared.Decoded.{Decoded}
 use Rattle.header.specs.declared.Decoded.the-variants.{Header, Refused}

@@ -1,6 +1,4 @@
 // The walks for the benchmark, as a static library: each call is made so many times, so that what it costs can be told from what comes before it.
-use candidates::read_base;
-use fields::WIDTH;
 use frame_definition::Found;
 use frame_definition::NextCandidate;
 use frame_definition::base_key;
@@ -10,11 +8,13 @@ use frame_text::check_frame_text;
 use header::Decoded;
 use header::decode_accepted;
 use header::decode_header;
-use paths::BitOffset;
-use paths::ROW;
+use header_candidates::read_base;
+use header_fields::WIDTH;
+use header_paths::BitOffset;
+use header_paths::ROW;
+use header_walk::walk_from;
 use text::Place;
 use text::Verdict;
-use walk::walk_from;
 ghost use mathlib.Core.Path.{_≡_};
 ghost use Prim.Native.Nat.{_+_, _-_, _*_, _≤_};
 ghost use lib.ListN.{length};
@@ -22,7 +22,7 @@ ghost use Rattle.text.specs.declared.Verdict.the-variants.{Accepted};
 ghost use Rattle.frame_text.specs.Rules.{verdict};
 ghost use Rattle.frame_definition.specs.Find.{FindsBase};
 ghost use Rattle.frame_definition.specs.declared.Found.the-variants.{At};
-ghost use Rattle.walk.specs.Walk.{Shaped};
+ghost use Rattle.header_walk.specs.Walk.{Shaped};
 ghost use Rattle.header.specs.Decode.{decoded};
 ghost use Rattle.bench_walks.specs.Told.{told};
 

@@ -24,18 +24,19 @@ use Rattle.command_schema.specs.Heads.{headsOf, entriesOf}
 use Rattle.command_schema.specs.Loaded.{IsLoaded}
 use Rattle.command_schema.proofs.Heads.{definition-heads, heads-count}
 use Rattle.command_schema.proofs.Sizes.{heads-short}
-use Rattle.command_schema.proofs.Told.{SmallEntries, entries-small, accepted-small}
+use Rattle.command_schema.proofs.Told.{entries-small, accepted-small}
+use Rattle.command_rules.specs.Limits.{SmallEntries}
 use Rattle.command_rows.proofs.Laws.{written-full, written-table}
-use Rattle.command_param.specs.Param.{inPayload}
-use Rattle.command_walk.specs.Walk.{Walked, walk}
+use Rattle.command_rules.specs.Param.{inPayload}
+use Rattle.command_rules.specs.Walk.{Walked, walk}
 use Rattle.command_groups.specs.Steps.{Gives}
-use Rattle.command_walk.specs.Sum.{Adds}
+use Rattle.command_rules.specs.Sum.{Adds}
 use Rattle.command.specs.Answer.{bodyOf, within, answerBy, answerOf, tableAfter, Fills, AddsUp, DecodesBy, Decodes}
 use Rattle.command_groups.specs.declared.Taken.{Taken}
 use Rattle.command.specs.declared.Params.{Params}
 use Rattle.command.specs.declared.Params.the-variants.{Rows, Refused}
-use Rattle.command_walk.proofs.Bounds.{walk-most, walk-inside}
-use Rattle.command_walk.proofs.Sums.{walk-adds}
+use Rattle.command_rules.proofs.Bounds.{walk-most, walk-inside}
+use Rattle.command_rules.proofs.Sums.{walk-adds}
 
 -- ---- one pass
 pub body-rows : (w : Walked) (t t′ : List ℕ) (r : Taken) (p : PayloadOffset) → Gives w t 0 t′ r → length (w .rows) ≤ length t / 9 → p .0 ≡ inPayload (r .end .0) → Fills w t (Rows (r .count) p) t′

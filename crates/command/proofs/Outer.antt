@@ -12,27 +12,27 @@ use Rattle.records.specs.declared.BodyOffset.{BodyOffset}
 use Rattle.command_text.specs.Form.{Group}
 use Rattle.command_class.specs.Definition.{Parameter, Entry, single, repeated}
 use Rattle.command_lengths.specs.Entries.{entries}
-use Rattle.command_lengths.specs.Lengths.{least, repeats}
-use Rattle.command_lengths.specs.declared.Earlier.{Earlier}
-use Rattle.command_lengths.specs.declared.Earlier.the-variants.{NoValue}
-use Rattle.command_lengths.specs.declared.Size.the-variants.{Missing}
+use Rattle.command_rules.specs.Lengths.{least, repeats}
+use Rattle.command_rules.specs.declared.Earlier.{Earlier}
+use Rattle.command_rules.specs.declared.Earlier.the-variants.{NoValue}
+use Rattle.command_rules.specs.declared.Size.the-variants.{Missing}
 use Rattle.command_lengths.proofs.Laws.{repeats-first}
-use Rattle.command_schema.specs.Field.{fieldOf}
+use Rattle.command_rules.specs.Field.{fieldOf}
 use Rattle.command_schema.specs.Heads.{headsOf, membersOf, entriesOf}
 use Rattle.command_schema.specs.Loaded.{loadedAt, fieldIn, isOuter, Stands, TellsG, IsLoaded}
 use Rattle.command_schema.specs.declared.Loaded.{Loaded}
 use Rattle.command_schema.proofs.Told.{OuterAt, GroupAt, outer-at, group-at, no-entry-at, none-at, members-small, entries-small}
 use Rattle.command_rows.specs.Rows.{written}
 use Rattle.command_rows.proofs.Laws.{written-none, length-written, written-more}
-use Rattle.command_param.specs.Param.{sizeAt, paramRows, paramEntry}
+use Rattle.command_rules.specs.Param.{sizeAt, paramRows, paramEntry}
 use Rattle.command_param.specs.Steps.{IsRead, ReadsParam}
 use Rattle.command_param.specs.declared.Param.{Param}
 use Rattle.command_param.specs.declared.Param.the-variants.{Read, Absent}
-use Rattle.command_walk.specs.Walk.{after, repetitions, groupAt, outer, walk}
+use Rattle.command_rules.specs.Walk.{after, repetitions, groupAt, outer, walk}
 use Rattle.command_groups.specs.Steps.{Gives, GivesGroup}
 use Rattle.command_groups.specs.declared.Repeated.{Repeated}
 use Rattle.command_groups.proofs.Entries.{KeptFree, kept-part, kept-start, free-start, kept-push, free-push, kept-none}
-use Rattle.command_walk.proofs.Bounds.{size-facts, repetitions-bound, walk-few}
+use Rattle.command_rules.proofs.Bounds.{size-facts, repetitions-bound, walk-few}
 use Rattle.command_groups.proofs.Answers.{is-read, is-absent}
 
 -- what is left of the outer list, from loaded row j on

@@ -10,11 +10,11 @@ use Rattle.text.specs.declared.Verdict.{Verdict}
 use Rattle.text.specs.declared.Verdict.the-variants.{Accepted, Refused as NotAccepted}
 use Rattle.command_text.specs.Rules.{verdict}
 use Rattle.command_class.specs.Definition.{Entry, definition}
-use Rattle.command_rows.specs.Rows.{width, table}
-use Rattle.command_rows.specs.declared.Row.{Row}
-use Rattle.command_param.specs.Param.{inPayload}
-use Rattle.command_walk.specs.Walk.{Walked, walk}
-use Rattle.command_walk.specs.Sum.{Adds}
+use Rattle.command_rules.specs.Rows.{width, table}
+use Rattle.command_rules.specs.declared.Row.{Row}
+use Rattle.command_rules.specs.Param.{inPayload}
+use Rattle.command_rules.specs.Walk.{Walked, walk}
+use Rattle.command_rules.specs.Sum.{Adds}
 use Rattle.command.specs.declared.Params.{Params}
 use Rattle.command.specs.declared.Params.the-variants.{Rows, Refused}
 

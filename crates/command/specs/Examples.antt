@@ -4,10 +4,10 @@ use mathlib.Core.List.{List, [], _∷_}
 use Prim.Native.Nat.{ℕ}
 use Rattle.refusal.specs.declared.Refusal.the-variants.{Form, TooShort, MoreRows}
 use Rattle.command_class.specs.Definition.{definition}
-use Rattle.command_lengths.specs.Lengths.{sizeOf, repeats}
-use Rattle.command_rows.specs.Rows.{table}
-use Rattle.command_param.specs.Param.{bigEndian, bitRows, paramRows, paramEntry}
-use Rattle.command_walk.specs.Walk.{members, turn, repetitionRow, repetitions, groupAt, outer, walk}
+use Rattle.command_rules.specs.Lengths.{sizeOf, repeats}
+use Rattle.command_rules.specs.Rows.{table}
+use Rattle.command_rules.specs.Param.{bigEndian, bitRows, paramRows, paramEntry}
+use Rattle.command_rules.specs.Walk.{members, turn, repetitionRow, repetitions, groupAt, outer, walk}
 use Rattle.command.specs.declared.Params.the-variants.{Rows, Refused}
 use Rattle.command.specs.Answer.{within, answerBy, answerOf, tableAfter}
 

@@ -21,7 +21,7 @@ ghost use Rattle.text.specs.declared.Verdict.the-variants.{Accepted};
 ghost use Rattle.command_text.specs.Rules.{verdict};
 ghost use Rattle.command_schema.specs.Heads.{headsOf, entriesOf};
 ghost use Rattle.command_schema.specs.Loaded.{IsLoaded};
-ghost use Rattle.command_walk.specs.Walk.{walk};
+ghost use Rattle.command_rules.specs.Walk.{walk};
 ghost use Rattle.command_groups.specs.Steps.{Gives};
 ghost use Rattle.command.specs.Answer.{Fills, DecodesBy, Decodes};
 pub use command_lengths::is_present;

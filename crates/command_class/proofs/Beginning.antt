@@ -3,12 +3,12 @@ use mathlib.Core.Path.{_≡_, refl, sym, ap, _∙_}
 use mathlib.Core.Bool.{Bool, true, false, cond}
 use mathlib.Core.List.{List, [], _∷_}
 use mathlib.Core.Option.{some}
-use Prim.Native.Nat.{ℕ, suc, _≤_, _<_}
+use Prim.Native.Nat.{ℕ, suc, _<_}
 use native.Mathlib.Nat.{add-zero}
 use native.Mathlib.Numerals.{add-one}
 use native.Mathlib.Omega.{arith}
 use lib.Dec.{eqb}
-use lib.ListN.{length, getD, drop, length-drop}
+use lib.ListN.{length, getD, length-drop}
 use lib.Seq.{getD-drop}
 use Rattle.text.specs.Text.{lines, fields}
 use Rattle.text.specs.Text as text
@@ -23,7 +23,7 @@ use Rattle.text.proofs.Passing.{Passed, passed}
 use Rattle.command_text.specs.Form.{Record, param, group, variant, array, bitFlag, bitField, fieldEnum, const, bitmask, form}
 use Rattle.command_text.specs.Rules.{rules}
 use Rattle.command_class.specs.Definition.{letter, numbered}
-use Rattle.command_class.specs.Find.{from, Begins, Follows}
+use Rattle.command_class.specs.Find.{Begins, Follows}
 use Rattle.command_class.proofs.Finding.{kind-letter}
 
 -- the kind of a line is its first byte

@@ -8,7 +8,7 @@ use native.Mathlib.Omega.{arith}
 use lib.Dec.{eqb, leb}
 use lib.ListN.{length}
 use borrow.Author.Tests.{leb-true}
-use Rattle.text.specs.Text.{field, worth, decimal, upTo, missing, optionalUpTo, name, lines, fields}
+use Rattle.text.specs.Text.{field, worth, decimal, upTo, missing, optionalUpTo, name, fields}
 use Rattle.text.specs.Place.{kindOf}
 use Rattle.text.specs.Print.{Optionally, Every}
 use Rattle.text.specs.Records.{onto, records}

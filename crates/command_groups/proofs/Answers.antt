@@ -6,15 +6,15 @@ use lib.ListN.{length, take, drop}
 use Rattle.records.specs.declared.BodyOffset.{BodyOffset}
 use Rattle.command_class.specs.Definition.{Parameter}
 use Rattle.command_lengths.specs.Entries.{entries}
-use Rattle.command_lengths.specs.declared.Earlier.{Earlier}
+use Rattle.command_rules.specs.declared.Earlier.{Earlier}
 use Rattle.command_lengths.proofs.Laws.{size-first}
-use Rattle.command_schema.specs.Field.{Field, fieldOf}
+use Rattle.command_rules.specs.Field.{Field, fieldOf}
 use Rattle.command_schema.specs.Loaded.{fieldIn}
 use Rattle.command_schema.specs.declared.Loaded.{Loaded}
 use Rattle.command_schema.proofs.Told.{IsParam}
 use Rattle.command_rows.specs.Rows.{rowAt}
 use Rattle.command_rows.proofs.Laws.{part-back, written-none}
-use Rattle.command_param.specs.Param.{sizeAt, paramRows}
+use Rattle.command_rules.specs.Param.{sizeAt, paramRows}
 use Rattle.command_param.specs.Steps.{IsRead, IsAbsent, ReadsParam}
 use Rattle.command_param.specs.declared.Param.{Param}
 use Rattle.command_param.specs.declared.Param.the-variants.{Read, Absent}

@@ -10,9 +10,9 @@ use lib.ListN.{length, getD, take, drop, set, replicate, length-append, length-s
 use lib.Seq.{take-all, length-take-le, take-suc-set, drop-set-lt, drop-drop, set-out, set-getD, getD-drop, take-append-le}
 use borrow.Author.Tests.{le-leb, lt-leb}
 use Rattle.command_lengths.specs.Entries.{earlier, entries}
-use Rattle.command_lengths.specs.Lengths.{least}
-use Rattle.command_lengths.specs.declared.Earlier.{Earlier}
-use Rattle.command_lengths.specs.declared.Earlier.the-variants.{NoValue}
+use Rattle.command_rules.specs.Lengths.{least}
+use Rattle.command_rules.specs.declared.Earlier.{Earlier}
+use Rattle.command_rules.specs.declared.Earlier.the-variants.{NoValue}
 
 -- the entries so far are es: of them the first 256 are kept
 pub record Kept (kept : List ℕ) (have : ℕ) (es : List Earlier) : Type 0 where

@@ -11,22 +11,22 @@ use borrow.Author.Tests.{lt-ltb, le-ltb}
 use Rattle.records.specs.declared.BodyOffset.{BodyOffset}
 use Rattle.command_class.specs.Definition.{Parameter}
 use Rattle.command_lengths.specs.Entries.{entries}
-use Rattle.command_lengths.specs.Lengths.{repeats}
-use Rattle.command_lengths.specs.declared.BitOffset.{BitOffset}
+use Rattle.command_rules.specs.Lengths.{repeats}
+use Rattle.command_rules.specs.declared.BitOffset.{BitOffset}
 use Rattle.command_schema.specs.Heads.{headsOf, membersOf}
 use Rattle.command_schema.specs.Loaded.{IsLoaded}
 use Rattle.command_schema.proofs.Told.{members-small}
 use Rattle.command_rows.specs.Rows.{written, rowAt}
-use Rattle.command_rows.specs.declared.Row.{Row}
+use Rattle.command_rules.specs.declared.Row.{Row}
 use Rattle.command_rows.proofs.Laws.{written-none, length-written, written-more, written-first, part-back}
-use Rattle.command_param.specs.Param.{inPayload}
-use Rattle.command_walk.specs.Walk.{ended, after, once, members, turn, repetitionRow, repetitions}
+use Rattle.command_rules.specs.Param.{inPayload}
+use Rattle.command_rules.specs.Walk.{ended, after, once, members, turn, repetitionRow, repetitions}
 use Rattle.command_groups.specs.Steps.{Gives, GivesGroup, IsTook, IsNothing, Repeats}
 use Rattle.command_groups.specs.declared.Taken.{Taken}
 use Rattle.command_groups.specs.declared.Repeated.{Repeated}
 use Rattle.command_groups.specs.declared.Repetition.{Repetition}
 use Rattle.command_groups.specs.declared.Repetition.the-variants.{Took, Nothing}
-use Rattle.command_walk.proofs.Bounds.{Bound, turn-bound, repetitions-bound}
+use Rattle.command_rules.proofs.Bounds.{Bound, turn-bound, repetitions-bound}
 
 pub row-is : (line at end k f t : ℕ) → f ≡ inPayload at → t ≡ inPayload end
     → _≡_ {A = Row} (record { kind = 2; line = line; parent = 0; start = f; end = t; valued = 0; value = 0; named = 0; number = k }) (repetitionRow line at end k)

@@ -11,24 +11,24 @@ use lib.ListN.{length, take, drop, set, length-append, length-set}
 use Rattle.records.specs.declared.BodyOffset.{BodyOffset}
 use Rattle.command_class.specs.Definition.{Parameter}
 use Rattle.command_lengths.specs.Entries.{entries}
-use Rattle.command_lengths.specs.Lengths.{least}
-use Rattle.command_lengths.specs.declared.Earlier.{Earlier}
-use Rattle.command_lengths.specs.declared.Size.the-variants.{Missing}
-use Rattle.command_schema.specs.Field.{fieldOf}
+use Rattle.command_rules.specs.Lengths.{least}
+use Rattle.command_rules.specs.declared.Earlier.{Earlier}
+use Rattle.command_rules.specs.declared.Size.the-variants.{Missing}
+use Rattle.command_rules.specs.Field.{fieldOf}
 use Rattle.command_schema.specs.Heads.{headsOf, membersOf}
 use Rattle.command_schema.specs.Loaded.{loadedAt, fieldIn, isMember, Stands, IsLoaded}
 use Rattle.command_schema.specs.declared.Loaded.{Loaded}
 use Rattle.command_schema.proofs.Told.{MemberAt, member-at, no-member-at, none-at, members-small}
 use Rattle.command_rows.specs.Rows.{written}
 use Rattle.command_rows.proofs.Laws.{written-none, length-written, written-more}
-use Rattle.command_param.specs.Param.{sizeAt, paramRows, paramEntry}
+use Rattle.command_rules.specs.Param.{sizeAt, paramRows, paramEntry}
 use Rattle.command_param.specs.Steps.{IsRead, ReadsParam}
 use Rattle.command_param.specs.declared.Param.{Param}
 use Rattle.command_param.specs.declared.Param.the-variants.{Read, Absent}
-use Rattle.command_walk.specs.Walk.{ended, after, members}
+use Rattle.command_rules.specs.Walk.{ended, after, members}
 use Rattle.command_groups.specs.Steps.{Gives}
 use Rattle.command_groups.proofs.Entries.{Kept, kept-part, kept-start, kept-push}
-use Rattle.command_walk.proofs.Bounds.{members-bound}
+use Rattle.command_rules.proofs.Bounds.{members-bound}
 use Rattle.command_groups.proofs.Answers.{is-read, is-absent}
 
 -- what is left of the members, from loaded row j on

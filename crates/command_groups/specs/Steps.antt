@@ -8,7 +8,7 @@ use lib.ListN.{length}
 use Rattle.records.specs.declared.BodyOffset.{BodyOffset}
 use Rattle.command_class.specs.Definition.{Parameter}
 use Rattle.command_rows.specs.Rows.{written}
-use Rattle.command_walk.specs.Walk.{Walked, turn, repetitionRow}
+use Rattle.command_rules.specs.Walk.{Walked, turn, repetitionRow}
 use Rattle.command_groups.specs.declared.Taken.{Taken}
 use Rattle.command_groups.specs.declared.Repeated.{Repeated}
 use Rattle.command_groups.specs.declared.Repetition.{Repetition}

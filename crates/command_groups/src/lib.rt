@@ -1,7 +1,8 @@
 // A group of a command: its members, its repetitions, and how often it repeats; and the entries that a list keeps.
 // Each function writes the rows for which there is room in its part of the table, and counts all.
 use command_param::Param;
-use command_rows::Row;
+use command_rules::BitOffset;
+use command_rules::Row;
 use command_schema::Loaded;
 use records::BodyOffset;
 ghost use mathlib.Core.Path.{_≡_};
@@ -9,11 +10,11 @@ ghost use mathlib.Core.List.{[]};
 ghost use Prim.Native.Nat.{_+_, _-_, _^_, _≤_, _<_};
 ghost use lib.ListN.{length, drop, set};
 ghost use Rattle.command_lengths.specs.Entries.{entries};
-ghost use Rattle.command_lengths.specs.Lengths.{least, repeats};
+ghost use Rattle.command_rules.specs.Lengths.{least, repeats};
 ghost use Rattle.command_schema.specs.Heads.{headsOf, membersOf};
 ghost use Rattle.command_schema.specs.Loaded.{fieldIn, Stands, IsLoaded};
 ghost use Rattle.command_param.specs.Steps.{ReadsParam};
-ghost use Rattle.command_walk.specs.Walk.{members, turn, repetitionRow, repetitions};
+ghost use Rattle.command_rules.specs.Walk.{members, turn, repetitionRow, repetitions};
 ghost use Rattle.command_groups.specs.Steps.{Gives, GivesGroup, Repeats};
 
 // The entries of a list that an offset can count to.
@@ -324,7 +325,7 @@ pub fn group_at(
     let most = command_lengths::repeats_of(
         g.paramoffs,
         g.sizemask,
-        command_lengths::BitOffset(g.sizeoffs),
+        BitOffset(g.sizeoffs),
         es,
         rest,
     );

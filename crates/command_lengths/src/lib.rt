@@ -2,43 +2,14 @@
 // command_class/decode.rs.
 // Of an entry later lengths, conditions and counts want only whether it has a value, and its low byte: `es` are the first 256 entries of a list,
 // one number each, 256 for an entry without value. A number of a definition that may be missing is 256 where it is.
+use command_rules::BitOffset;
+use command_rules::Earlier;
+use command_rules::Rule;
+use command_rules::Size;
+use command_rules::Wanted;
 ghost use mathlib.Core.Path.{_≡_};
-ghost use Prim.Native.Nat.{_≤_};
-ghost use Rattle.command_lengths.specs.Entries.{entryAt, earlier, entries, given};
-ghost use Rattle.command_lengths.specs.Lengths.{meets, holds, masked, byEntry, wanted, cut, sizeOf, counted, repeats};
-
-// A bit's place in a byte, from its lowest.
-pub struct BitOffset(pub u16);
-
-// What an offset finds: an entry's low byte, an entry without value, or no such entry.
-pub enum Earlier {
-    Value(u16),
-    NoValue,
-    NoEntry,
-}
-
-// What a Q's own lines say of its length: a number of bytes, the rest, or that an entry counts it.
-pub enum Rule {
-    Fixed(u16),
-    Open,
-    Counted {
-        offset: u16,
-        mask: u16,
-        shift: BitOffset,
-    },
-}
-
-// How many bytes a Q wants, be they there or not.
-pub enum Wanted {
-    Exactly(u16),
-    Rest,
-}
-
-// How many bytes a Q takes, if it exists.
-pub enum Size {
-    Bytes(usize),
-    Missing,
-}
+ghost use Rattle.command_lengths.specs.Entries.{earlier, entries, given};
+ghost use Rattle.command_rules.specs.Lengths.{meets, holds, masked, byEntry, wanted, cut, sizeOf, counted, repeats, entryAt};
 
 fn earlier_of(e: u16) -> Earlier
     ensures { λ r. ⌜ r ≡ earlier e ⌝ }

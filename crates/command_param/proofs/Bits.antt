@@ -8,7 +8,6 @@ use native.Mathlib.Nat.{zero-add}
 use native.Mathlib.Decide.{decLt}
 use native.Mathlib.Omega.{arith}
 use lib.Bits.{bitAnd}
-use lib.Dec.{eqb}
 use lib.ListN.{length}
 use borrow.Author.Tests.{eq-eqb, ne-eqb}
 use Rattle.text.specs.Records.{Readable}
@@ -21,13 +20,14 @@ use Rattle.command_class.specs.Find.{from, among, Says, IsRead}
 use Rattle.command_class.specs.declared.Row.{Row as Line}
 use Rattle.command_class.specs.declared.Read.{Read}
 use Rattle.command_class.proofs.Finding.{among-laws}
-use Rattle.command_lengths.specs.Lengths.{masked}
-use Rattle.command_schema.specs.Loaded.{countBits, after, Stands}
+use Rattle.command_rules.specs.Lengths.{masked}
+use Rattle.command_schema.specs.Loaded.{after, Stands}
 use Rattle.command_schema.specs.declared.Loaded.{Loaded}
 use Rattle.command_rows.specs.Rows.{written, Writes}
-use Rattle.command_rows.specs.declared.Row.{Row}
+use Rattle.command_rules.specs.declared.Row.{Row}
 use Rattle.command_rows.proofs.Laws.{written-none, length-written, written-more, written-full}
-use Rattle.command_param.specs.Param.{bitValue, bitRow, bitOnto, bitRows}
+use Rattle.command_rules.proofs.Children.{bits-count}
+use Rattle.command_rules.specs.Param.{bitValue, bitRow, bitRows}
 use Rattle.command_param.specs.Steps.{bitNumber}
 
 -- ---- a line
@@ -69,23 +69,6 @@ no-bit-said b (bitField f) l k h = absurd (let z : _≡_ {A = Bool} true false =
 no-bit-said b (fieldEnum f) l k h = absurd (let z : _≡_ {A = Bool} true false = rw k at h in let w : _≡_ {A = ℕ} 0 1 = cc in omega arith)
 no-bit-said b (const v n) l k h = refl
 no-bit-said b (bitmask n) l k h = refl
-
--- ---- how many there are
-pub bits-count : (b parent start : ℕ) (is : List Item) → length (bitRows b parent start is) ≡ countBits is
-unfolding bitRows
-bits-count b parent start [] = refl
-bits-count b parent start (i ∷ is) = go (i .says) (bits-count b parent start is)
-  where
-    go : (x : Record) → length (bitRows b parent start is) ≡ countBits is → length (bitOnto (i .line) parent start (bitValue b x) (bitRows b parent start is)) ≡ countBits (record { line = i .line; says = x } ∷ is)
-    go (param q) ih = ih
-    go (group g) ih = ih
-    go (variant v) ih = ih
-    go (array n a) ih = ih
-    go (bitFlag m n) ih = ap suc ih
-    go (bitField f) ih = ap suc ih
-    go (fieldEnum f) ih = ap suc ih
-    go (const v n) ih = ih
-    go (bitmask n) ih = ih
 
 none-of : (rs : List Row) → length rs ≡ 0 → rs ≡ []
 none-of [] h = refl

@@ -10,20 +10,20 @@ use borrow.Author.Tests.{eq-eqb, ne-eqb}
 use Rattle.command_class.specs.Definition.{under}
 use Rattle.command_class.specs.Find.{from}
 use Rattle.command_lengths.specs.Entries.{entries, given, earlier}
-use Rattle.command_lengths.specs.Lengths.{sizeOf}
-use Rattle.command_lengths.specs.declared.Rule.{Rule}
-use Rattle.command_lengths.specs.declared.Size.{Size}
-use Rattle.command_lengths.specs.declared.Size.the-variants.{Bytes, Missing}
-use Rattle.command_lengths.proofs.Laws.{size-within, size-some}
-use Rattle.command_schema.specs.Field.{Field}
+use Rattle.command_rules.specs.Lengths.{sizeOf}
+use Rattle.command_rules.specs.declared.Rule.{Rule}
+use Rattle.command_rules.specs.declared.Size.{Size}
+use Rattle.command_rules.specs.declared.Size.the-variants.{Bytes, Missing}
+use Rattle.command_rules.proofs.Lengths.{size-within, size-some}
+use Rattle.command_rules.specs.Field.{Field}
 use Rattle.command_schema.specs.Loaded.{ruleIn, after, fieldIn}
 use Rattle.command_schema.specs.declared.Loaded.{Loaded}
 use Rattle.command_rows.specs.Rows.{written, rowAt, Writes}
-use Rattle.command_rows.specs.declared.Row.{Row}
+use Rattle.command_rules.specs.declared.Row.{Row}
 use Rattle.command_rows.proofs.Laws.{written-none, written-full, written-more, part-back}
-use Rattle.command_param.specs.Param.{inPayload, valueOf, valued, orZero, constLine, entryOf, bitRows, childRows, rowOf, bytesAt, sizeAt, paramRows, paramEntry}
+use Rattle.command_rules.specs.Param.{inPayload, valueOf, valued, orZero, constLine, entryOf, bitRows, childRows, rowOf, bytesAt, sizeAt, paramRows, paramEntry}
 use Rattle.command_param.specs.Steps.{WritesParam, ReadsParam}
-use Rattle.command_param.specs.declared.Uint.{Uint}
+use Rattle.command_rules.specs.declared.Uint.{Uint}
 use Rattle.command_param.specs.declared.Param.the-variants.{Read, Absent}
 use Rattle.command_param.specs.declared.Wrote.{Wrote}
 

@@ -18,9 +18,9 @@ use Rattle.command_text.specs.Rules.{rules}
 use Rattle.command_schema.specs.Loaded.{after, fieldIn, Stands}
 use Rattle.command_schema.specs.declared.Loaded.{Loaded}
 use Rattle.text.specs.declared.Place.{Place}
-use Rattle.command_param.specs.Param.{bigEndian, valueOf, valued, orZero, constLine, entryOf}
-use Rattle.command_param.specs.declared.Uint.{Uint}
-use Rattle.command_param.specs.declared.Uint.the-variants.{Is, Not}
+use Rattle.command_rules.specs.Param.{bigEndian, valueOf, valued, orZero, constLine, entryOf}
+use Rattle.command_rules.specs.declared.Uint.{Uint}
+use Rattle.command_rules.specs.declared.Uint.the-variants.{Is, Not}
 
 -- ---- read_uint: what is read so far, and what is left
 pub record Reading (s : List ℕ) (v i : ℕ) : Type 0 where

@@ -9,12 +9,12 @@ use lib.ListN.{length}
 use Rattle.records.specs.declared.BodyOffset.{BodyOffset}
 use Rattle.command_class.specs.declared.Row.{Row as Line}
 use Rattle.command_lengths.specs.Entries.{earlier}
-use Rattle.command_lengths.specs.Lengths.{masked}
-use Rattle.command_lengths.specs.declared.Earlier.{Earlier}
-use Rattle.command_lengths.specs.declared.Size.the-variants.{Bytes, Missing}
-use Rattle.command_schema.specs.Field.{Field}
+use Rattle.command_rules.specs.Lengths.{masked}
+use Rattle.command_rules.specs.declared.Earlier.{Earlier}
+use Rattle.command_rules.specs.declared.Size.the-variants.{Bytes, Missing}
+use Rattle.command_rules.specs.Field.{Field}
 use Rattle.command_rows.specs.Rows.{written}
-use Rattle.command_param.specs.Param.{sizeAt, paramRows, paramEntry}
+use Rattle.command_rules.specs.Param.{sizeAt, paramRows, paramEntry}
 use Rattle.command_param.specs.declared.Wrote.{Wrote}
 use Rattle.command_param.specs.declared.Param.{Param}
 use Rattle.command_param.specs.declared.Param.the-variants.{Read, Absent}

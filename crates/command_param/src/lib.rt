@@ -1,10 +1,11 @@
 // One Q of a command: whether it exists, its value, its row and its bit children. Counterpart of `read_uint`, `decode_bits` and `decode_param` of
 // command_class/decode.rs.
 use command_class::Row as Line;
-use command_lengths::BitOffset;
-use command_lengths::Size;
-use command_rows::Row;
 use command_rows::WIDTH;
+use command_rules::BitOffset;
+use command_rules::Row;
+use command_rules::Size;
+use command_rules::Uint;
 use command_schema::Loaded;
 use records::BodyOffset;
 use records::PayloadOffset;
@@ -17,17 +18,11 @@ ghost use Rattle.command_class.specs.Find.{from, among};
 ghost use Rattle.command_lengths.specs.Entries.{entries, earlier};
 ghost use Rattle.command_rows.specs.Rows.{written, Writes};
 ghost use Rattle.command_schema.specs.Loaded.{after, fieldIn, Stands};
-ghost use Rattle.command_param.specs.Param.{inPayload, valueOf, valued, orZero, constLine, entryOf, bitRow, bitRows, childRows, rowOf};
+ghost use Rattle.command_rules.specs.Param.{inPayload, valueOf, valued, orZero, constLine, entryOf, bitRow, bitRows, childRows, rowOf};
 ghost use Rattle.command_param.specs.Steps.{bitNumber, WritesParam, ReadsParam};
 
 // Bytes of command class and command that precede a command's params.
 const CMD_HEADER: usize = 2;
-
-// A value of 1 to 8 bytes, if it is one.
-pub enum Uint {
-    Is(u64),
-    Not,
-}
 
 // What reading a Q gives: where it ends in the body, the entry that it is for those after it, how many rows it has; or that it does not exist.
 pub enum Param {

@@ -8,8 +8,9 @@ use borrow.Author.Tests.{le-leb, lt-leb}
 use Rattle.rows.specs.Rows.{put}
 use Rattle.rows.specs.Parts.{puts, Wide}
 use Rattle.rows.proofs.Parts as rows
-use Rattle.command_rows.specs.Rows.{numbers, written, table, rowAt}
-use Rattle.command_rows.specs.declared.Row.{Row}
+use Rattle.command_rows.specs.Rows.{written, rowAt}
+use Rattle.command_rules.specs.Rows.{numbers, table}
+use Rattle.command_rules.specs.declared.Row.{Row}
 
 wide : (rs : List Row) → Wide 9 (map numbers rs)
 wide [] = tt

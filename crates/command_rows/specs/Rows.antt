@@ -1,27 +1,15 @@
--- C16 (docs/RULES.md): the rows of a command's table.
+-- Rows written into a part of the lent table, those for which there is room.
 use mathlib.Core.Path.{_≡_}
-use mathlib.Core.List.{List, _∷_, [], map}
+use mathlib.Core.List.{List, map}
 use Prim.Native.Nat.{ℕ}
 use lib.ListN.{length}
-use Rattle.rows.specs.Rows.{laid}
 use Rattle.rows.specs.Parts.{puts, cutAt}
-use Rattle.command_rows.specs.declared.Row.{Row}
-
--- the numbers of a row
-abbrev pub width : ℕ
-width = 9
-
--- C16: the nine numbers, in their order
-abbrev pub numbers : Row → List ℕ
-numbers r = r .kind ∷ r .line ∷ r .parent ∷ r .start ∷ r .end ∷ r .valued ∷ r .value ∷ r .named ∷ r .number ∷ []
+use Rattle.command_rules.specs.Rows.{width, numbers}
+use Rattle.command_rules.specs.declared.Row.{Row}
 
 -- the table with rows written from row k on, those for which there is room
 unfoldable pub written : List ℕ → ℕ → List Row → List ℕ
 written t k rs = puts width t k (map numbers rs)
-
--- R12: the table whose first rows are these, and behind them what stood there
-unfoldable pub table : List ℕ → List Row → List ℕ
-table t rs = laid t (map numbers rs)
 
 -- where row k begins, or the table's end if that comes first
 unfoldable pub rowAt : ℕ → ℕ → ℕ

@@ -13,7 +13,8 @@ use Rattle.command_text.specs.Rules.{count, items}
 use Rattle.command_class.specs.Definition.{Parameter, Entry, single, numbered, under, membersAt, entriesAt, definition}
 use Rattle.command_class.specs.Limits.{FewUnderEach}
 use Rattle.command_schema.specs.Heads.{heads, headsOf, membersOf, entriesOf}
-use Rattle.command_schema.specs.Loaded.{countBits, SmallHeads}
+use Rattle.command_schema.specs.Loaded.{SmallHeads}
+use Rattle.command_rules.specs.Limits.{countBits}
 
 heads-members : (n : ℕ) (rs : List Record) → membersAt n rs ≡ membersOf (heads (numbered n rs))
 unfolding heads membersOf

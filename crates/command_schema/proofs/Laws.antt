@@ -3,10 +3,10 @@ use mathlib.Core.Path.{_≡_, refl}
 use mathlib.Core.Bool.{Bool, true, false, cond}
 use mathlib.Core.List.{List}
 use mathlib.Core.Option.{none, some}
-use Prim.Native.Nat.{ℕ, _+_, _*_, _≤_, _<_}
+use Prim.Native.Nat.{ℕ, _*_, _≤_, _<_}
 use native.Mathlib.Omega.{arith}
 use lib.Dec.{eqb}
-use lib.ListN.{length, getD}
+use lib.ListN.{length}
 use borrow.Author.Tests.{eqb-true, lt-ltb, le-ltb, eq-eqb, ne-eqb}
 use Rattle.rows.specs.Rows.{put}
 use Rattle.text.specs.declared.Place.{Place}
@@ -14,10 +14,10 @@ use Rattle.command_text.specs.declared.ParamType.{ParamType}
 use Rattle.command_text.specs.declared.ParamType.the-variants.{Byte, StructByte, Const, Marker, Word, Bit24, Dword, Array, Variant as Variants, Bitmask, MultiArray}
 use Rattle.command_class.specs.declared.Row.{Row}
 use Rattle.command_lengths.specs.Entries.{given}
-use Rattle.command_lengths.specs.declared.Rule.the-variants.{Fixed, Open, Counted}
-use Rattle.command_schema.specs.Field.{arrayRule, variantRule, variableRule, ruleOf, arrayAscii, variantAscii, isConst, isNamed}
+use Rattle.command_rules.specs.declared.Rule.the-variants.{Fixed, Open, Counted}
+use Rattle.command_rules.specs.Field.{arrayRule, variantRule, variableRule, ruleOf, arrayAscii, variantAscii, isConst, isNamed}
 use Rattle.command_schema.specs.Gathered.{withVariant, withArray, withBitmask, withBits, notedRow, bitmaskIn, arraySaid, arrayIn, variantSaid, variantIn, lengthNumber}
-use Rattle.command_schema.specs.Loaded.{numbers, loadedAt, ruleIn, isMember, isOuter, loadedParam}
+use Rattle.command_schema.specs.Loaded.{numbers, ruleIn, isMember, isOuter, loadedParam}
 use Rattle.command_schema.specs.declared.Loaded.{Loaded}
 use Rattle.command_schema.specs.declared.items.Gathered.{Gathered}
 use Rattle.command_schema.specs.declared.items.ArrayAttrib.{ArrayAttrib}
@@ -46,26 +46,6 @@ module _ (l : Loaded) where
 
   pub outer-level : l .kind ≡ 81 → eqb (l .level) 0 ≡ isOuter l
   outer-level h = rw (eq-eqb (l .kind) 81 h)
-
-pub row-read : (d : List ℕ) (i : ℕ)
-    → _≡_ {A = Loaded}
-    (record {
-      kind = getD d (i * 12) 0;
-      level = getD d (i * 12 + 1) 0;
-      line = getD d (i * 12 + 2) 0;
-      at = getD d (i * 12 + 3) 0;
-      optionaloffs = getD d (i * 12 + 4) 0;
-      optionalmask = getD d (i * 12 + 5) 0;
-      length = getD d (i * 12 + 6) 0;
-      paramoffs = getD d (i * 12 + 7) 0;
-      sizemask = getD d (i * 12 + 8) 0;
-      sizeoffs = getD d (i * 12 + 9) 0;
-      bits = getD d (i * 12 + 10) 0;
-      named = getD d (i * 12 + 11) 0;
-    })
-    (loadedAt d i)
-unfolding loadedAt
-row-read d i = refl
 
 pub row-stored : (d : List ℕ) (i : ℕ) (l : Loaded) (ns d′ : List ℕ) → ns ≡ numbers l → d′ ≡ put d (i * 12) ns → d′ ≡ put d (i * 12) (numbers l)
 row-stored d i l ns d′ en ed = rw en at ed
@@ -233,4 +213,4 @@ pub param-loaded : (r : Row) (p next : Place) (g : Gathered) (length named : ℕ
 param-loaded r p next g length named el en = rw (el, en) refl
 
 -- what the proofs of the small functions go by
-pub ruleset laws = (member-not, member-level, outer-not, outer-level, rule-fixed, rule-open, rule-counted, row-read, row-stored, variant-had, variant-first, array-had, array-first, bitmask-had, bitmask-first, note-variant, note-array, note-bitmask, note-flag, note-field, note-enum, note-other, variant-none, variant-255, variant-0, variant-counted, variant-ascii, variant-plain, array-plain, array-ascii, bitmask-length, bitmask-over, length-byte, length-struct, length-const, length-marker, length-word, length-bit24, length-dword, length-array, length-variant, length-bitmask, length-multi, named-not, named-array, named-variant, named-is, param-loaded)
+pub ruleset laws = (member-not, member-level, outer-not, outer-level, rule-fixed, rule-open, rule-counted, row-stored, variant-had, variant-first, array-had, array-first, bitmask-had, bitmask-first, note-variant, note-array, note-bitmask, note-flag, note-field, note-enum, note-other, variant-none, variant-255, variant-0, variant-counted, variant-ascii, variant-plain, array-plain, array-ascii, bitmask-length, bitmask-over, length-byte, length-struct, length-const, length-marker, length-word, length-bit24, length-dword, length-array, length-variant, length-bitmask, length-multi, named-not, named-array, named-variant, named-is, param-loaded)

@@ -25,10 +25,11 @@ use Rattle.command_class.specs.declared.Row.{Row}
 use Rattle.command_class.specs.declared.Read.{Read}
 use Rattle.command_class.proofs.Limits.{accepted-within}
 use Rattle.command_lengths.specs.Entries.{given}
-use Rattle.command_schema.specs.Field.{first, asVariant, asArray, asBitmask, ruleOf, isNamed}
+use Rattle.command_rules.specs.Field.{first, asVariant, asArray, asBitmask, ruleOf, isNamed}
 use Rattle.command_schema.specs.Heads.{Head, isQ, isG, onto, heads, headsOf}
 use Rattle.command_schema.specs.Gathered.{gatheredNone, gathered, Gathers, bitmaskIn, arrayIn, variantIn, lengthNumber}
-use Rattle.command_schema.specs.Loaded.{countBits, SmallHeads, numbers, loadedAt, TellsQ, Tells, Told, IsLoaded, loadedParam, loadedGroup, Stores}
+use Rattle.command_schema.specs.Loaded.{SmallHeads, numbers, loadedAt, TellsQ, Tells, Told, IsLoaded, loadedParam, loadedGroup, Stores}
+use Rattle.command_rules.specs.Limits.{countBits}
 use Rattle.command_schema.specs.declared.Loaded.{Loaded}
 use Rattle.command_schema.specs.declared.items.Under.{Under}
 use Rattle.command_schema.proofs.Heads.{heads-count, heads-small}

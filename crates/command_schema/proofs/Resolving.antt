@@ -21,11 +21,11 @@ use Rattle.command_class.specs.Find.{from, orMissing}
 use Rattle.command_class.specs.Print.{Fits}
 use Rattle.command_class.proofs.Saying.{records-fit}
 use Rattle.command_lengths.specs.Entries.{given}
-use Rattle.command_lengths.specs.declared.Rule.{Rule}
-use Rattle.command_lengths.specs.declared.Rule.the-variants.{Fixed, Open, Counted}
-use Rattle.command_schema.specs.Field.{orElse, first, asVariant, asArray, asBitmask, arrayRule, variantRule, variableRule, ruleOf}
+use Rattle.command_rules.specs.declared.Rule.{Rule}
+use Rattle.command_rules.specs.declared.Rule.the-variants.{Fixed, Open, Counted}
+use Rattle.command_rules.specs.Field.{orElse, first, asVariant, asArray, asBitmask, arrayRule, variantRule, variableRule, ruleOf}
 use Rattle.command_schema.specs.Gathered.{noted, gathered, bitmaskIn, arrayIn, variantIn, lengthNumber}
-use Rattle.command_schema.specs.Loaded.{isBits, countBits}
+use Rattle.command_rules.specs.Limits.{isBits, countBits}
 use Rattle.command_schema.specs.declared.items.Gathered.{Gathered}
 
 -- ---- lines that say numbers of 0 to 255

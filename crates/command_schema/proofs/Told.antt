@@ -13,11 +13,12 @@ use Rattle.text.specs.Records.{records}
 use Rattle.text.specs.declared.Verdict.the-variants.{Accepted}
 use Rattle.command_text.specs.Form.{Group, form}
 use Rattle.command_text.specs.Rules.{verdict}
-use Rattle.command_class.specs.Definition.{Parameter, Entry, single, repeated}
+use Rattle.command_class.specs.Definition.{Parameter, single, repeated}
 use Rattle.command_class.proofs.Limits.{accepted-within}
-use Rattle.command_schema.specs.Field.{fieldOf}
+use Rattle.command_rules.specs.Field.{fieldOf}
+use Rattle.command_rules.specs.Limits.{SmallAll, SmallEntries}
 use Rattle.command_schema.specs.Heads.{Head, isQ, isG, headsOf, membersOf, entriesOf}
-use Rattle.command_schema.specs.Loaded.{Small, SmallHeads, loadedAt, fieldIn, isMember, isOuter, Stands, TellsG, Tells, Told, IsLoaded}
+use Rattle.command_schema.specs.Loaded.{SmallHeads, loadedAt, fieldIn, isMember, isOuter, Stands, TellsG, Tells, Told, IsLoaded}
 use Rattle.command_schema.specs.declared.Loaded.{Loaded}
 use Rattle.command_schema.proofs.Heads.{heads-small}
 
@@ -96,15 +97,6 @@ module _ (t : List ℕ) (l : Loaded) (hs : List Head) where
   no-entry-here (isG line g) w e f = absurd (f (w .kind))
 
 -- ---- no Q has more than 32 T, S and U lines
-unfoldable pub SmallAll : List Parameter → Type 0
-SmallAll [] = Unit {0}
-SmallAll (q ∷ qs) = Small q × SmallAll qs
-
-unfoldable pub SmallEntries : List Entry → Type 0
-SmallEntries [] = Unit {0}
-SmallEntries (single q ∷ ds) = Small q × SmallEntries ds
-SmallEntries (repeated line g qs ∷ ds) = SmallAll qs × SmallEntries ds
-
 small-drop : (i : ℕ) (hs : List Head) → SmallHeads hs → SmallHeads (drop i hs)
 unfolding SmallHeads
 small-drop zero hs h = h

@@ -13,8 +13,8 @@ use Rattle.command_class.specs.Definition.{Item, under}
 use Rattle.command_class.specs.Find.{from, among, orMissing}
 use Rattle.command_class.specs.declared.Row.{Row}
 use Rattle.command_lengths.specs.Entries.{given}
-use Rattle.command_lengths.specs.declared.Rule.{Rule}
-use Rattle.command_lengths.specs.declared.Rule.the-variants.{Fixed, Open, Counted}
+use Rattle.command_rules.specs.declared.Rule.{Rule}
+use Rattle.command_rules.specs.declared.Rule.the-variants.{Fixed, Open, Counted}
 use Rattle.command_schema.specs.declared.items.Gathered.{Gathered}
 use Rattle.command_schema.specs.declared.items.ArrayAttrib.{ArrayAttrib}
 use Rattle.command_schema.specs.declared.items.Variant.{Variant}

@@ -1,4 +1,3 @@
-pub mod Field
 pub mod Heads
 pub mod Gathered
 pub mod Loaded

@@ -1,6 +1,6 @@
 -- How the rows are read that an accepted command text is loaded into, and how they are made.
-use Prim.Native.Nat.{ℕ, suc, _+_, _*_, _≤_, _<_}
-use mathlib.Core.Bool.{Bool, true, false, cond, _&&_}
+use Prim.Native.Nat.{ℕ, _+_, _*_, _≤_, _<_}
+use mathlib.Core.Bool.{Bool, cond, _&&_}
 use mathlib.Core.Path.{_≡_}
 use mathlib.Core.List.{List, [], _∷_}
 use lib.Dec.{eqb, ltb}
@@ -8,42 +8,23 @@ use lib.ListN.{length, getD}
 use Rattle.rows.specs.Rows.{put}
 use Rattle.text.specs.Records.{Readable}
 use Rattle.text.specs.declared.Place.{Place}
-use Rattle.command_text.specs.Form.{Group, Record, param, group, variant, array, bitFlag, bitField, fieldEnum, const, bitmask}
+use Rattle.command_text.specs.Form.{Group, variant}
 use Rattle.command_text.specs.Rules.{rules}
-use Rattle.command_class.specs.Definition.{Item, Parameter, under}
+use Rattle.command_class.specs.Definition.{Parameter, under}
 use Rattle.command_class.specs.Find.{from}
 use Rattle.command_class.specs.declared.Row.{Row}
 use Rattle.command_lengths.specs.Entries.{given}
-use Rattle.command_lengths.specs.declared.Rule.{Rule}
-use Rattle.command_lengths.specs.declared.Rule.the-variants.{Fixed, Open, Counted}
+use Rattle.command_rules.specs.declared.Rule.{Rule}
+use Rattle.command_rules.specs.declared.Rule.the-variants.{Fixed, Open, Counted}
+use Rattle.command_rules.specs.Limits.{countBits, Small}
 use Rattle.command_schema.specs.declared.Loaded.{Loaded}
 use Rattle.command_schema.specs.declared.items.Gathered.{Gathered}
 use Rattle.command_schema.specs.declared.items.Under.{Under}
-use Rattle.command_schema.specs.Field.{Field, fieldOf, ruleOf, isNamed}
+use Rattle.command_rules.specs.Field.{Field, fieldOf, ruleOf, isNamed}
 use Rattle.command_schema.specs.Heads.{Head, isQ, isG, headsOf}
 use Rattle.command_schema.specs.Gathered.{Gathers, bitmaskIn, arrayIn, variantIn, lengthNumber}
 
--- ---- bit lines
-
-abbrev pub isBits : Record → Bool
-isBits (param q) = false
-isBits (group g) = false
-isBits (variant s) = false
-isBits (array length ascii) = false
-isBits (bitFlag mask name) = true
-isBits (bitField b) = true
-isBits (fieldEnum b) = true
-isBits (const value name) = false
-isBits (bitmask length) = false
-
--- how many T, S and U lines there are
-abbrev pub countBits : List Item → ℕ
-countBits [] = 0
-countBits (i ∷ is) = cond (isBits (i .says)) (suc (countBits is)) (countBits is)
-
--- T33: a Q has at most 32 items, so at most 32 T, S and U lines
-abbrev pub Small : Parameter → Type 0
-Small q = countBits (q .items) ≤ 32
+-- ---- at most 32 T, S and U lines under each Q
 
 abbrev pub SmallHead : Head → Type 0
 SmallHead (isQ q) = Small q

@@ -84,22 +84,3 @@ module _ (g : ℕ) where
           let w : times (n / 2) g * 2 / 2 ^ k ≡ 0 = rw z (div-eq-of-lt (pow-pos k)) in
           absurd (omega arith)
       go n (suc (suc b)) e l ih h = absurd (omega arith)
-
-digit-plus : (x a b : ℕ) → x < 2 → x * plus a b ≡ plus (x * a) (x * b)
-digit-plus zero a b h = rw (zero-mul (plus a b), zero-mul a, zero-mul b, plus-self 0)
-digit-plus (suc zero) a b h = rw (one-mul (plus a b), one-mul a, one-mul b)
-digit-plus (suc (suc x)) a b h = absurd (omega arith)
-
--- a product distributes over the sum of its second factor too
-pub times-plus-right : (a b p : ℕ) → times p (plus a b) ≡ plus (times p a) (times p b)
-times-plus-right a b =
-    bin-ind (λ (n : ℕ). times n (plus a b) ≡ plus (times n a) (times n b)) (rw (times-zero (plus a b), times-zero a, times-zero b, plus-self 0))
-    (λ n ih.
-    rw (
-      times-step (plus a b) n,
-      ih,
-      digit-plus (n % 2) a b (omega arith),
-      ← plus-shift 1 (times (n / 2) a) (times (n / 2) b),
-      times-step a n,
-      times-step b n,
-    ) (simp sums))

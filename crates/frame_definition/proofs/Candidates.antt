@@ -20,7 +20,6 @@ use Rattle.text.specs.declared.Under.the-variants as stand
 use Rattle.text.specs.Records.{Readable}
 use Rattle.text.specs.declared.Place.{Place}
 use Rattle.text.specs.declared.Line.{Line}
-use Rattle.text.specs.declared.Part.{Part}
 use Rattle.text.specs.declared.Number.the-variants.{Is, Over as TooHigh, Not}
 use Rattle.text.specs.declared.Optional.{Optional}
 use Rattle.text.specs.declared.Optional.the-variants.{Given, Missing, Wrong}
@@ -132,9 +131,6 @@ module _ (t : List ℕ) (l : Line) (key : ℕ) (good : Good t l) where
 
   pub candidate-next : Readable rules t (l .next)
   candidate-next = good .next
-
-  pub candidate-kind : (b : Bool) (rs : List Record) → b ≡ candidate key (cells t l) rs → b ≡ true → l .kind ≡ 72
-  candidate-kind b rs e q = good .kind-is ∙ eqb-true _ _ (and-left (eqb (kindOf (cells t l)) 72) _ (sym e ∙ q))
 
 pub ruleset candidate-laws = (candidate-rest, candidate-next)
 

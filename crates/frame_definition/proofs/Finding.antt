@@ -137,13 +137,6 @@ shown t l good = go (form (cells t l)) refl (good .allowed)
 pub good-has : (t : List ℕ) (l : Line) → Good t l → Has t l 1
 good-has t l good = let h : Shown t l = shown t l good in record { marked = good .marked; there = omega (arith, h .count, some-field (h .said)) }
 
--- a test of two parts that holds
-keyed-kind : (kind limit key : ℕ) (fs : List (List ℕ)) → keyed kind limit key fs ≡ true → kindOf fs ≡ kind
-keyed-kind kind limit key fs e = eqb-true (kindOf fs) kind (and-left (eqb (kindOf fs) kind) (eqb (value limit (field 1 fs)) key) e)
-
-keyed-key : (kind limit key : ℕ) (fs : List (List ℕ)) → keyed kind limit key fs ≡ true → value limit (field 1 fs) ≡ key
-keyed-key kind limit key fs e = eqb-true (value limit (field 1 fs)) key (and-right (eqb (kindOf fs) kind) (eqb (value limit (field 1 fs)) key) e)
-
 pub keyed-same : (t : List ℕ) (l : Line) (v key : ℕ) → v ≡ value 255 (field 1 (cells t l)) → eqb v key ≡ eqb (value 255 (field 1 (cells t l))) key
 keyed-same t l v key e = rw e
 
@@ -528,9 +521,6 @@ module _ (t : List ℕ) (p q : Place) (r : Under) (kind : ℕ) (found-at : NextO
   abbrev pub stands : Stands owns (ofKind kind) rules from t p q
   stands = listing.found-at owns (ofKind kind) rules from t p q r found-at e
 
-  pub at-readable : Readable rules t q
-  at-readable = stands .readable
-
   pub at-in : In t q
   at-in = stands .readable .inn
 
@@ -548,12 +538,6 @@ module _ (t : List ℕ) (p q : Place) (r : Under) (kind : ℕ) (found-at : NextO
     at-kind =
         let s : eqb (letter (line-at .said)) kind ≡ true = rw (line-at .rest-is) at (stands .there) in
         step .kind-is ∙ line-at .view .kind ∙ eqb-true _ _ s
-
-    pub at-next : Readable rules t (l .next)
-    at-next = line-at .next
-
-    pub at-on : p .at < l .next .at
-    at-on = omega (arith, stands .after, step .on)
 
 pub param-none : (t : List ℕ) (p : Place) (n : ℕ) (r : Under) → NextOf t p 80 r → r ≡ stand.Nothing → FindsParam t p n nextParam.Nothing
 param-none t p n r f e = params-of n (from t p) ∙ ap (params n) (rw e at f)

@@ -1,12 +1,11 @@
 -- Laws of the header of an MPDU. Assumes nothing.
 use mathlib.Core.Path.{_≡_, refl, sym, ap, _∙_}
-use mathlib.Core.Bool.{Bool, true, false, cond}
-use mathlib.Core.List.{List, [], _∷_, _++_, map}
-use mathlib.Core.Option.{none, some}
-use Prim.Native.Nat.{ℕ, _+_, _*_, _/_, _≤_, _<_}
+use mathlib.Core.Bool.{Bool}
+use mathlib.Core.List.{List, map}
+use mathlib.Core.Option.{none}
+use Prim.Native.Nat.{ℕ, _*_, _/_, _≤_, _<_}
 use native.Mathlib.Omega.{arith}
-use lib.Dec.{leb, ltb}
-use lib.ListN.{length, replicate, length-replicate, length-map}
+use lib.ListN.{length, length-map}
 use borrow.Author.Tests.{le-leb, lt-leb, lt-ltb, le-ltb}
 use Rattle.refusal.specs.declared.Refusal.{Refusal}
 use Rattle.refusal.specs.declared.Refusal.the-variants.{TooLong, TooShort, NoBase, NoCandidate, MoreRows}
@@ -16,35 +15,34 @@ use Rattle.text.specs.declared.Place.{Place}
 use Rattle.text.specs.declared.Verdict.{Verdict}
 use Rattle.text.specs.declared.Verdict.the-variants as text
 use Rattle.frame_text.specs.Rules.{rules, verdict}
-use Rattle.frame_definition.specs.Definition.{Numbered, Base, Set, below, params, definition, baseKey, firstBase}
-use Rattle.frame_definition.specs.Find.{from, frameOf, FindsBase}
+use Rattle.frame_definition.specs.Definition.{Numbered, params, definition, firstBase}
+use Rattle.frame_definition.specs.Find.{FindsBase}
 use Rattle.frame_definition.proofs.Leveled.{base-leveled}
 use Rattle.frame_definition.specs.declared.Candidate.{Candidate}
 use Rattle.frame_definition.specs.declared.Found.{Found}
 use Rattle.frame_definition.specs.declared.Found.the-variants as found
 use Rattle.crc.specs.Crc.{right}
-use Rattle.fields.specs.Fields.{fieldsIn, untyped}
-use Rattle.lawful.specs.Data.{P, Field, total}
-use Rattle.lawful.specs.Walk.{reading}
-use Rattle.lawful.specs.Answer.{Answer, answered, refused, answer}
-use Rattle.lawful.specs.Rows.{Row}
-use Rattle.lawful.specs.Table.{tableOf, shown}
-use Rattle.lawful.specs.Trees.{trees, candidateOf}
-use Rattle.lawful.specs.Loaded.{ownWalked}
-use Rattle.lawful.proofs.Walked.{flat-rows, flat-bit}
-use Rattle.told.specs.Told.{Heading, Told, no-base, no-candidate, more-rows, header, offsetOf, headingOf, fitted, ofAnswer, candidatesOf, told}
-use Rattle.told.proofs.Untyped.{trees-untyped}
-use Rattle.paths.specs.Scratch.{rowsIn}
-use Rattle.paths.proofs.Scratch.{length-rowsIn}
-use Rattle.candidates.specs.Read.{Roomy, baseOf, HoldsBase, ReadsBase, ReadsOwn}
-use Rattle.candidates.specs.Choose.{linesAt, IsChosen, Chooses}
-use Rattle.candidates.specs.declared.Read.{Read}
-use Rattle.candidates.specs.declared.Choice.{Choice}
-use Rattle.candidates.specs.declared.Choice.the-variants as choice
+use Rattle.header_fields.specs.Fields.{fieldsIn, untyped}
+use Rattle.header_rules.specs.Data.{P, Field, total}
+use Rattle.header_rules.specs.Walk.{reading}
+use Rattle.header_rules.specs.Answer.{refused, answer}
+use Rattle.header_rules.specs.Table.{tableOf}
+use Rattle.header_rules.specs.Trees.{trees}
+use Rattle.header_rules.specs.Loaded.{shown}
+use Rattle.header_rules.proofs.Walked.{flat-rows, flat-bit}
+use Rattle.header_rules.specs.Told.{more-rows, header, offsetOf, fitted, candidatesOf, told}
+use Rattle.header_candidates.proofs.Untyped.{trees-untyped}
+use Rattle.header_paths.specs.Scratch.{rowsIn}
+use Rattle.header_paths.proofs.Scratch.{length-rowsIn}
+use Rattle.header_candidates.specs.Read.{Roomy, baseOf, HoldsBase, ReadsBase}
+use Rattle.header_candidates.specs.Choose.{linesAt, IsChosen, Chooses}
+use Rattle.header_candidates.specs.declared.Read.{Read}
+use Rattle.header_candidates.specs.declared.Choice.{Choice}
+use Rattle.header_candidates.specs.declared.Choice.the-variants as choice
 use Rattle.header.specs.declared.Decoded.{Decoded}
 use Rattle.header.specs.declared.Decoded.the-variants.{Header, Refused}
-use Rattle.header.specs.Decode.{headerOf, ofTold, rowsOf, tableAfter, keyOf, toldOf, Decodes}
-use Rattle.header.specs.Steps.{Gives, Ready, headingRead, Shows, Picks, Reads}
+use Rattle.header.specs.Decode.{keyOf, Decodes}
+use Rattle.header.specs.Steps.{Ready, headingRead, Shows, Picks, Reads}
 use Rattle.header.proofs.Says.{decodes}
 
 -- ---- the answer for a candidate that was read

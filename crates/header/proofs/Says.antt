@@ -1,31 +1,22 @@
 -- What is answered says what demand 3 says. Assumes nothing.
 use mathlib.Core.Path.{_≡_, refl, sym, ap, _∙_, subst}
-use mathlib.Core.Bool.{Bool, cond}
+use mathlib.Core.Bool.{Bool}
 use mathlib.Core.List.{List}
-use mathlib.Core.Logic.{_↔_}
-use mathlib.Core.Option.{none, some}
-use Prim.Native.Nat.{ℕ, _/_, _≤_, _<_}
+use Prim.Native.Nat.{ℕ, _/_}
 use native.Mathlib.Omega.{arith}
-use lib.Dec.{ltb}
 use lib.ListN.{length}
-use borrow.Author.Tests.{lt-ltb, le-ltb}
+use borrow.Author.Tests.{le-ltb}
 use Rattle.refusal.specs.declared.Refusal.the-variants.{NoCandidate}
-use Rattle.text.specs.declared.Verdict.{Verdict}
-use Rattle.text.specs.declared.Verdict.the-variants as text
-use Rattle.frame_text.specs.Rules.{verdict}
-use Rattle.frame_definition.specs.Definition.{Definition, Base, definition, firstBase}
+use Rattle.frame_definition.specs.Definition.{Definition, Base, definition}
 use Rattle.crc.specs.Crc.{right}
-use Rattle.lawful.specs.Data.{Field, Candidate}
-use Rattle.lawful.specs.Demand.{First}
-use Rattle.lawful.specs.Trees.{trees}
-use Rattle.told.specs.Told.{Heading, Told, no-base, no-candidate, more-rows, header, headingOf, candidatesOf, told}
-use Rattle.told.specs.Says.{Demanded}
-use Rattle.told.specs.Says as told
-use Rattle.told.proofs.Told.{told-says, told-demanded}
+use Rattle.header_rules.specs.Told.{Heading, Told, no-base, no-candidate, more-rows, header, headingOf, told}
+use Rattle.header_rules.specs.Says.{Demanded}
+use Rattle.header_rules.specs.Says as told
+use Rattle.header_rules.proofs.Told.{told-says, told-demanded}
 use Rattle.header.specs.declared.DecodedHeader.{DecodedHeader}
 use Rattle.header.specs.declared.Decoded.{Decoded}
 use Rattle.header.specs.declared.Decoded.the-variants.{Header, Refused}
-use Rattle.header.specs.Decode.{headerOf, ofTold, sized, judged, keyOf, toldOf, decoded, tableAfter, Within, Says, Enough, Demand, Decodes}
+use Rattle.header.specs.Decode.{headerOf, ofTold, keyOf, toldOf, decoded, tableAfter, Within, Says, Demand, Decodes}
 
 module _ (def : Definition) (d : List ℕ) (most key : ℕ) (ok : Bool) where
   says-of : (x : Told) → told.Says def d most key x → Says def d most key ok (ofTold ok x)

@@ -15,12 +15,12 @@ use Rattle.text.specs.declared.Verdict.the-variants as text
 use Rattle.frame_text.specs.Rules.{verdict}
 use Rattle.frame_definition.specs.Definition.{Definition, Base, definition, baseKey, firstBase}
 use Rattle.crc.specs.Crc.{right}
-use Rattle.lawful.specs.Data.{Field, Candidate}
-use Rattle.lawful.specs.Demand.{First, None, Some}
-use Rattle.lawful.specs.Table.{tableOf}
-use Rattle.lawful.specs.Trees.{trees}
-use Rattle.told.specs.Told.{Heading, Told, no-base, no-candidate, more-rows, header, headingOf, candidatesOf, told}
-use Rattle.told.specs.Says.{Fits, Needs, NoneHolds}
+use Rattle.header_rules.specs.Data.{Field, Candidate}
+use Rattle.header_rules.specs.Demand.{First, None, Some}
+use Rattle.header_rules.specs.Table.{tableOf}
+use Rattle.header_rules.specs.Trees.{trees}
+use Rattle.header_rules.specs.Told.{Heading, Told, no-base, no-candidate, more-rows, header, headingOf, candidatesOf, told}
+use Rattle.header_rules.specs.Says.{Fits, Needs, NoneHolds}
 use Rattle.header.specs.declared.DecodedHeader.{DecodedHeader}
 use Rattle.header.specs.declared.Decoded.{Decoded}
 use Rattle.header.specs.declared.Decoded.the-variants.{Header, Refused}

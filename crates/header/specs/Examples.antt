@@ -1,20 +1,19 @@
 -- E9 and E10 (docs/RULES.md), and refusals by the same text.
 use mathlib.Core.Path.{_≡_, refl}
-use mathlib.Core.Bool.{true, false}
+use mathlib.Core.Bool.{false}
 use mathlib.Core.List.{List, [], _∷_}
 use Prim.Native.Nat.{ℕ}
-use Rattle.refusal.specs.declared.Refusal.the-variants.{Form, TooLong, TooShort, NoBase, NoCandidate, MoreRows}
+use Rattle.refusal.specs.declared.Refusal.the-variants.{Form, TooShort, NoBase, NoCandidate, MoreRows}
 use Rattle.bits.specs.Bits.{bitsAt}
 use Rattle.crc.specs.Crc.{right}
 use Rattle.crc.specs.Poly.{plus}
-use Rattle.lawful.specs.Find.{valueOf, firstNamed, through, inFirst, valueAt, widthOf}
-use Rattle.lawful.specs.Order.{insert, ordered}
-use Rattle.lawful.specs.Walk.{exists, packed, innerAt, listed, baseRead, reading}
-use Rattle.lawful.specs.Answer.{answer}
-use Rattle.lawful.specs.Rows.{rowsEach}
-use Rattle.lawful.specs.Trees.{ofLevel, kids, trees}
-use Rattle.lawful.specs.Table.{numbersOf, innerTable, tableFrom}
-use Rattle.told.specs.Told.{told}
+use Rattle.header_rules.specs.Find.{valueOf, firstNamed, through, inFirst, valueAt, widthOf}
+use Rattle.header_rules.specs.Order.{insert, ordered}
+use Rattle.header_rules.specs.Walk.{exists, packed, innerAt, listed, baseRead, reading}
+use Rattle.header_rules.specs.Answer.{answer}
+use Rattle.header_rules.specs.Trees.{ofLevel, kids, trees}
+use Rattle.header_rules.specs.Table.{numbersOf, innerTable, tableFrom, rowsEach}
+use Rattle.header_rules.specs.Told.{told}
 use Rattle.header.specs.declared.Decoded.the-variants.{Header, Refused}
 use Rattle.header.specs.Decode.{decoded, toldOf, tableAfter}
 

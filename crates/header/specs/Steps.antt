@@ -1,19 +1,18 @@
 -- What the steps below `decode_accepted` answer.
 use mathlib.Core.Path.{_≡_}
-use mathlib.Core.Bool.{cond}
 use mathlib.Core.List.{List, map}
 use Prim.Native.Nat.{ℕ, _*_, _/_, _≤_}
 use lib.ListN.{length}
 use Rattle.frame_definition.specs.Definition.{Numbered, definition}
 use Rattle.frame_definition.specs.declared.Candidate.{Candidate}
 use Rattle.crc.specs.Crc.{right}
-use Rattle.fields.specs.Fields.{fieldsIn}
-use Rattle.lawful.specs.Answer.{answer}
-use Rattle.lawful.specs.Table.{shown}
-use Rattle.lawful.specs.Trees.{trees}
-use Rattle.told.specs.Told.{Heading, Told, offsetOf, fitted, ofAnswer, candidatesOf, told}
-use Rattle.paths.specs.Scratch.{rowsIn}
-use Rattle.candidates.specs.declared.Read.{Read}
+use Rattle.header_fields.specs.Fields.{fieldsIn}
+use Rattle.header_rules.specs.Answer.{answer}
+use Rattle.header_rules.specs.Loaded.{shown}
+use Rattle.header_rules.specs.Trees.{trees}
+use Rattle.header_rules.specs.Told.{Heading, Told, offsetOf, fitted, ofAnswer, candidatesOf, told}
+use Rattle.header_paths.specs.Scratch.{rowsIn}
+use Rattle.header_candidates.specs.declared.Read.{Read}
 use Rattle.header.specs.declared.Decoded.{Decoded}
 use Rattle.header.specs.Decode.{ofTold, tableAfter}
 

@@ -1,8 +1,4 @@
 // The header of an MPDU, by a frame text. Counterpart of `decode_header` of frame_definition/decode.rs.
-use candidates::Choice;
-use candidates::Read;
-use candidates::choose;
-use candidates::read_base;
 use crc::check_crc;
 use frame_definition::Candidate;
 use frame_definition::Flags;
@@ -10,9 +6,13 @@ use frame_definition::Found;
 use frame_definition::base_key;
 use frame_definition::find_base;
 use frame_text::check_frame_text;
+use header_candidates::Choice;
+use header_candidates::Read;
+use header_candidates::choose;
+use header_candidates::read_base;
+use header_paths::BitOffset;
 use header_rows::COLUMNS;
 use header_rows::write_rows;
-use paths::BitOffset;
 use refusal::Refusal;
 use text::Place;
 use text::Verdict;
@@ -23,10 +23,10 @@ ghost use Rattle.text.specs.declared.Verdict.the-variants.{Accepted};
 ghost use Rattle.frame_text.specs.Rules.{verdict};
 ghost use Rattle.frame_definition.specs.Find.{FindsBase};
 ghost use Rattle.frame_definition.specs.declared.Found.the-variants.{At};
-ghost use Rattle.told.specs.Told.{offsetOf};
+ghost use Rattle.header_rules.specs.Told.{offsetOf};
 ghost use Rattle.header.specs.Decode.{Decodes};
 ghost use Rattle.header.specs.Steps.{Ready, Shows, Picks, Reads};
-ghost use Rattle.candidates.specs.Read.{Roomy, baseOf, HoldsBase};
+ghost use Rattle.header_candidates.specs.Read.{Roomy, baseOf, HoldsBase};
 
 // H20 of docs/RULES.md: which H line it is, its key and flags, where the payload starts in the MPDU, whether the checksum or CRC
 // is right, and how many rows there are.

@@ -3,15 +3,13 @@ use mathlib.Core.Path.{_≡_, refl, sym, ap, _∙_}
 use mathlib.Core.Bool.{cond}
 use mathlib.Core.List.{List, [], _∷_, _++_, map, append-nil, append-assoc}
 use mathlib.Core.Option.{Option, none, some}
-use Prim.Native.Nat.{ℕ, zero, suc, _+_, _*_, _^_, _≤_, _<_}
+use Prim.Native.Nat.{ℕ, zero, suc, _+_, _*_, _≤_, _<_}
 use native.Mathlib.Nat.{add-zero, zero-add}
 use native.Mathlib.Numerals.{add-one}
 use native.Mathlib.Omega.{arith}
 use lib.Dec.{eqb}
-use lib.ListN.{length, getD, take, drop, length-append}
+use lib.ListN.{length, getD, take, drop}
 use lib.Seq.{sets, length-sets}
-use mir.Syntax.{w64}
-use mir.Val.{Fits}
 use borrow.Author.Tests.{eq-eqb, ne-eqb}
 use Rattle.text.specs.Records.{Readable}
 use Rattle.text.specs.declared.Place.{Place}
@@ -23,15 +21,16 @@ use Rattle.frame_definition.specs.Definition.{Numbered, Set, below, entries, de
 use Rattle.frame_definition.specs.Find.{from, FindsSet}
 use Rattle.rows.specs.Rows.{put, flat, laid}
 use Rattle.rows.proofs.Laws.{sets-append, put-room, sets-laid}
-use Rattle.fields.specs.Fields.{paramAt, fieldsFrom, fieldsIn}
-use Rattle.lawful.specs.Data.{Name}
-use Rattle.lawful.specs.Loaded.{saidAt, numberAt}
-use Rattle.lawful.specs.Rows.{Row, rowValue}
-use Rattle.lawful.specs.Table.{entryOf, symbolOf, shown}
-use Rattle.paths.specs.Scratch.{rowIn, rowsIn, tells}
-use Rattle.paths.specs.declared.Row as told
-use Rattle.paths.proofs.Fields.{said-in, said-out}
-use Rattle.paths.proofs.Scratch.{length-rowsIn}
+use Rattle.header_fields.specs.Fields.{paramAt, fieldsFrom, fieldsIn}
+use Rattle.header_rules.specs.Data.{Name}
+use Rattle.header_rules.specs.Loaded.{numberAt, shown}
+use Rattle.header_rules.specs.Level.{saidAt}
+use Rattle.header_rules.specs.Rows.{Row, rowValue}
+use Rattle.header_rules.specs.Table.{entryOf, symbolOf}
+use Rattle.header_paths.specs.Scratch.{rowIn, rowsIn, tells}
+use Rattle.header_paths.specs.declared.Row as told
+use Rattle.header_paths.proofs.Fields.{said-in, said-out}
+use Rattle.header_paths.proofs.Scratch.{length-rowsIn}
 
 -- ---- the first E with a key in the first D of a name
 module _ (t name : List ℕ) (v : ℕ) (r : Under) (found : FindsSet t name r) where

@@ -1,10 +1,10 @@
 // The rows of a header's answer: what the scratch rows tell, with the P's number for its place, and with the symbol.
-use fields::WIDTH;
 use frame_definition::find_entry;
 use frame_definition::find_set;
-use paths::Row;
-use paths::part_of;
-use paths::row_at;
+use header_fields::WIDTH;
+use header_paths::Row;
+use header_paths::part_of;
+use header_paths::row_at;
 use rows::put_row;
 use text::Under;
 ghost use mathlib.Core.Path.{_≡_};
@@ -14,11 +14,12 @@ ghost use lib.ListN.{length};
 ghost use Rattle.text.specs.declared.Verdict.the-variants.{Accepted};
 ghost use Rattle.frame_text.specs.Rules.{verdict};
 ghost use Rattle.frame_definition.specs.Definition.{definition, firstSet};
-ghost use Rattle.fields.specs.Fields.{fieldsIn};
-ghost use Rattle.lawful.specs.Loaded.{saidAt, numberAt};
-ghost use Rattle.lawful.specs.Rows.{rowValue};
-ghost use Rattle.lawful.specs.Table.{entryOf, symbolOf, shown};
-ghost use Rattle.paths.specs.Scratch.{rowIn, rowsIn, tells};
+ghost use Rattle.header_fields.specs.Fields.{fieldsIn};
+ghost use Rattle.header_rules.specs.Loaded.{numberAt, shown};
+ghost use Rattle.header_rules.specs.Level.{saidAt};
+ghost use Rattle.header_rules.specs.Rows.{rowValue};
+ghost use Rattle.header_rules.specs.Table.{entryOf, symbolOf};
+ghost use Rattle.header_paths.specs.Scratch.{rowIn, rowsIn, tells};
 ghost use Rattle.rows.specs.Rows.{put, laid};
 
 // The numbers of a row.

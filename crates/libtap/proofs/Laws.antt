@@ -30,6 +30,8 @@ use Rattle.records.specs.declared.PayloadOffset.{PayloadOffset}
 use Rattle.command.specs.declared.Params.{Params}
 use Rattle.command.specs.declared.Params.the-variants as command
 use Rattle.command.specs.Answer.{Decodes as DecodesParams}
+use Rattle.command_part.specs.declared.Part.{Part}
+use Rattle.command_part.specs.Part.{commandPart, span}
 use Rattle.libtap.specs.declared.TapAnswer.{TapAnswer}
 use Rattle.libtap.specs.declared.frames.TapFrame.{TapFrame}
 use Rattle.libtap.specs.declared.headers.TapBits.{TapBits}
@@ -117,4 +119,9 @@ params-refusal p x number carried e is-number is-carried = rw (e, is-number, is-
 pub params-all : (text payload t : List ℕ) (p : Params) (r : TapParams) (t′ : List ℕ) → DecodesParams text payload t p t′ → r ≡ toldParams p → ToldParams text payload t r t′
 params-all text payload t p r t′ so is-r = record { answer = p; decodes = so; told = is-r }
 
-pub ruleset laws = (tells-rows, tells-refusal, told-all, counts, counts-refusal, counts-all, parts, framed-row, frames, frames-refusal, frames-all, tells-accepted, tells-unfit, tells-verdict, reads-value, reads-none, reads-all, heads, heads-refusal, heads-all, params, params-refusal, params-all)
+-- ---- tap_command_part
+pub command-lies : (n payload speed : ℕ) (p : Part) → p ≡ commandPart n payload speed
+    → record { start = p .start; length = p .length } ≡ part (span (commandPart n payload speed))
+command-lies n payload speed p e = ap (λ (q : Part). part (span q)) e
+
+pub ruleset laws = (tells-rows, tells-refusal, told-all, counts, counts-refusal, counts-all, parts, framed-row, frames, frames-refusal, frames-all, tells-accepted, tells-unfit, tells-verdict, reads-value, reads-none, reads-all, heads, heads-refusal, heads-all, params, params-refusal, params-all, command-lies)

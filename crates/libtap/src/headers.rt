@@ -1,11 +1,16 @@
 // The calls on an MPDU.
+use crate::frames::TapPart;
 use bits::Bits;
+use command_part::find_command;
 use header::Decoded;
 use header::DecodedHeader;
 use header::decode_header;
 ghost use mathlib.Core.Path.{_≡_};
 ghost use Rattle.bits.specs.Bits.{bitsRead};
+ghost use lib.ListN.{length};
 ghost use Rattle.crc.specs.Crc.{right};
+ghost use Rattle.command_part.specs.Part.{commandPart, span};
+ghost use Rattle.libtap.specs.Answers.{part};
 ghost use Rattle.libtap.specs.Headers.{toldBits, headed, toldHeader, ToldHeader};
 
 // Bits as C has them: `is_read` says whether there is a value.
@@ -117,4 +122,16 @@ pub extern "C" fn tap_decode_header(
 {
     let decoded = decode_header(text, mpdu, region, speed, rows);
     tell_header(decoded)
+}
+
+// Where the command lies in an MPDU whose header ends at byte `payload`: before the checksum. An empty part where there is no room for one.
+#[no_mangle]
+pub extern "C" fn tap_command_part(mpdu: &[u8], payload: u64, speed: u64) -> TapPart
+    ensures { λ r. ⌜ r ≡ part (span (commandPart (length (now (mpdu .entry))) payload speed)) ⌝ }
+{
+    let found = find_command(mpdu.len(), payload, speed);
+    TapPart {
+        start: found.start as u64,
+        length: found.length as u64,
+    }
 }

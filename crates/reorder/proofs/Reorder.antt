@@ -14,16 +14,16 @@ use Rattle.text.specs.declared.Verdict.the-variants.{Accepted}
 use Rattle.frame_text.specs.Rules.{verdict}
 use Rattle.frame_definition.specs.Definition.{Frequency, Base, Set, definition, keyFor, firstBase}
 use Rattle.crc.specs.Crc.{right}
-use Rattle.lawful.specs.Data.{P, Field, Candidate}
-use Rattle.lawful.specs.Answer.{answered, refused, answer}
-use Rattle.lawful.specs.Demand.{None, First}
-use Rattle.lawful.specs.Table.{tableOf}
-use Rattle.lawful.specs.Trees.{trees}
-use Rattle.lawful.proofs.Answer.{answer-only}
-use Rattle.lawful.proofs.Trees.{trees-renumber}
-use Rattle.told.specs.Told.{Heading, Told, no-base, no-candidate, more-rows, header, headingOf, ofAnswer, candidatesOf, ofBase, told}
-use Rattle.told.specs.Says.{NoneHolds}
-use Rattle.told.proofs.Told.{told-says}
+use Rattle.header_rules.specs.Data.{P, Field, Candidate}
+use Rattle.header_rules.specs.Answer.{answered, refused, answer}
+use Rattle.header_rules.specs.Demand.{None, First}
+use Rattle.header_rules.specs.Table.{tableOf}
+use Rattle.header_rules.specs.Trees.{trees}
+use Rattle.header_rules.proofs.Answer.{answer-only}
+use Rattle.header_rules.proofs.Trees.{trees-renumber}
+use Rattle.header_rules.specs.Told.{Heading, Told, no-base, no-candidate, more-rows, header, headingOf, ofAnswer, candidatesOf, ofBase, told}
+use Rattle.header_rules.specs.Says.{NoneHolds}
+use Rattle.header_rules.proofs.Told.{told-says}
 use Rattle.header.specs.declared.DecodedHeader.{DecodedHeader}
 use Rattle.header.specs.declared.Decoded.{Decoded}
 use Rattle.header.specs.declared.Decoded.the-variants.{Header, Refused}

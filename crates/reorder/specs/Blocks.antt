@@ -1,4 +1,4 @@
--- The lines of a frame text by their owners: an F, B, H or D line and all lines up to the next such line. Those of an H line are a block.
+-- O1 (docs/RULES.md): the lines of a frame text by their owners, an F, B, H or D line and all lines up to the next such line. Those of an H line are a block.
 use Prim.Native.Nat.{ℕ, zero, suc}
 use mathlib.Core.Path.{_≡_}
 use mathlib.Core.Bool.{Bool, false, cond}
@@ -61,7 +61,7 @@ module _ {L : Type 0} (says : L → Option Record) where
       (record { headers = h; params = n; owner = l; under = untilNext ls } ∷ sections (more 0x48 (says l) h) (more 0x50 (says l) n) ls)
       (sections (more 0x48 (says l) h) (more 0x50 (says l) n) ls)
 
-  -- an H block: the section of an H line, its P and V lines with it
+  -- O1: a block is the section of an H line, its P and V lines with it
   abbrev pub isBlock : Section L → Bool
   isBlock s = eqb (letterOf (says (s .owner))) 0x48
 

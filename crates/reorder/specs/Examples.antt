@@ -8,14 +8,13 @@ use Rattle.bits.specs.Bits.{bitsAt}
 use Rattle.crc.specs.Crc.{right}
 use Rattle.crc.specs.Poly.{plus}
 use Rattle.frame_text.specs.Rules.{verdict}
-use Rattle.lawful.specs.Find.{valueOf, firstNamed, through, inFirst, valueAt, widthOf}
-use Rattle.lawful.specs.Order.{insert, ordered}
-use Rattle.lawful.specs.Walk.{exists, packed, innerAt, listed, baseRead, reading}
-use Rattle.lawful.specs.Answer.{answer}
-use Rattle.lawful.specs.Rows.{rowsEach}
-use Rattle.lawful.specs.Trees.{ofLevel, kids, trees}
-use Rattle.lawful.specs.Table.{numbersOf, innerTable, tableFrom}
-use Rattle.told.specs.Told.{told}
+use Rattle.header_rules.specs.Find.{valueOf, firstNamed, through, inFirst, valueAt, widthOf}
+use Rattle.header_rules.specs.Order.{insert, ordered}
+use Rattle.header_rules.specs.Walk.{exists, packed, innerAt, listed, baseRead, reading}
+use Rattle.header_rules.specs.Answer.{answer}
+use Rattle.header_rules.specs.Trees.{ofLevel, kids, trees}
+use Rattle.header_rules.specs.Table.{numbersOf, innerTable, tableFrom, rowsEach}
+use Rattle.header_rules.specs.Told.{told}
 use Rattle.header.specs.Decode.{decoded, toldOf, rowsOf}
 use Rattle.header.specs.declared.Decoded.the-variants.{Header}
 use Rattle.reorder.specs.Blocks.{Section, Line, written, saysOf, sectionsOf}

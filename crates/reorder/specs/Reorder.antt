@@ -1,4 +1,4 @@
--- Document 02, W-213: texts that differ in the order of their H blocks, and what is answered by them.
+-- O2 to O4 (docs/RULES.md): texts that differ in the order of their H blocks, and what is answered by them.
 use Prim.Native.Nat.{ℕ, suc, _/_, _≤_}
 use mathlib.Core.Path.{_≡_}
 use mathlib.Core.Bool.{cond}
@@ -11,12 +11,12 @@ use Rattle.refusal.specs.declared.Refusal.the-variants.{NoBase, NoCandidate}
 use Rattle.rows.specs.Rows.{laid}
 use Rattle.frame_definition.specs.Definition.{Base, definition, firstBase}
 use Rattle.crc.specs.Crc.{right}
-use Rattle.lawful.specs.Data.{P, Field, Candidate}
-use Rattle.lawful.specs.Demand.{Holds, None, Some}
-use Rattle.lawful.specs.Table.{tableOf}
-use Rattle.lawful.specs.Trees.{trees}
-use Rattle.told.specs.Told.{headingOf, candidatesOf}
-use Rattle.told.specs.Says.{NoneHolds}
+use Rattle.header_rules.specs.Data.{P, Field, Candidate}
+use Rattle.header_rules.specs.Demand.{Holds, None, Some}
+use Rattle.header_rules.specs.Table.{tableOf}
+use Rattle.header_rules.specs.Trees.{trees}
+use Rattle.header_rules.specs.Told.{headingOf, candidatesOf}
+use Rattle.header_rules.specs.Says.{NoneHolds}
 use Rattle.header.specs.declared.DecodedHeader.{DecodedHeader}
 use Rattle.header.specs.declared.Decoded.{Decoded}
 use Rattle.header.specs.declared.Decoded.the-variants.{Header, Refused}
@@ -26,7 +26,7 @@ use Rattle.reorder.specs.Blocks.{Section, gap, blocks, linesOf, headerNu
 
 -- ---- the move
 
--- t′ is t with its H blocks in another order. (A line before the first section has no owner; an accepted text has none: `whole`.)
+-- O2: t′ is t with its H blocks in another order. (A line before the first section has no owner; an accepted text has none: `whole`.)
 pub record Reordered (t t′ : List ℕ) : Type 0 where
   -- the sections of t, with their numbers in t, as they stand in t′
   pub order : List (Section Line)
@@ -42,7 +42,7 @@ abbrev pub placeIn : List ℕ → ℕ → ℕ
 placeIn [] k = 0
 placeIn (x ∷ xs) k = cond (eqb x k) 0 (suc (placeIn xs k))
 
--- the number in t′ of the H line that has the number k in t: its line's place among the H lines as they stand there
+-- O3: the number in t′ of the H line that has the number k in t: its line's place among the H lines as they stand there
 abbrev pub newHeader : List (Section Line) → ℕ → ℕ
 newHeader order k = placeIn (headerNumbers saysOf order) k
 

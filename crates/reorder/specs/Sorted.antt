@@ -1,4 +1,4 @@
--- The order of a release: H blocks sorted by name, as an instance of a rearrangement.
+-- O5 (docs/RULES.md), the order of a release: H blocks sorted by name, as an instance of a rearrangement.
 use Prim.Native.Nat.{ℕ}
 use mathlib.Core.Path.{_≡_}
 use mathlib.Core.Bool.{Bool, true, false, cond, _&&_, _||_}

@@ -2,7 +2,7 @@
 use mathlib.Core.Path.{_≡_, refl}
 use mathlib.Core.Bool.{Bool, true, false, cond}
 use mathlib.Core.List.{List}
-use Prim.Native.Nat.{ℕ, _*_, _/_, _≤_, _<_}
+use Prim.Native.Nat.{ℕ, _*_, _/_, _≤_}
 use native.Mathlib.Omega.{arith}
 use lib.Dec.{leb}
 use lib.ListN.{length}
@@ -24,9 +24,6 @@ use Rattle.replay.specs.declared.frames.Asked.{Asked}
 use Rattle.replay.specs.declared.frames.Asked.the-variants.{Table}
 use Rattle.replay.specs.declared.serve.Turn.{Turn}
 use Rattle.replay.specs.declared.serve.Turn.the-variants.{Next}
-use Rattle.answer.specs.declared.Answer.{Answer}
-use Rattle.answer.specs.declared.Answer.the-variants.{Put}
-use Rattle.answer.specs.Answer.{Room, Answers}
 use Rattle.replay.specs.Input.{In, Empty, Finds, Fills}
 use Rattle.replay.specs.Frames.{Asks, Stand}
 use Rattle.replay.specs.Serve.{Goes}
@@ -92,24 +89,7 @@ pub filled-inside : (records : List FrameRecord) (rows₀ rows : List ℕ) (n le
 filled-inside records rows₀ rows n lent t p same = omega (arith, p .count, fillable-bounds n lent (length rows₀))
 
 -- ---- from request to request
-module _ (out : List ℕ) (r : Answer) (n : ℕ) (told : Answers out r) (is : r ≡ Put n) where
-  answered : Room out n
-  answered = rw is at told
+pub goes-in : (lines : List ℕ) (r : Turn) (i : Input) (used : ℕ) → Goes lines r → r ≡ Next i used → In lines i
+goes-in lines r i used told is = rw is at told
 
-  pub answer-waits : n ≤ length out
-  answer-waits = answered .0
-
-  pub answer-holds : 0 < length out
-  answer-holds = answered .1
-
-module _ (lines out : List ℕ) (r : Turn) (i : Input) (used : ℕ) (told : Goes lines out r) (is : r ≡ Next i used) where
-  goes : In lines i × Room out used
-  goes = rw is at told
-
-  pub goes-in : In lines i
-  goes-in = goes .0
-
-  pub goes-used : used ≤ length out
-  goes-used = goes .1 .0
-
-pub ruleset serve-laws = (empty-in, line-ordered, line-inside, line-behind, rest-behind, more-waits, read-waits, long-waits, asked-payload, asked-rows, rows-stand, rows-inside, filled-inside, answer-waits, answer-holds, goes-in, goes-used)
+pub ruleset serve-laws = (empty-in, line-ordered, line-inside, line-behind, rest-behind, more-waits, read-waits, long-waits, asked-payload, asked-rows, rows-stand, rows-inside, filled-inside, goes-in)

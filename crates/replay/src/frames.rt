@@ -1,11 +1,9 @@
 // The requests on every frame of a payload, by the flat columns and by the slice of frame records.
 use crate::frame_table::frame_table;
 use answer::Answer;
-use answer::put;
-use answer::put_decimal;
 use answer::put_named;
-use answer::put_number;
 use answer::put_numbers;
+use answer::put_value;
 use answer::table::MOST_ROWS;
 use answer::table::fill;
 use answer::table::put_refused;
@@ -16,9 +14,11 @@ use request::Bytes;
 use request::Leading;
 use request::read_bytes;
 use request::read_leading;
+use writer::Buffer;
+use writer::put;
+use writer::put_number;
 ghost use Prim.Native.Nat.{_≤_, _*_};
 ghost use lib.ListN.{length};
-ghost use Rattle.answer.specs.Answer.{Room, Answers};
 ghost use Rattle.answer.specs.Table.{Ample};
 ghost use Rattle.replay.specs.Frames.{Asks, Stand};
 
@@ -52,12 +52,10 @@ pub fn frames(
     words: &[u8],
     bytes: &mut [u8],
     rows: &mut [u64],
-    out: &mut [u8],
+    out: &mut Buffer,
     used: usize,
 ) -> Answer
-    requires { ⌜ Room (now out) used ⌝ }
     requires { ⌜ Ample (now rows) ⌝ }
-    ensures { λ r. ⌜ Answers (now (out .exit)) r ⌝ }
 {
     let Asked::Table(numbers, n) = read_asked(words, bytes) else {
         return Answer::Bad;
@@ -70,12 +68,10 @@ pub fn frametable(
     words: &[u8],
     bytes: &mut [u8],
     rows: &mut [u64],
-    out: &mut [u8],
+    out: &mut Buffer,
     used: usize,
 ) -> Answer
-    requires { ⌜ Room (now out) used ⌝ }
     requires { ⌜ Ample (now rows) ⌝ }
-    ensures { λ r. ⌜ Answers (now (out .exit)) r ⌝ }
 {
     let Asked::Table(numbers, n) = read_asked(words, bytes) else {
         return Answer::Bad;
@@ -83,77 +79,63 @@ pub fn frametable(
     Answer::Put(answer_frametable(&bytes[..n], &mut rows[..numbers], out, used))
 }
 
-fn answer_frames(payload: &[u8], rows: &mut [u64], out: &mut [u8], used: usize) -> usize
-    requires { ⌜ Room (now out) used ⌝ }
-    ensures { λ r. ⌜ Room (now (out .exit)) r ⌝ }
-{
+fn answer_frames(payload: &[u8], rows: &mut [u64], out: &mut Buffer, used: usize) -> usize {
     fill(rows);
     let parsed = parse_payload(payload, rows);
-    put_parsed(parsed, rows, out, used)
+    put_parsed(out, used, parsed, rows)
 }
 
-fn answer_frametable(payload: &[u8], rows: &mut [u64], out: &mut [u8], used: usize) -> usize
-    requires { ⌜ Room (now out) used ⌝ }
-    ensures { λ r. ⌜ Room (now (out .exit)) r ⌝ }
-{
+fn answer_frametable(payload: &[u8], rows: &mut [u64], out: &mut Buffer, used: usize) -> usize {
     fill(rows);
     match parse_payload(payload, rows) {
         Frames::Rows(n) => {
             let filled = frame_table(rows, n);
-            put_frames(b"frametable", filled, rows, out, used)
+            put_frames(out, used, b"frametable", filled, rows)
         }
-        Frames::Refused(refusal) => put_refused(refusal, rows, out, used),
+        Frames::Refused(refusal) => put_refused(out, used, refusal, rows),
     }
 }
 
 // The answer of `parse_payload` and the table that it was lent.
-fn put_parsed(parsed: Frames, rows: &[u64], out: &mut [u8], used: usize) -> usize
-    requires { ⌜ Room (now out) used ⌝ }
+fn put_parsed(out: &mut Buffer, used: usize, parsed: Frames, rows: &[u64]) -> usize
     requires { ⌜ Stand (now rows) parsed ⌝ }
-    ensures { λ r. ⌜ Room (now (out .exit)) r ⌝ }
 {
     match parsed {
-        Frames::Rows(n) => put_frames(b"frames", n, rows, out, used),
-        Frames::Refused(refusal) => put_refused(refusal, rows, out, used),
+        Frames::Rows(n) => put_frames(out, used, b"frames", n, rows),
+        Frames::Refused(refusal) => put_refused(out, used, refusal, rows),
     }
 }
 
 // The rows of an answer, of which there are so many in a table, and whether the table is untouched past them.
-fn put_frames(word: &[u8], count: usize, table: &[u64], out: &mut [u8], used: usize) -> usize
-    requires { ⌜ Room (now out) used ⌝ }
+fn put_frames(out: &mut Buffer, used: usize, word: &[u8], count: usize, table: &[u64]) -> usize
     requires { ⌜ count * 8 ≤ length (now table) ⌝ }
-    ensures { λ r. ⌜ Room (now (out .exit)) r ⌝ }
 {
-    let mut n = put_named(word, count as u64, out, used);
-    n = put_rows(table, count, out, n);
+    let mut n = put_named(out, used, word, count as u64);
+    n = put_rows(out, n, table, count);
     let past = count * WIDTH;
-    put_touched(&table[past..], out, n)
+    put_touched(out, n, &table[past..])
 }
 
-fn put_rows(rows: &[u64], count: usize, out: &mut [u8], used: usize) -> usize
-    requires { ⌜ Room (now out) used ⌝ }
+fn put_rows(out: &mut Buffer, used: usize, rows: &[u64], count: usize) -> usize
     requires { ⌜ count * 8 ≤ length (now rows) ⌝ }
-    ensures { λ r. ⌜ Room (now (out .exit)) r ⌝ }
 {
     let mut n = used;
     let mut i = 0;
     while i < count {
         let at = i * WIDTH;
-        n = put_row(&rows[at..at + WIDTH], out, n);
+        n = put_row(out, n, &rows[at..at + WIDTH]);
         i += 1;
     }
     n
 }
 
-pub fn put_row(row: &[u64], out: &mut [u8], used: usize) -> usize
-    requires { ⌜ Room (now out) used ⌝ }
+pub fn put_row(out: &mut Buffer, used: usize, row: &[u64]) -> usize
     requires { ⌜ 8 ≤ length (now row) ⌝ }
-    ensures { λ r. ⌜ Room (now (out .exit)) r ⌝ }
 {
-    let mut n = put_numbers(&row[..4], out, used);
-    n = put_rssi(row[4], out, n);
-    n = put_beams(row[5], out, n);
-    put_numbers(&row[6..8], out, n)
+    let mut n = put_numbers(out, used, &row[..4]);
+    n = put_rssi(out, n, row[4]);
+    n = put_beams(out, n, row[5]);
+    put_numbers(out, n, &row[6..8])
 }
 
 // How far an RSSI is below 0, by its byte; 0 where it isn't, or where the number is no byte.
@@ -168,25 +150,19 @@ fn below_zero(byte: u64) -> u64 {
 }
 
 // An RSSI by its byte, as a signed number.
-fn put_rssi(byte: u64, out: &mut [u8], used: usize) -> usize
-    requires { ⌜ Room (now out) used ⌝ }
-    ensures { λ r. ⌜ Room (now (out .exit)) r ⌝ }
-{
+fn put_rssi(out: &mut Buffer, used: usize, byte: u64) -> usize {
     let below = below_zero(byte);
     if below == 0 {
-        return put_number(byte, out, used);
+        return put_value(out, used, byte);
     }
-    let n = put(b" -", out, used);
-    put_decimal(below, out, n)
+    let n = put(out, used, b" -");
+    put_number(out, n, below)
 }
 
 // A beam count, or `-` for none.
-fn put_beams(beams: u64, out: &mut [u8], used: usize) -> usize
-    requires { ⌜ Room (now out) used ⌝ }
-    ensures { λ r. ⌜ Room (now (out .exit)) r ⌝ }
-{
+fn put_beams(out: &mut Buffer, used: usize, beams: u64) -> usize {
     if beams == 0 {
-        return put(b" -", out, used);
+        return put(out, used, b" -");
     }
-    put_number(beams, out, used)
+    put_value(out, used, beams)
 }

@@ -14,6 +14,6 @@ fn main() {
     let mut lines = [0u8; 524288];
     let mut bytes = [0u8; 262144];
     let mut rows = [0u64; 147456];
-    let mut out = [0u8; 65536];
+    let mut out = io::buffer();
     serve::serve(&mut lines, &mut bytes, &mut rows, &mut out);
 }

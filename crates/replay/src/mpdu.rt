@@ -1,6 +1,5 @@
 // The requests on single bits and on the checksum of an MPDU.
 use answer::Answer;
-use answer::put;
 use answer::put_named;
 use bits::Bits;
 use bits::read_bits;
@@ -9,23 +8,18 @@ use request::Bytes;
 use request::Leading;
 use request::read_bytes;
 use request::read_leading;
-ghost use Rattle.answer.specs.Answer.{Room, Answers};
+use writer::Buffer;
+use writer::put;
 
-fn put_bits(answer: Bits, out: &mut [u8], used: usize) -> usize
-    requires { ⌜ Room (now out) used ⌝ }
-    ensures { λ r. ⌜ Room (now (out .exit)) r ⌝ }
-{
+fn put_bits(out: &mut Buffer, used: usize, answer: Bits) -> usize {
     match answer {
-        Bits::Value(value) => put_named(b"bits", value, out, used),
-        Bits::Declined => put(b"bits -", out, used),
+        Bits::Value(value) => put_named(out, used, b"bits", value),
+        Bits::Declined => put(out, used, b"bits -"),
     }
 }
 
 // `bits PLACE WIDTH BYTES`
-pub fn bits(words: &[u8], bytes: &mut [u8], out: &mut [u8], used: usize) -> Answer
-    requires { ⌜ Room (now out) used ⌝ }
-    ensures { λ r. ⌜ Answers (now (out .exit)) r ⌝ }
-{
+pub fn bits(words: &[u8], bytes: &mut [u8], out: &mut Buffer, used: usize) -> Answer {
     let Leading::Is(place, at) = read_leading(words) else {
         return Answer::Bad;
     };
@@ -37,14 +31,11 @@ pub fn bits(words: &[u8], bytes: &mut [u8], out: &mut [u8], used: usize) -> Answ
         return Answer::Bad;
     };
     let answer = read_bits(&bytes[..n], place, width);
-    Answer::Put(put_bits(answer, out, used))
+    Answer::Put(put_bits(out, used, answer))
 }
 
 // `checksum SPEED MPDU`
-pub fn checksum(words: &[u8], bytes: &mut [u8], out: &mut [u8], used: usize) -> Answer
-    requires { ⌜ Room (now out) used ⌝ }
-    ensures { λ r. ⌜ Answers (now (out .exit)) r ⌝ }
-{
+pub fn checksum(words: &[u8], bytes: &mut [u8], out: &mut Buffer, used: usize) -> Answer {
     let Leading::Is(speed, at) = read_leading(words) else {
         return Answer::Bad;
     };
@@ -52,5 +43,5 @@ pub fn checksum(words: &[u8], bytes: &mut [u8], out: &mut [u8], used: usize) -> 
         return Answer::Bad;
     };
     let right = check_crc(&bytes[..n], speed);
-    Answer::Put(put_named(b"checksum", right as u64, out, used))
+    Answer::Put(put_named(out, used, b"checksum", right as u64))
 }

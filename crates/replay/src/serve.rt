@@ -13,15 +13,15 @@ use crate::single::count;
 use crate::single::rate;
 use crate::single::record;
 use answer::Answer;
-use answer::flush;
-use answer::put;
-use answer::put_byte;
 use request::Word;
 use request::find;
 use request::word_of;
 use walk_requests::command;
 use walk_requests::header;
-ghost use Rattle.answer.specs.Answer.{Room, Answers};
+use writer::Buffer;
+use writer::flush;
+use writer::put;
+use writer::put_byte;
 ghost use Rattle.answer.specs.Table.{Ample};
 ghost use Rattle.replay.specs.Input.{In};
 ghost use Rattle.replay.specs.Serve.{Goes};
@@ -37,10 +37,8 @@ enum Turn {
 }
 
 // Answers a request. Every one has two words or more.
-fn answer(line: &[u8], bytes: &mut [u8], rows: &mut [u64], out: &mut [u8], used: usize) -> Answer
-    requires { ⌜ Room (now out) used ⌝ }
+fn answer(line: &[u8], bytes: &mut [u8], rows: &mut [u64], out: &mut Buffer, used: usize) -> Answer
     requires { ⌜ Ample (now rows) ⌝ }
-    ensures { λ r. ⌜ Answers (now (out .exit)) r ⌝ }
 {
     let e = find(line, b' ');
     if e == line.len() {
@@ -64,36 +62,30 @@ fn answer(line: &[u8], bytes: &mut [u8], rows: &mut [u64], out: &mut [u8], used:
     }
 }
 
-fn put_bad(out: &mut [u8], used: usize) -> usize
-    requires { ⌜ Room (now out) used ⌝ }
-    ensures { λ r. ⌜ Room (now (out .exit)) r ⌝ }
-{
-    put(b"bad request\n", out, used)
+fn put_bad(out: &mut Buffer, used: usize) -> usize {
+    put(out, used, b"bad request\n")
 }
 
 fn answer_line(
     line: &[u8],
     bytes: &mut [u8],
     rows: &mut [u64],
-    out: &mut [u8],
+    out: &mut Buffer,
     used: usize,
 ) -> usize
-    requires { ⌜ Room (now out) used ⌝ }
     requires { ⌜ Ample (now rows) ⌝ }
-    ensures { λ r. ⌜ Room (now (out .exit)) r ⌝ }
 {
     match answer(line, bytes, rows, out, used) {
-        Answer::Put(n) => put_byte(b'\n', out, n),
+        Answer::Put(n) => put_byte(out, n, b'\n'),
         Answer::Bad => put_bad(out, used),
     }
 }
 
 // Writes out what waits, so that whoever waits for the answers has them, and reads on. A request is ended by 0x0A: what the
 // end of the input cuts off before it is a line, and a bad request.
-fn read_on(input: Input, lines: &mut [u8], out: &mut [u8], used: usize) -> Turn
+fn read_on(input: Input, lines: &mut [u8], out: &mut Buffer, used: usize) -> Turn
     requires { ⌜ In (now lines) input ⌝ }
-    requires { ⌜ Room (now out) used ⌝ }
-    ensures { λ r. ⌜ Goes (now (lines .exit)) (now (out .exit)) r ⌝ }
+    ensures { λ r. ⌜ Goes (now (lines .exit)) r ⌝ }
 {
     flush(out, used);
     match input.fill(lines) {
@@ -113,13 +105,12 @@ fn step(
     lines: &mut [u8],
     bytes: &mut [u8],
     rows: &mut [u64],
-    out: &mut [u8],
+    out: &mut Buffer,
     used: usize,
 ) -> Turn
     requires { ⌜ In (now lines) input ⌝ }
     requires { ⌜ Ample (now rows) ⌝ }
-    requires { ⌜ Room (now out) used ⌝ }
-    ensures { λ r. ⌜ Goes (now (lines .exit)) (now (out .exit)) r ⌝ }
+    ensures { λ r. ⌜ Goes (now (lines .exit)) r ⌝ }
 {
     match input.next_line(lines) {
         Found::Line(from, to, next) => {
@@ -135,7 +126,7 @@ pub fn serve(
     lines: &mut [u8; 524288],
     bytes: &mut [u8; 262144],
     rows: &mut [u64; 147456],
-    out: &mut [u8; 65536],
+    out: &mut Buffer,
 ) {
     let mut input = Input::empty(false);
     let mut used: usize = 0;

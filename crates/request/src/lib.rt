@@ -1,5 +1,5 @@
 // The words of a request: which one it starts with, decimal numbers, and bytes in hex.
-use check::same;
+use readers::line_fields::find_field;
 ghost use mathlib.Core.Path.{_≡_};
 ghost use Prim.Native.Nat.{_≤_};
 ghost use lib.ListN.{length};
@@ -61,43 +61,23 @@ pub fn find(s: &[u8], b: u8) -> usize
 }
 
 pub fn word_of(word: &[u8]) -> Word {
-    if same(word, b"rate") {
-        return Word::Rate;
+    let words: &[u8] =
+        b"rate\tcount\tbody\trecord\tframes\tframetable\tframetext\tcommandtext\theader\tcommand\tbits\tchecksum";
+    match find_field(words, word) {
+        0 => Word::Rate,
+        1 => Word::Count,
+        2 => Word::Body,
+        3 => Word::Record,
+        4 => Word::Frames,
+        5 => Word::Frametable,
+        6 => Word::Frametext,
+        7 => Word::Commandtext,
+        8 => Word::Header,
+        9 => Word::Command,
+        10 => Word::Bits,
+        11 => Word::Checksum,
+        _ => Word::Unknown,
     }
-    if same(word, b"count") {
-        return Word::Count;
-    }
-    if same(word, b"body") {
-        return Word::Body;
-    }
-    if same(word, b"record") {
-        return Word::Record;
-    }
-    if same(word, b"frames") {
-        return Word::Frames;
-    }
-    if same(word, b"frametable") {
-        return Word::Frametable;
-    }
-    if same(word, b"frametext") {
-        return Word::Frametext;
-    }
-    if same(word, b"commandtext") {
-        return Word::Commandtext;
-    }
-    if same(word, b"header") {
-        return Word::Header;
-    }
-    if same(word, b"command") {
-        return Word::Command;
-    }
-    if same(word, b"bits") {
-        return Word::Bits;
-    }
-    if same(word, b"checksum") {
-        return Word::Checksum;
-    }
-    Word::Unknown
 }
 
 // The number that digits say, if it is at most 2^64 - 1. A leading 0 counts as any digit.

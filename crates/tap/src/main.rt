@@ -1,53 +1,34 @@
 // tap: the Z-Wave frames of a capture, and the definitions that name them, for people. The last line of the output is `ok`,
 // `refused N V` (a refusal of docs/RULES.md: its number and what it carries) or `failed`. A program has no exit status here;
 // bin/tap makes one of that line.
-use check::same;
-use check_file::check_definition;
-use frames_file::show_frames;
-use help_page::help;
-use outcome::fail;
-use outcome::fail_word;
-use show_file::show_frame;
+mod help_page;
 
-// What the first argument asks for.
-enum Word {
-    Frames,
-    Show,
-    Check,
-    Help,
-    // No word of these: that is said already.
-    Failed,
+use check_word::check_file::check_definition;
+use frames_word::frames_file::show_frames;
+use help_page::help;
+use output::outcome::fail;
+use output::outcome::fail_word;
+use readers::line_fields::find_field;
+use show_word::show_file::show_frame;
+
+// Does what a word asks for.
+fn obey(word: &[u8]) {
+    match find_field(b"frames\tshow\tcheck\thelp", word) {
+        0 => show_frames(),
+        1 => show_frame(),
+        2 => check_definition(),
+        3 => help(),
+        _ => fail_word(word),
+    }
 }
 
-fn read_word() -> Word {
+// The first argument is the word.
+fn main() {
     if os::arg_count() < 2 {
         fail(b"tap: say what to do: 'tap help' lists the words\n");
-        return Word::Failed;
+        return;
     }
     let mut word = io::buffer();
     let n = os::arg(1, &mut word);
-    if same(&word[..n], b"frames") {
-        return Word::Frames;
-    }
-    if same(&word[..n], b"show") {
-        return Word::Show;
-    }
-    if same(&word[..n], b"check") {
-        return Word::Check;
-    }
-    if same(&word[..n], b"help") {
-        return Word::Help;
-    }
-    fail_word(&word[..n]);
-    Word::Failed
-}
-
-fn main() {
-    match read_word() {
-        Word::Frames => show_frames(),
-        Word::Show => show_frame(),
-        Word::Check => check_definition(),
-        Word::Help => help(),
-        Word::Failed => {}
-    }
+    obey(&word[..n]);
 }

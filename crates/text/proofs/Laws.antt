@@ -4,40 +4,26 @@ use mathlib.Core.List.{List, [], _∷_, _++_, append-assoc}
 use mathlib.Core.Bool.{Bool, true, false, not, _&&_, _||_, cond}
 use Prim.Native.Nat.{ℕ, zero, suc, _+_, _-_, _*_, _≤_, _<_, _^_, zero-le}
 use native.Mathlib.Numerals.{add-one}
-use native.Mathlib.Nat.{le-of-eq}
 use native.Mathlib.Omega.{arith}
 use native.Mathlib.Decide.{decLe}
-use lib.ListN.{length, getD, take, drop, set, replicate, length-append, length-drop, length-set, drop-of-length-le}
-use lib.Seq.{drop-cons, take-all, length-take-le, drop-drop, getD-set-same, getD-set-other}
+use lib.ListN.{length, getD, take, drop, set, replicate, length-append, length-drop, length-set}
+use lib.Seq.{length-take-le, drop-drop, getD-set-same, getD-set-other}
 use lib.Dec.{eqb, leb}
 use mir.Syntax.{w64}
 use mir.Val.{Fits}
 use borrow.Author.Tests.{le-leb, lt-leb, eq-eqb, ne-eqb, eqb-true, leb-true}
+pub use Rattle.laws.proofs.Lists.{next, done, tail}
 use Rattle.text.specs.Text.{onto, split, field, within, without, same, worth, decimal, upTo, value, number, missing, optionalUpTo, optionalValue, optional, name, plain, names, path, optionalName, optionalPath}
 use Rattle.text.specs.Scan.{cut, low, halt, digits}
 use Rattle.text.specs.Place.{First, unended, ended, after, longer, first, short, kindOf, In, cell, cellsFrom, cells, Marked, Cuts, Has, Steps, IsPart, IsOptionalPart}
 use Rattle.text.specs.declared.Place.{Place}
 use Rattle.text.specs.declared.Line.{Line}
-use Rattle.text.specs.declared.Fields.{Fields}
+use Rattle.text.specs.declared.lines.Fields.{Fields}
 use Rattle.text.specs.declared.Part.{Part}
 use Rattle.text.specs.declared.Number.{Number}
 use Rattle.text.specs.declared.Number.the-variants.{Is, Over, Not}
 use Rattle.text.specs.declared.Optional.{Optional}
 use Rattle.text.specs.declared.Optional.the-variants.{Given, Missing, Wrong}
-
--- ---- what is left of a list
-
--- what is left at i is the byte at i and what is left at i + 1
-pub next : (s : List ℕ) (i : ℕ) → i < length s → drop i s ≡ getD s i 0 ∷ drop (i + 1) s
-next s i h = rw (add-one, drop-cons s i 0)
-
--- nothing is left at the end
-pub done : (s : List ℕ) (i : ℕ) → length s ≤ i → drop i s ≡ []
-done s i h = drop-of-length-le s h
-
--- `&s[n..]` is what is left at n
-pub tail : (s : List ℕ) (n : ℕ) → take (length s - n) (drop n s) ≡ drop n s
-tail s n = take-all (length s - n) (drop n s) (le-of-eq (length-drop n s))
 
 -- `&s[..e]` has e bytes
 pub front-count : (s : List ℕ) (e : ℕ) → e ≤ length s → e ≡ length (take e s)

@@ -7,6 +7,7 @@ use native.Mathlib.Omega.{arith}
 use lib.Dec.{eqb, leb, ltb}
 use lib.ListN.{length}
 use borrow.Author.Tests.{le-leb, lt-leb, le-ltb, lt-ltb, eq-eqb, ne-eqb}
+pub use Rattle.laws.proofs.Bools.{and-left, and-right}
 use Rattle.text.specs.Text.{worth, upTo, value, missing, optionalUpTo, optionalValue}
 use Rattle.text.specs.Place.{cells, Marked, Has}
 use Rattle.text.specs.declared.Line.{Line}
@@ -85,15 +86,6 @@ pub ruleset picks = (pick-lt, pick-ge, pick-le, pick-gt, pick-eq, pick-ne, pick-
 pub alike : {A : Type 0} (b : Bool) (x : A) → cond b x x ≡ x
 alike true x = refl
 alike false x = refl
-
--- both of two tests that hold together
-pub and-left : (a b : Bool) → (a && b) ≡ true → a ≡ true
-and-left true b e = refl
-and-left false b e = e
-
-pub and-right : (a b : Bool) → (a && b) ≡ true → b ≡ true
-and-right true b e = e
-and-right false b e = absurd (let z : _≡_ {A = ℕ} 0 1 = cc in omega arith)
 
 -- a test that holds where its owner is there
 pub held : (a b : Bool) → (a && b) ≡ false → not a ≡ false → b ≡ false

@@ -9,7 +9,7 @@ use Rattle.text.specs.Text.{onto, missing}
 use Rattle.text.specs.Scan.{cut}
 use Rattle.text.specs.declared.Place.{Place}
 use Rattle.text.specs.declared.Line.{Line}
-use Rattle.text.specs.declared.Fields.{Fields}
+use Rattle.text.specs.declared.lines.Fields.{Fields}
 use Rattle.text.specs.declared.Part.{Part}
 
 -- ---- the first line of a text

@@ -12,10 +12,10 @@ use Rattle.text.specs.declared.Verdict.{Verdict}
 use Rattle.text.specs.declared.Verdict.the-variants.{Accepted, Refused as NotAccepted}
 use Rattle.command_text.specs.Rules.{verdict}
 use Rattle.command_class.specs.Definition.{definition}
-use Rattle.command_param.specs.Param.{inPayload}
+use Rattle.command_rules.specs.Param.{inPayload}
 use Rattle.command.specs.declared.Params.{Params}
 use Rattle.command.specs.declared.Params.the-variants.{Rows, Refused}
-use Rattle.command_walk.specs.Walk.{Walked, walk}
+use Rattle.command_rules.specs.Walk.{Walked, walk}
 use Rattle.command.specs.Answer.{bodyOf, within, answerBy, onVerdict, answerOf, Decodes}
 use Rattle.walk_requests.specs.Walks.{StandParams}
 

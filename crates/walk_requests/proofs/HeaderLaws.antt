@@ -12,9 +12,9 @@ use Rattle.text.specs.declared.Verdict.the-variants as text
 use Rattle.frame_text.specs.Rules.{verdict}
 use Rattle.frame_definition.specs.Definition.{definition}
 use Rattle.crc.specs.Crc.{right}
-use Rattle.told.specs.Told.{Told, no-base, no-candidate, more-rows, header}
-use Rattle.told.specs.Says.{Says}
-use Rattle.told.proofs.Told.{told-says}
+use Rattle.header_rules.specs.Told.{Told, no-base, no-candidate, more-rows, header}
+use Rattle.header_rules.specs.Says.{Says}
+use Rattle.header_rules.proofs.Told.{told-says}
 use Rattle.header.specs.declared.Decoded.{Decoded}
 use Rattle.header.specs.declared.Decoded.the-variants.{Refused}
 use Rattle.header.specs.Decode.{ofTold, judged, keyOf, toldOf, Decodes}

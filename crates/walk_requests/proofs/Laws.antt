@@ -16,7 +16,6 @@ use Rattle.command.specs.declared.Params.{Params}
 use Rattle.command.specs.declared.Params.the-variants.{Rows}
 use Rattle.request.proofs.Laws.{taken, request-laws}
 use Rattle.answer.specs.Table.{Ample}
-use Rattle.answer.proofs.Laws.{answer-laws}
 use Rattle.walk_requests.specs.declared.Table.{Table}
 use Rattle.walk_requests.specs.declared.Table.the-variants.{Of}
 use Rattle.walk_requests.specs.declared.Radio.{Radio}
@@ -101,4 +100,4 @@ module _ (t : List ℕ) (room : length t * 8 < 2 ^ 63) where
 pub ruleset walk-laws = (taken-before, table-fits, table-few, table-most, table-room, table-words, radio-words, radio-fits, radio-inside, asked-room, asked-ordered, asked-within, header-fits, params-fits, header-stands, params-stand, header-inside, params-inside)
 
 -- The laws that the proofs of this crate's functions go by.
-pub ruleset laws = (request-laws, answer-laws, walk-laws)
+pub ruleset laws = (request-laws, walk-laws)

@@ -1,9 +1,8 @@
 // The requests on the header of an MPDU and on the parameters of a command, both by a definition text.
 use answer::Answer;
-use answer::put_decimal;
 use answer::put_named;
-use answer::put_number;
 use answer::put_numbers;
+use answer::put_value;
 use answer::table::MOST_ROWS;
 use answer::table::fill;
 use answer::table::put_refused;
@@ -18,9 +17,10 @@ use request::Both;
 use request::Leading;
 use request::read_both;
 use request::read_leading;
+use writer::Buffer;
+use writer::put_number;
 ghost use Prim.Native.Nat.{_≤_, _*_};
 ghost use lib.ListN.{length};
-ghost use Rattle.answer.specs.Answer.{Room, Answers};
 ghost use Rattle.answer.specs.Table.{Ample};
 ghost use Rattle.walk_requests.specs.Walks.{Tables, Tunes, Asks, StandHeader, StandParams};
 
@@ -109,12 +109,10 @@ pub fn header(
     words: &[u8],
     bytes: &mut [u8],
     rows: &mut [u64],
-    out: &mut [u8],
+    out: &mut Buffer,
     used: usize,
 ) -> Answer
-    requires { ⌜ Room (now out) used ⌝ }
     requires { ⌜ Ample (now rows) ⌝ }
-    ensures { λ r. ⌜ Answers (now (out .exit)) r ⌝ }
 {
     let Asked::Header {
         numbers,
@@ -143,12 +141,10 @@ pub fn command(
     words: &[u8],
     bytes: &mut [u8],
     rows: &mut [u64],
-    out: &mut [u8],
+    out: &mut Buffer,
     used: usize,
 ) -> Answer
-    requires { ⌜ Room (now out) used ⌝ }
     requires { ⌜ Ample (now rows) ⌝ }
-    ensures { λ r. ⌜ Answers (now (out .exit)) r ⌝ }
 {
     let Table::Of(numbers, at) = read_table(words, COMMAND_WIDTH) else {
         return Answer::Bad;
@@ -167,12 +163,10 @@ fn answer_header(
     region: u64,
     speed: u64,
     rows: &mut [u64],
-    out: &mut [u8],
+    out: &mut Buffer,
     used: usize,
 ) -> usize
     requires { ⌜ (n ≤ end) × (end ≤ length (now bytes)) ⌝ }
-    requires { ⌜ Room (now out) used ⌝ }
-    ensures { λ r. ⌜ Room (now (out .exit)) r ⌝ }
 {
     fill(rows);
     walk_header(&bytes[..n], &bytes[n..end], region, speed, rows, out, used)
@@ -184,12 +178,10 @@ fn answer_command(
     n: usize,
     end: usize,
     rows: &mut [u64],
-    out: &mut [u8],
+    out: &mut Buffer,
     used: usize,
 ) -> usize
     requires { ⌜ (n ≤ end) × (end ≤ length (now bytes)) ⌝ }
-    requires { ⌜ Room (now out) used ⌝ }
-    ensures { λ r. ⌜ Room (now (out .exit)) r ⌝ }
 {
     fill(rows);
     walk_command(&bytes[..n], &bytes[n..end], rows, out, used)
@@ -201,91 +193,77 @@ fn walk_header(
     region: u64,
     speed: u64,
     rows: &mut [u64],
-    out: &mut [u8],
+    out: &mut Buffer,
     used: usize,
-) -> usize
-    requires { ⌜ Room (now out) used ⌝ }
-    ensures { λ r. ⌜ Room (now (out .exit)) r ⌝ }
-{
+) -> usize {
     let decoded = decode_header(text, mpdu, region, speed, rows);
-    put_decoded(decoded, rows, out, used)
+    put_decoded(out, used, decoded, rows)
 }
 
-fn walk_command(text: &[u8], payload: &[u8], rows: &mut [u64], out: &mut [u8], used: usize) -> usize
-    requires { ⌜ Room (now out) used ⌝ }
-    ensures { λ r. ⌜ Room (now (out .exit)) r ⌝ }
-{
+fn walk_command(
+    text: &[u8],
+    payload: &[u8],
+    rows: &mut [u64],
+    out: &mut Buffer,
+    used: usize,
+) -> usize {
     let params = decode_params(text, payload, rows);
-    put_params(params, rows, out, used)
+    put_params(out, used, params, rows)
 }
 
 // The answer of `decode_header` and the table that it was lent.
-fn put_decoded(decoded: Decoded, table: &[u64], out: &mut [u8], used: usize) -> usize
-    requires { ⌜ Room (now out) used ⌝ }
+fn put_decoded(out: &mut Buffer, used: usize, decoded: Decoded, table: &[u64]) -> usize
     requires { ⌜ StandHeader (now table) decoded ⌝ }
-    ensures { λ r. ⌜ Room (now (out .exit)) r ⌝ }
 {
     match decoded {
-        Decoded::Header(header) => put_header(header, table, out, used),
-        Decoded::Refused(refusal) => put_refused(refusal, table, out, used),
+        Decoded::Header(header) => put_header(out, used, header, table),
+        Decoded::Refused(refusal) => put_refused(out, used, refusal, table),
     }
 }
 
 // The answer of `decode_params` and the table that it was lent.
-fn put_params(params: Params, table: &[u64], out: &mut [u8], used: usize) -> usize
-    requires { ⌜ Room (now out) used ⌝ }
+fn put_params(out: &mut Buffer, used: usize, params: Params, table: &[u64]) -> usize
     requires { ⌜ StandParams (now table) params ⌝ }
-    ensures { λ r. ⌜ Room (now (out .exit)) r ⌝ }
 {
     match params {
         Params::Rows { count, remainder } => {
-            let mut n = put_named(b"command", count as u64, out, used);
-            n = put_number(remainder.0 as u64, out, n);
-            put_table(table, count * COMMAND_WIDTH, out, n)
+            let mut n = put_named(out, used, b"command", count as u64);
+            n = put_value(out, n, remainder.0 as u64);
+            put_table(out, n, table, count * COMMAND_WIDTH)
         }
-        Params::Refused(refusal) => put_refused(refusal, table, out, used),
+        Params::Refused(refusal) => put_refused(out, used, refusal, table),
     }
 }
 
-fn put_header(header: DecodedHeader, table: &[u64], out: &mut [u8], used: usize) -> usize
-    requires { ⌜ Room (now out) used ⌝ }
+fn put_header(out: &mut Buffer, used: usize, header: DecodedHeader, table: &[u64]) -> usize
     requires { ⌜ header .rows * 7 ≤ length (now table) ⌝ }
-    ensures { λ r. ⌜ Room (now (out .exit)) r ⌝ }
 {
-    let n = put_heading(header, out, used);
-    put_table(table, header.rows * HEADER_WIDTH, out, n)
+    let n = put_heading(out, used, header);
+    put_table(out, n, table, header.rows * HEADER_WIDTH)
 }
 
-fn put_heading(header: DecodedHeader, out: &mut [u8], used: usize) -> usize
-    requires { ⌜ Room (now out) used ⌝ }
-    ensures { λ r. ⌜ Room (now (out .exit)) r ⌝ }
-{
+fn put_heading(out: &mut Buffer, used: usize, header: DecodedHeader) -> usize {
     let flags = header.flags;
-    let mut n = put_named(b"header", header.number as u64, out, used);
-    n = put_number(header.key as u64, out, n);
-    n = put_flags(flags, out, n);
-    n = put_number(header.payload, out, n);
-    n = put_number(header.right as u64, out, n);
-    put_number(header.rows as u64, out, n)
+    let mut n = put_named(out, used, b"header", header.number as u64);
+    n = put_value(out, n, header.key as u64);
+    n = put_flags(out, n, flags);
+    n = put_value(out, n, header.payload);
+    n = put_value(out, n, header.right as u64);
+    put_value(out, n, header.rows as u64)
 }
 
 // The flags, a digit each.
-fn put_flags(flags: Flags, out: &mut [u8], used: usize) -> usize
-    requires { ⌜ Room (now out) used ⌝ }
-    ensures { λ r. ⌜ Room (now (out .exit)) r ⌝ }
-{
-    let mut n = put_number(flags.ack as u64, out, used);
-    n = put_decimal(flags.routed as u64, out, n);
-    n = put_decimal(flags.multicast as u64, out, n);
-    put_decimal(flags.error as u64, out, n)
+fn put_flags(out: &mut Buffer, used: usize, flags: Flags) -> usize {
+    let mut n = put_value(out, used, flags.ack as u64);
+    n = put_number(out, n, flags.routed as u64);
+    n = put_number(out, n, flags.multicast as u64);
+    put_number(out, n, flags.error as u64)
 }
 
 // The numbers that an answer wrote, which are so many, and whether the table is untouched past them.
-fn put_table(table: &[u64], numbers: usize, out: &mut [u8], used: usize) -> usize
-    requires { ⌜ Room (now out) used ⌝ }
+fn put_table(out: &mut Buffer, used: usize, table: &[u64], numbers: usize) -> usize
     requires { ⌜ numbers ≤ length (now table) ⌝ }
-    ensures { λ r. ⌜ Room (now (out .exit)) r ⌝ }
 {
-    let n = put_numbers(&table[..numbers], out, used);
-    put_touched(&table[numbers..], out, n)
+    let n = put_numbers(out, used, &table[..numbers]);
+    put_touched(out, n, &table[numbers..])
 }

@@ -7,8 +7,8 @@ use Rattle.command_rows.proofs.write_row.Tie as tie
 mul-put-row : tie.Need-mul-put-row
 mul-put-row c = search (needs, laws)
 
-numbers-requires : tie.Need-numbers-requires
-numbers-requires c κs = search (needs, laws)
+numbers-of-requires : tie.Need-numbers-of-requires
+numbers-of-requires c κs = search (needs, laws)
 
 slice-aggregate-put-row : tie.Need-slice-aggregate-put-row
 slice-aggregate-put-row c = search (needs, laws)
@@ -27,7 +27,7 @@ write-row-spec =
     tie.close
     (tie.spec
     mul-put-row
-    numbers-requires
+    numbers-of-requires
     slice-aggregate-put-row
     put-row-requires
     same-length

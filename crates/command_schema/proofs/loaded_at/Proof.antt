@@ -1,4 +1,5 @@
 -- `command_schema::loaded_at` meets its contract, by the laws of the crate. Assumes nothing.
+use Rattle.command_schema.specs.Loaded.{loadedAt}
 use Rattle.command_schema.proofs.Laws.{laws}
 use borrow.Author.Needs.{needs}
 use Rattle.command_schema.proofs.loaded_at.Statement.{statement}
@@ -113,6 +114,7 @@ shared-slice-read-t50 : tie.Need-shared-slice-read-t50
 shared-slice-read-t50 c = search (needs, laws)
 
 returns : tie.Need-returns
+unfolding loadedAt
 returns c = search (needs, laws)
 
 pub loaded-at-spec : {M : Type 1} → statement M

@@ -2,7 +2,7 @@
 use Prim.Native.Nat.{_-_}
 use borrow.Author.Needs.{needs}
 use Rattle.frame_definition.specs.Definition.{definition}
-use Rattle.fields.specs.Fields.{fieldsIn}
+use Rattle.header_fields.specs.Fields.{fieldsIn}
 use Rattle.header_rows.proofs.Laws.{Writing, laws}
 use Rattle.header_rows.proofs.write_rows.Statement.{statement}
 use Rattle.header_rows.proofs.write_rows.Tie as tie

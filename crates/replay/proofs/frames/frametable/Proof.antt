@@ -4,63 +4,20 @@ use borrow.Author.Needs.{needs}
 use Rattle.replay.proofs.frames.frametable.Statement.{statement}
 use Rattle.replay.proofs.frames.frametable.Tie as tie
 
-read-asked-requires : tie.Need-read-asked-requires
-read-asked-requires c κs = search (needs, laws)
-
-enum-known-numbers : tie.Need-enum-known-numbers
-enum-known-numbers c = search (needs, laws)
-
-enum-told : tie.Need-enum-told
-enum-told c = search (needs, laws)
-
-same-length : tie.Need-same-length
-same-length c = search (needs, laws)
-
-returns : tie.Need-returns
-returns c = search (needs, laws)
-
-slice-reshare-prefix-answer-frametable : tie.Need-slice-reshare-prefix-answer-frametable
-slice-reshare-prefix-answer-frametable c = search (needs, laws)
-
-slice-aggregate-answer-frametable : tie.Need-slice-aggregate-answer-frametable
-slice-aggregate-answer-frametable c = search (needs, laws)
-
-slice-relend-prefix-answer-frametable : tie.Need-slice-relend-prefix-answer-frametable
-slice-relend-prefix-answer-frametable c = search (needs, laws)
-
-slice-aggregate-answer-frametable-2 : tie.Need-slice-aggregate-answer-frametable-2
-slice-aggregate-answer-frametable-2 c = search (needs, laws)
-
-answer-frametable-requires : tie.Need-answer-frametable-requires
-answer-frametable-requires c κs = search (needs, laws)
-
-same-length-2 : tie.Need-same-length-2
-same-length-2 c = search (needs, laws)
-
-same-length-3 : tie.Need-same-length-3
-same-length-3 c = search (needs, laws)
-
-same-length-4 : tie.Need-same-length-4
-same-length-4 c = search (needs, laws)
-
-returns-2 : tie.Need-returns-2
-returns-2 c = search (needs, laws)
-
 pub frametable-spec : {M : Type 1} → statement M
 frametable-spec =
     tie.close
     (tie.spec
-    read-asked-requires
-    enum-known-numbers
-    enum-told
-    same-length
-    returns
-    slice-reshare-prefix-answer-frametable
-    slice-aggregate-answer-frametable
-    slice-relend-prefix-answer-frametable
-    slice-aggregate-answer-frametable-2
-    answer-frametable-requires
-    same-length-2
-    same-length-3
-    same-length-4
-    returns-2)
+    (λ c κs. search (needs, laws))
+    (λ c. search (needs, laws))
+    (λ c. search (needs, laws))
+    (λ c. search (needs, laws))
+    (λ c. search (needs, laws))
+    (λ c. search (needs, laws))
+    (λ c. search (needs, laws))
+    (λ c. search (needs, laws))
+    (λ c. search (needs, laws))
+    (λ c κs. search (needs, laws))
+    (λ c. search (needs, laws))
+    (λ c. search (needs, laws))
+    (λ c. search (needs, laws)))

@@ -1,0 +1,5 @@
+pub mod Lengths
+pub mod Children
+pub mod Bounds
+mod Budget
+pub mod Sums

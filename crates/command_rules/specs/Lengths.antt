@@ -1,0 +1,81 @@
+-- C2, C3, C6 to C8 and C13 (docs/RULES.md): whether a Q exists, how many bytes it takes, and how often a group repeats.
+use Prim.Native.Nat.{ℕ, _/_, _^_}
+use mathlib.Core.Bool.{Bool, true, false, cond, not, _&&_, _||_}
+use mathlib.Core.List.{List}
+use mathlib.Core.Option.{Option, none, some}
+use lib.Bits.{bitAnd}
+use lib.Dec.{eqb, leb, ltb}
+use lib.ListN.{getD}
+use Rattle.command_rules.specs.declared.Earlier.{Earlier}
+use Rattle.command_rules.specs.declared.Earlier.the-variants.{Value, NoValue, NoEntry}
+use Rattle.command_rules.specs.declared.BitOffset.{BitOffset}
+use Rattle.command_rules.specs.declared.Rule.{Rule}
+use Rattle.command_rules.specs.declared.Rule.the-variants.{Fixed, Open, Counted}
+use Rattle.command_rules.specs.declared.Wanted.{Wanted}
+use Rattle.command_rules.specs.declared.Wanted.the-variants.{Exactly, Rest}
+use Rattle.command_rules.specs.declared.Size.{Size}
+use Rattle.command_rules.specs.declared.Size.the-variants.{Bytes, Missing}
+
+-- C2: the entry that an offset of 0 to 255 means
+abbrev pub entryAt : List Earlier → ℕ → Earlier
+entryAt es k = cond (ltb k 256) (getD es k NoEntry) NoEntry
+
+-- ---- conditions
+
+-- C3: has the entry a value whose low byte shares a bit with the mask
+abbrev pub meets : ℕ → Earlier → Bool
+meets mask (Value b) = not (eqb (bitAnd b mask) 0)
+meets mask NoValue = false
+meets mask NoEntry = false
+
+-- C3: does the condition hold
+abbrev pub holds : Option ℕ → Option ℕ → List Earlier → Bool
+holds (some k) (some mask) es = meets mask (entryAt es k)
+holds (some k) none es = true
+holds none mask es = true
+
+-- ---- lengths
+
+-- C6, C11, C13: some bits of a byte, as a number
+abbrev pub masked : ℕ → ℕ → BitOffset → ℕ
+masked b mask shift = bitAnd b mask / 2 ^ (shift .0)
+
+-- C6: the length by the entry that an R means
+abbrev pub byEntry : ℕ → BitOffset → Earlier → Wanted
+byEntry mask shift (Value b) = Exactly (masked b mask shift)
+byEntry mask shift NoValue = Exactly (masked 0 mask shift)
+byEntry mask shift NoEntry = Rest
+
+-- C4 to C6: how many bytes a Q wants, by what its lines say of its length and by the entries
+abbrev pub wanted : Rule → List Earlier → Wanted
+wanted (Fixed n) es = Exactly n
+wanted Open es = Rest
+wanted (Counted k mask shift) es = byEntry mask shift (entryAt es k)
+
+abbrev pub least : ℕ → ℕ → ℕ
+least a b = cond (leb a b) a b
+
+-- C7: the length, if so many bytes are left
+abbrev pub cut : Wanted → ℕ → ℕ
+cut (Exactly n) rest = least n rest
+cut Rest rest = rest
+
+-- C8: does a Q exist
+abbrev pub exists : Option ℕ → Option ℕ → Rule → List Earlier → ℕ → Bool
+exists offset mask rule es rest = ltb 0 rest && (holds offset mask es && not (eqb (cut (wanted rule es) rest) 0))
+
+-- C8: the bytes that it takes of those that are left
+unfoldable pub sizeOf : Option ℕ → Option ℕ → Rule → List Earlier → ℕ → Size
+sizeOf offset mask rule es rest = cond (exists offset mask rule es rest) (Bytes (cut (wanted rule es) rest)) Missing
+
+-- ---- groups
+
+-- C13: how often by the entry
+abbrev pub counted : ℕ → BitOffset → Earlier → ℕ
+counted mask shift (Value b) = masked b mask shift
+counted mask shift NoValue = 0
+counted mask shift NoEntry = 0
+
+-- C13: at most how often. A repetition that goes on takes a byte or more, so as long as something is left is at most once a byte.
+unfoldable pub repeats : ℕ → ℕ → BitOffset → List Earlier → ℕ → ℕ
+repeats offset mask shift es rest = cond (eqb offset 255 || eqb mask 0) rest (counted mask shift (entryAt es offset))

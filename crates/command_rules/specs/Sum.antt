@@ -1,0 +1,49 @@
+-- C19 (docs/RULES.md): each byte of an answered command stands in one outer row or in the remainder, and each row lies where its parent does.
+use mathlib.Core.Bool.{cond}
+use mathlib.Core.Path.{_≡_}
+use mathlib.Core.List.{List, [], _∷_}
+use Prim.Native.Nat.{ℕ, zero, suc, _+_, _-_, _≤_, _<_}
+use lib.Dec.{eqb}
+use Rattle.command_rules.specs.declared.Row.{Row}
+
+-- the rows with this parent; 0 for those of the outer list
+unfoldable pub childrenOf : ℕ → List Row → List Row
+childrenOf p [] = []
+childrenOf p (r ∷ rs) = cond (eqb (r .parent) p) (r ∷ childrenOf p rs) (childrenOf p rs)
+
+-- rows that follow one another from s to e without gap or overlap, each with a byte or more
+unfoldable pub Follow : ℕ → List Row → ℕ → Type 0
+Follow s [] e = s ≡ e
+Follow s (r ∷ rs) e = (r .start ≡ s) × (r .start < r .end) × Follow (r .end) rs e
+
+-- their bytes
+unfoldable pub bytes : List Row → ℕ
+bytes [] = 0
+bytes (r ∷ rs) = r .end - r .start + bytes rs
+
+-- parameters
+unfoldable pub AllParams : List Row → Type 0
+AllParams [] = Unit {0}
+AllParams (r ∷ rs) = (r .kind ≡ 0) × AllParams rs
+
+-- bit children, all on the one byte of their parent
+unfoldable pub OnByte : Row → List Row → Type 0
+OnByte p [] = Unit {0}
+OnByte p (r ∷ rs) = (r .kind ≡ 1) × (r .start ≡ p .start) × (r .end ≡ p .end) × (p .end ≡ p .start + 1) × OnByte p rs
+
+-- how its children lie in a row of a kind: bit children on a parameter's byte, none in a bit child, members in a repetition one after the other
+abbrev pub Inside : ℕ → Row → List Row → Type 0
+Inside zero r cs = OnByte r cs
+Inside (suc zero) r cs = cs ≡ []
+Inside (suc (suc k)) r cs = AllParams cs × Follow (r .start) cs (r .end)
+
+-- C17, C19: in rows of which the first is row n, each has its parent before it, and the rows behind it that have it as parent lie in it
+unfoldable pub Placed : ℕ → List Row → Type 0
+Placed n [] = Unit {0}
+Placed n (r ∷ rs) = (r .parent ≤ n) × Inside (r .kind) r (childrenOf (n + 1) rs) × Placed (n + 1) rs
+
+-- C19, demand 3: the outer rows follow one another from the body's start to the remainder, and all bytes add up
+pub record Adds (size : ℕ) (rows : List Row) (remainder : ℕ) : Type 0 where
+  pub follow : Follow 2 (childrenOf 0 rows) remainder
+  pub sum : bytes (childrenOf 0 rows) + (size - remainder) ≡ size - 2
+  pub placed : Placed 0 rows

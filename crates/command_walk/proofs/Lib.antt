@@ -1,3 +1,0 @@
-pub mod Bounds
-mod Budget
-pub mod Sums

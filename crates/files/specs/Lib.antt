@@ -1,0 +1,4 @@
+pub mod Input
+pub mod Shelf
+pub mod Accepted
+pub mod Capture

@@ -1,0 +1,173 @@
+// What a line of the table says of an MPDU: the header's name, who speaks to whom, the length, the checksum and the command's
+// name; or by which refusal it has no name.
+use crate::node_columns::put_no_nodes;
+use crate::node_columns::put_nodes;
+use command_part::command_part;
+use crc::check_crc;
+use header::Decoded;
+use header::DecodedHeader;
+use header::decode_accepted;
+use output::paint::Hue;
+use output::paint::put_painted;
+use output::refusals::put_short;
+use readers::line_fields::field_of;
+use readers::lines::find_line;
+use readers::region::frame_code;
+use refusal::Refusal;
+use writer::Buffer;
+use writer::put;
+use writer::put_hex;
+use writer::put_marked;
+use writer::put_number_left;
+use writer::put_spaces;
+ghost use mathlib.Core.Path.{_≡_};
+ghost use Rattle.text.specs.declared.Verdict.the-variants.{Accepted};
+ghost use Rattle.frame_text.specs.Rules.{verdict};
+
+// How many bytes the column of names has.
+const NAMES: usize = 26;
+
+// The numbers of a header's rows: at most 128 rows of seven.
+const NUMBERS: usize = 896;
+
+// A name in its column.
+fn put_name(out: &mut Buffer, at: usize, name: &[u8], colour: bool) -> usize {
+    let place = put(out, at, b"  ");
+    put_painted(out, place, name, NAMES, Hue::Name, colour)
+}
+
+// Is the checksum right?
+fn put_sum(out: &mut Buffer, at: usize, right: bool, colour: bool) -> usize {
+    if right {
+        return put(out, at, b"  ok");
+    }
+    put_painted(out, at, b"  wrong", 7, Hue::Wrong, colour)
+}
+
+// A command's name, by its line in the catalog; its first two bytes where there is none.
+fn put_command_name(out: &mut Buffer, at: usize, line: &[u8], bytes: &[u8], colour: bool) -> usize {
+    if line.len() == 0 {
+        return put_hex(out, at, bytes);
+    }
+    put_painted(out, at, readers::catalog::name(line), 0, Hue::Name, colour)
+}
+
+// How many spaces part the checksum's column from the command's.
+fn gap(right: bool) -> usize {
+    if right { 5 } else { 2 }
+}
+
+// The name of the command in these bytes, if there is one.
+fn put_command(
+    out: &mut Buffer,
+    at: usize,
+    index: &[u8],
+    bytes: &[u8],
+    right: bool,
+    colour: bool,
+) -> usize {
+    if bytes.len() == 0 {
+        return at;
+    }
+    let place = put_spaces(out, at, gap(right));
+    if bytes.len() < 2 {
+        return put_hex(out, place, bytes);
+    }
+    let line = readers::catalog::find_command(index, bytes[0], bytes[1]);
+    put_command_name(out, place, line, &bytes[..2], colour)
+}
+
+// Length and checksum.
+fn put_size(out: &mut Buffer, at: usize, mpdu: &[u8], right: bool, colour: bool) -> usize {
+    let place = put_marked(out, at, b"", mpdu.len() as u64, 5);
+    put_sum(out, place, right, colour)
+}
+
+// A header and its rows.
+fn put_header(
+    out: &mut Buffer,
+    at: usize,
+    text: &[u8],
+    mpdu: &[u8],
+    header: DecodedHeader,
+    rows: &[u64],
+    colour: bool,
+) -> usize {
+    let name = field_of(find_line(text, b'H', header.number), 4);
+    let mut place = put_name(out, at, name, colour);
+    place = put_nodes(out, place, text, rows, header.rows);
+    put_size(out, place, mpdu, header.right, colour)
+}
+
+// The same with the name of its command.
+fn put_named(
+    out: &mut Buffer,
+    at: usize,
+    text: &[u8],
+    index: &[u8],
+    mpdu: &[u8],
+    speed: u64,
+    header: DecodedHeader,
+    rows: &[u64],
+    colour: bool,
+) -> usize {
+    let place = put_header(out, at, text, mpdu, header, rows, colour);
+    let bytes = command_part(mpdu, header.payload, speed);
+    put_command(out, place, index, bytes, header.right, colour)
+}
+
+// Why an MPDU has no name, in colour, at the left of a column.
+pub fn put_why(out: &mut Buffer, at: usize, refusal: Refusal, width: usize, colour: bool) -> usize {
+    let mut place = output::paint::begin(out, at, colour, Hue::Unnamed);
+    place = put_short(out, place, refusal, width);
+    output::paint::end(out, place, colour)
+}
+
+// An MPDU without a name.
+fn put_unnamed(
+    out: &mut Buffer,
+    at: usize,
+    mpdu: &[u8],
+    speed: u64,
+    refusal: Refusal,
+    colour: bool,
+) -> usize {
+    let mut place = put_why(out, at, refusal, NAMES + 2, colour);
+    place = put_no_nodes(out, place);
+    put_size(out, place, mpdu, check_crc(mpdu, speed), colour)
+}
+
+fn put_beams(out: &mut Buffer, at: usize, beams: u64, colour: bool) -> usize {
+    let mut place = put_painted(out, at, b"  Beam", 7, Hue::Name, colour);
+    place = put(out, place, b"x");
+    put_number_left(out, place, beams, NAMES - 6)
+}
+
+// A beam of so many bytes, heard so often.
+pub fn put_beam(out: &mut Buffer, at: usize, beams: u64, count: u64, colour: bool) -> usize {
+    let mut place = put_beams(out, at, beams, colour);
+    place = put_no_nodes(out, place);
+    put_marked(out, place, b"", count, 5)
+}
+
+// What the table says of an MPDU that was heard in a PTI region at a speed.
+pub fn put_mpdu(
+    out: &mut Buffer,
+    at: usize,
+    text: &[u8],
+    index: &[u8],
+    mpdu: &[u8],
+    region: u64,
+    speed: u64,
+    colour: bool,
+) -> usize
+    requires { ⌜ verdict (now text) ≡ Accepted ⌝ }
+{
+    let mut rows = [0u64; NUMBERS];
+    match decode_accepted(text, mpdu, frame_code(region), speed, &mut rows) {
+        Decoded::Header(header) => {
+            put_named(out, at, text, index, mpdu, speed, header, &rows, colour)
+        }
+        Decoded::Refused(refusal) => put_unnamed(out, at, mpdu, speed, refusal, colour),
+    }
+}

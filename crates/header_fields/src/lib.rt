@@ -1,0 +1,67 @@
+// P lines loaded into a table of numbers, so that nothing in the walk splits a line.
+use frame_definition::Field;
+use frame_definition::NextParam;
+use frame_definition::next_param;
+use rows::put_row;
+use text::Place;
+ghost use mathlib.Core.Path.{_≡_};
+ghost use Prim.Native.Nat.{_+_, _*_, _≤_};
+ghost use lib.ListN.{length};
+ghost use Rattle.text.specs.Records.{Readable};
+ghost use Rattle.frame_text.specs.Rules.{rules};
+ghost use Rattle.frame_definition.specs.Definition.{below, params};
+ghost use Rattle.frame_definition.specs.Find.{from};
+ghost use Rattle.header_fields.specs.Load.{lineOf, Loads};
+
+// The numbers of a line.
+pub const WIDTH: usize = 12;
+
+// The line of a P that has this number.
+fn line_of(field: Field, number: usize) -> [u64; 12]
+    ensures { λ r. ⌜ r ≡ lineOf field number ⌝ }
+{
+    let name = field.name;
+    let set = field.set;
+    let optional = field.optional;
+    let size = field.size;
+    [
+        field.level as u64,
+        field.order as u64,
+        field.bits as u64,
+        name.start as u64,
+        name.len as u64,
+        set.start as u64,
+        set.len as u64,
+        optional.start as u64,
+        optional.len as u64,
+        size.start as u64,
+        size.len as u64,
+        number as u64,
+    ]
+}
+
+// Writes the P lines of the owner of what follows the place, after n P lines of the text, behind the `at` lines that the table
+// holds. Returns how many it holds then.
+pub fn load_params(text: &[u8], start: Place, n: usize, fields: &mut [u64], at: usize) -> usize
+    requires { ⌜ (Readable rules (now text) start) × (n ≤ length (now text)) ⌝ }
+    requires { ⌜ (at + length (params n (below (from (now text) start)))) * 12 ≤ length (now fields) ⌝ }
+    ensures { λ r. ⌜ Loads (now (text .entry)) start n (now (fields .entry)) at r (now (fields .exit)) ⌝ }
+{
+    let mut place = start;
+    let mut number = n;
+    let mut next = at;
+    loop {
+        let NextParam::At {
+            field,
+            place: after,
+        } = next_param(text, place, number)
+        else {
+            return next;
+        };
+        let line = line_of(field, number);
+        put_row(fields, next * WIDTH, &line);
+        number += 1;
+        next += 1;
+        place = after;
+    }
+}

@@ -1,0 +1,131 @@
+// A frame whole: how it was heard, its bytes, and its header as a tree and, where it is asked for, as a picture.
+use crate::frame_search::Heard;
+use frame_line::frame_row::put_rate;
+use frame_line::frame_row::put_rssi;
+use frame_line::mpdu_columns::put_why;
+use header::DecodedHeader;
+use output::paint::Hue;
+use output::paint::put_painted;
+use readers::line_fields::field_of;
+use readers::lines::find_line;
+use refusal::Refusal;
+use trees::field_tree::put_fields;
+use trees::hex_dump::put_dump;
+use trees::ruler::put_ruler;
+use writer::Buffer;
+use writer::put;
+use writer::put_marked;
+use writer::put_number;
+
+// What the frame's number is, and its direction.
+fn put_number_line(out: &mut Buffer, at: usize, number: u64, direction: u64) -> usize {
+    let mut place = put(out, at, b"frame ");
+    place = put_number(out, place, number);
+    if direction == 0 {
+        return put(out, place, b"  Rx");
+    }
+    put(out, place, b"  Tx")
+}
+
+// Where it was heard.
+fn put_channel(out: &mut Buffer, at: usize, region: u64, channel: u64) -> usize {
+    let mut place = put(out, at, b"  PTI region ");
+    place = put_number(out, place, region);
+    place = put(out, place, b", channel ");
+    put_number(out, place, channel)
+}
+
+// How it was heard.
+fn put_signal(out: &mut Buffer, at: usize, heard: Heard) -> usize {
+    let mut place = put_rate(out, at, heard.rate);
+    place = put_rssi(out, place, heard.direction, heard.rssi);
+    put_channel(out, place, heard.region, heard.channel)
+}
+
+// How often a beam was heard. Any other frame has none.
+fn put_beams(out: &mut Buffer, at: usize, beams: u64) -> usize {
+    if beams == 0 {
+        return put(out, at, b"\n\n");
+    }
+    let place = put_marked(out, at, b"  Beam x", beams, 0);
+    put(out, place, b"\n\n")
+}
+
+// The frame without its header.
+pub fn put_heard(out: &mut Buffer, at: usize, number: u64, heard: Heard, mpdu: &[u8]) -> usize {
+    let mut place = put_number_line(out, at, number, heard.direction);
+    place = put_signal(out, place, heard);
+    place = put_beams(out, place, heard.beams);
+    put_dump(out, place, mpdu)
+}
+
+// Is the checksum right?
+fn put_sum(out: &mut Buffer, at: usize, right: bool, colour: bool) -> usize {
+    if right {
+        return put(out, at, b", checksum ok\n");
+    }
+    let place = put_painted(out, at, b", checksum wrong", 0, Hue::Wrong, colour);
+    put(out, place, b"\n")
+}
+
+// The header's name.
+fn put_title(out: &mut Buffer, at: usize, name: &[u8], right: bool, colour: bool) -> usize {
+    let mut place = put(out, at, b"\n");
+    place = put_painted(out, place, name, 0, Hue::Name, colour);
+    put_sum(out, place, right, colour)
+}
+
+// How many bits stand before a byte of an MPDU.
+fn bits_before(offset: u64) -> usize {
+    if 2048 < offset {
+        return 0;
+    }
+    offset as usize * 8
+}
+
+// The bits of a header, if there is to be a picture.
+fn put_picture(
+    out: &mut Buffer,
+    at: usize,
+    mpdu: &[u8],
+    header: DecodedHeader,
+    rows: &[u64],
+    picture: bool,
+) -> usize {
+    if picture {
+        let place = put(out, at, b"\n");
+        return put_ruler(
+            out,
+            place,
+            mpdu,
+            rows,
+            header.rows,
+            bits_before(header.payload),
+        );
+    }
+    at
+}
+
+// A header, with its rows.
+pub fn put_header(
+    out: &mut Buffer,
+    at: usize,
+    text: &[u8],
+    mpdu: &[u8],
+    header: DecodedHeader,
+    rows: &[u64],
+    colour: bool,
+    picture: bool,
+) -> usize {
+    let name = field_of(find_line(text, b'H', header.number), 4);
+    let mut place = put_title(out, at, name, header.right, colour);
+    place = put_fields(out, place, text, mpdu, rows, header.rows, picture);
+    put_picture(out, place, mpdu, header, rows, picture)
+}
+
+// Why a frame has no header.
+pub fn put_refused(out: &mut Buffer, at: usize, refusal: Refusal, colour: bool) -> usize {
+    let mut place = put(out, at, b"\n");
+    place = put_why(out, place, refusal, 0, colour);
+    put(out, place, b"\n")
+}

@@ -1,0 +1,242 @@
+// The word `show`: one frame of a capture whole.
+use crate::command_page::put_command;
+use crate::command_page::put_short;
+use crate::command_page::put_title;
+use crate::command_page::put_unknown;
+use crate::frame_page::put_header;
+use crate::frame_page::put_heard;
+use crate::frame_page::put_refused;
+use crate::frame_search::Heard;
+use crate::frame_search::Search;
+use crate::frame_search::Table;
+use crate::frame_search::find_frame;
+use command::Params;
+use command::decode_params;
+use command_part::command_part;
+use files::capture::Opened;
+use files::folder::Loaded;
+use files::folder::load;
+use files::folder::load_command;
+use files::input::File;
+use files::options::Asked;
+use files::options::Options;
+use header::Decoded;
+use header::DecodedHeader;
+use header::decode_header;
+use libc::STDERR_FILENO;
+use output::outcome::fail;
+use output::outcome::fail_capture;
+use output::outcome::fail_file;
+use readers::numeral::Numeral;
+use readers::numeral::read_numeral;
+use readers::region::frame_code;
+use std::num::wrapping_sub_u64;
+use writer::Buffer;
+use writer::flush;
+ghost use Rattle.show_word.specs.Search.{Holds};
+
+// The numbers of a header's rows and of a command's: 128 rows of seven, 1,024 of nine.
+const FIELDS: usize = 896;
+
+const PARAMS: usize = 9216;
+
+// The frame after so many of the capture behind a descriptor.
+fn search(fd: i32, before: u64, mpdu: &mut [u8; 4096]) -> Search
+    ensures { λ r. ⌜ Holds (now (mpdu .exit)) r ⌝ }
+{
+    let mut block = io::buffer();
+    let Opened::At(source) = files::capture::open(fd, &mut block) else {
+        return Search::Unreadable;
+    };
+    let mut payload = io::large_buffer();
+    let mut table: Table = [0u64; 24000];
+    find_frame(source, before, &mut block, &mut payload, &mut table, mpdu)
+}
+
+// A capture with fewer frames.
+fn fail_number(name: &[u8], number: u64, frames: u64) {
+    io::write_all(STDERR_FILENO, b"tap: there is no frame ");
+    io::print_decimal(STDERR_FILENO, number);
+    io::write_all(STDERR_FILENO, b" in ");
+    io::write_all(STDERR_FILENO, name);
+    if frames == 0 {
+        fail(b", nor any other\n");
+        return;
+    }
+    io::write_all(STDERR_FILENO, b": frames go from 1 to ");
+    io::print_decimal(STDERR_FILENO, frames);
+    fail(b"\n");
+}
+
+// The parameters of a command by its text.
+fn show_params(text: &[u8], payload: &[u8], out: &mut Buffer, at: usize) {
+    let mut rows = [0u64; PARAMS];
+    match decode_params(text, payload, &mut rows) {
+        Params::Rows { count, remainder } => {
+            let place = put_command(out, at, text, payload, &rows, count, remainder.0);
+            flush(out, place);
+            output::outcome::succeed();
+        }
+        Params::Refused(refusal) => {
+            flush(out, at);
+            output::outcome::refuse(refusal);
+        }
+    }
+}
+
+// A command by its line of the index.
+fn show_line(line: &[u8], payload: &[u8], out: &mut Buffer, at: usize, options: Options) {
+    if line.len() == 0 {
+        let place = put_unknown(out, at, payload);
+        flush(out, place);
+        output::outcome::succeed();
+        return;
+    }
+    let place = put_title(out, at, readers::catalog::name(line), options.colour);
+    let mut text = io::large_buffer();
+    let Loaded::Bytes(n) = load_command(options.folder, readers::catalog::file(line), &mut text)
+    else {
+        flush(out, place);
+        fail(b"");
+        return;
+    };
+    show_params(&text[..n], payload, out, place);
+}
+
+// The command in these bytes of a frame, by the index of the folder.
+fn show_command(payload: &[u8], out: &mut Buffer, at: usize, options: Options) {
+    if payload.len() < 2 {
+        let place = put_short(out, at, payload);
+        flush(out, place);
+        output::outcome::succeed();
+        return;
+    }
+    let mut index = io::large_buffer();
+    let Loaded::Bytes(n) = load_command(options.folder, b"index.txt", &mut index) else {
+        flush(out, at);
+        fail(b"");
+        return;
+    };
+    let line = readers::catalog::find_command(&index[..n], payload[0], payload[1]);
+    show_line(line, payload, out, at, options);
+}
+
+// A header with its rows, and its command.
+fn show_header(
+    text: &[u8],
+    mpdu: &[u8],
+    rate: u64,
+    header: DecodedHeader,
+    rows: &[u64],
+    out: &mut Buffer,
+    at: usize,
+    options: Options,
+) {
+    let place = put_header(
+        out,
+        at,
+        text,
+        mpdu,
+        header,
+        rows,
+        options.colour,
+        options.picture,
+    );
+    show_command(
+        command_part(mpdu, header.payload, rate),
+        out,
+        place,
+        options,
+    );
+}
+
+// The header of an MPDU by a frame text.
+fn show_mpdu(
+    text: &[u8],
+    mpdu: &[u8],
+    region: u64,
+    rate: u64,
+    out: &mut Buffer,
+    at: usize,
+    options: Options,
+) {
+    let mut rows = [0u64; FIELDS];
+    match decode_header(text, mpdu, frame_code(region), rate, &mut rows) {
+        Decoded::Header(header) => {
+            show_header(text, mpdu, rate, header, &rows, out, at, options);
+        }
+        Decoded::Refused(refusal) => {
+            let place = put_refused(out, at, refusal, options.colour);
+            flush(out, place);
+            output::outcome::refuse(refusal);
+        }
+    }
+}
+
+// The frame whose bytes are these, by the frame text of the folder.
+fn show_named(heard: Heard, mpdu: &[u8], out: &mut Buffer, at: usize, options: Options) {
+    if heard.beams != 0 {
+        flush(out, at);
+        output::outcome::succeed();
+        return;
+    }
+    let mut text = io::large_buffer();
+    let Loaded::Bytes(n) = load(options.folder, b"frames.txt", &mut text) else {
+        flush(out, at);
+        fail(b"");
+        return;
+    };
+    show_mpdu(&text[..n], mpdu, heard.region, heard.rate, out, at, options);
+}
+
+fn show_heard(number: u64, heard: Heard, mpdu: &[u8], options: Options) {
+    let mut out = io::buffer();
+    let at = put_heard(&mut out, 0, number, heard, mpdu);
+    show_named(heard, mpdu, &mut out, at, options);
+}
+
+// Frame n of the capture behind a descriptor.
+fn show_file(name: &[u8], fd: i32, number: u64, options: Options) {
+    let before = wrapping_sub_u64(number, 1);
+    let mut mpdu = io::buffer();
+    match search(fd, before, &mut mpdu) {
+        Search::Found(heard) => {
+            let n = heard.count;
+            show_heard(number, heard, &mpdu[..n], options);
+        }
+        Search::Left(left) => fail_number(name, number, wrapping_sub_u64(before, left)),
+        Search::NoCapture(line, column) => fail_capture(name, line, column),
+        Search::Unreadable => fail_file(name),
+    }
+}
+
+// The number that argument k says, from 1.
+fn read_number(k: usize) -> Numeral {
+    let mut bytes = io::buffer();
+    let n = os::arg(k, &mut bytes);
+    read_numeral(&bytes[..n])
+}
+
+fn open_and_show(number: u64, options: Options) {
+    let mut name = io::buffer();
+    let File::Open(fd, n) = files::input::open_argument(options.file, &mut name) else {
+        return;
+    };
+    show_file(&name[..n], fd, number, options);
+    libc::close(fd);
+}
+
+// `tap show FILE N`.
+pub fn show_frame() {
+    let Asked::Options(options) = files::options::read(
+        2,
+        b"tap: show takes a FILE, or - for standard input, and the number of a frame\n",
+    ) else {
+        return;
+    };
+    let Numeral::Is(number) = read_number(options.second) else {
+        fail(b"tap: the number of a frame is a decimal number from 1\n");
+        return;
+    };
+    open_and_show(number, options);
+}

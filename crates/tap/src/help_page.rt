@@ -1,0 +1,120 @@
+// What `tap help` and `tap help WORD` print, with the last line of the output.
+use output::outcome::fail;
+use output::outcome::fail_word;
+use output::outcome::succeed;
+use output::prose::say;
+use readers::line_fields::find_field;
+
+// The words, and what holds for all of them.
+fn help_all() {
+    say(
+        b"tap shows the Z-Wave frames of a capture, and checks the definitions that name them.
+
+  tap frames FILE    the frames of a capture as a table
+  tap show FILE N    frame N of a capture whole
+  tap check FILE     is a definition text accepted, and if not, what is wrong with it
+  tap help           this page
+  tap help WORD      what a word does, and what its FILE is
+
+FILE may be -, which means standard input. The last line of the output is ok, or 'refused N V' (a
+refusal: its number N and the value V that it carries), or failed, after a line on standard error
+that says why. bin/tap ends with status 0, 1 or 2 accordingly.
+",
+    );
+    succeed();
+}
+
+fn help_frames() {
+    say(
+        b"tap frames FILE: the frames of a capture as a table, one a line: number, direction, rate, RSSI,
+the header's name, home id, source, destination, length, is the checksum right, and the command's
+name, or its first two bytes where no definition names it. A beam says how often it was heard. A
+frame without a name says by which refusal, in words and with its number. The nodes that a
+multicast is for are a mask, which tap show gives whole.
+
+  --definitions FOLDER    the definitions that name frames and commands: frames.txt and commands/
+                          in it. Without it that is definitions below the current folder; bin/tap
+                          says where its own are.
+  --colour, --plain       in colour or without, as the last of them says; bin/tap begins with
+                          --colour for a terminal
+  --picture               for tap show: a table has no picture
+  --progress              every 1000 frames a count on standard error
+
+Where the frame text is missing or refused, no frame has a name. The last line of the output is
+failed then, or 'refused N V' with that refusal.
+
+A capture whose first byte is 5b, the opening bracket of a record, is one raw PTI payload. Any
+other is hex text: a payload on each line, in upper or lower case, with blanks between bytes as you
+like. # starts a comment that goes on to the end of its line, and empty lines are skipped. A line
+that is no hex text is passed over, unless it comes before any payload: then the file is no capture.
+A payload has at most 65535 bytes. A longer one is refused by 4, with its length, and the others go
+on. The last line of the output is for the first refusal, or failed where a line was passed over.
+",
+    );
+    succeed();
+}
+
+fn help_show() {
+    say(
+        b"tap show FILE N: frame N of a capture, by the number that tap frames gives it. First how it was
+heard, and its bytes. Then the fields of its header as a tree: name, bits, value and symbol of each.
+Then its command's parameters as a tree: name, bytes in the command, value and symbol of each, and
+the bytes that they leave. Where no header holds it says by which refusal, and so does the last
+line.
+
+  --picture    a letter before each field, and behind the fields the header's bits as a picture, with
+               the letter of its field below each; bin/tap begins with --picture for a terminal
+  --plain      without picture and colour
+
+It takes the other options of tap frames too. 'tap help frames' says what a capture is.
+",
+    );
+    succeed();
+}
+
+fn help_check() {
+    say(
+        b"tap check FILE: is a definition text accepted? If not, the first line that is wrong: its number,
+the line itself, with <TAB> for a tab and \\xNN for a byte that can't be printed, what is wrong
+with it, and what would be right.
+
+  tap check --frame FILE      take it for a frame text
+  tap check --command FILE    take it for a command text
+
+Without these the first line that begins with a letter and a tab decides: F, B, H, P, V, D and E
+are the letters of frame texts, and Q, G, R, A, T, S, U, K and M those of command texts. An empty
+text is that of a command without parameters.
+
+The number says why the line is refused, and after it the last line of the output has the line's:
+  refused 1 L    line L is none of the forms
+  refused 2 L    a limit is passed at line L; L is 0 for a text over 60000 bytes
+  refused 3 L    line L belongs to nothing above it, or has what its place forbids
+docs/AUTHORS.md has the forms and the limits.
+",
+    );
+    succeed();
+}
+
+// The page of a word.
+fn help_word(word: &[u8]) {
+    match find_field(b"frames\tshow\tcheck\thelp", word) {
+        0 => help_frames(),
+        1 => help_show(),
+        2 => help_check(),
+        3 => help_all(),
+        _ => fail_word(word),
+    }
+}
+
+// `tap help`, `tap help WORD`.
+pub fn help() {
+    match os::arg_count() {
+        2 => help_all(),
+        3 => {
+            let mut word = io::buffer();
+            let n = os::arg(2, &mut word);
+            help_word(&word[..n]);
+        }
+        _ => fail(b"tap: help takes one word, or none\n"),
+    }
+}

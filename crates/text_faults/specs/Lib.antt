@@ -1,0 +1,5 @@
+pub mod Fault
+pub mod Examples
+pub mod Form
+pub mod Advice
+pub mod Lack

@@ -1,4 +1,0 @@
-pub mod Told
-pub mod Accepted
-pub mod Untyped
-pub mod Steps

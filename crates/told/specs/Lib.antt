@@ -1,4 +1,0 @@
-pub mod Told
-pub mod Says
-pub mod Steps
-mod Examples

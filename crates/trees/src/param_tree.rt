@@ -1,0 +1,133 @@
+// The parameters of a command as a tree: name, bytes, value and symbol of each.
+use crate::field_tree::put_deep;
+use crate::field_tree::put_range;
+use readers::cells::command_cell;
+use readers::cells::command_depth;
+use readers::cells::part;
+use readers::line_fields::field_of;
+use readers::lines::numbered_line;
+use std::num::wrapping_add_u64;
+use std::num::wrapping_sub_u64;
+use writer::Buffer;
+use writer::put;
+use writer::put_hex;
+use writer::put_number;
+
+// Kinds of rows.
+const BIT: u64 = 1;
+
+const REPETITION: u64 = 2;
+
+// Which field of a line of this kind is its name.
+fn name_field(kind: u8) -> usize {
+    match kind {
+        b'Q' | b'S' | b'U' => 3,
+        b'T' | b'K' => 2,
+        _ => 1,
+    }
+}
+
+// The name in line n of a command text.
+fn name_at(text: &[u8], n: u64) -> &[u8] {
+    let line = numbered_line(text, n);
+    if line.len() == 0 {
+        return line;
+    }
+    field_of(line, name_field(line[0]))
+}
+
+// Name and bytes of row i.
+fn put_head(out: &mut Buffer, at: usize, text: &[u8], rows: &[u64], i: usize) -> usize {
+    let name = name_at(text, command_cell(rows, i, 1));
+    let mut place = put(out, at, b"    ");
+    place = put_deep(out, place, command_depth(rows, i), name);
+    put_range(
+        out,
+        place,
+        command_cell(rows, i, 3),
+        command_cell(rows, i, 4),
+    )
+}
+
+// The number of a repetition, from 1.
+fn put_repetition(out: &mut Buffer, at: usize, number: u64) -> usize {
+    let place = put(out, at, b"number ");
+    put_number(out, place, wrapping_add_u64(number, 1))
+}
+
+// The bytes of row i.
+fn put_bytes(out: &mut Buffer, at: usize, payload: &[u8], rows: &[u64], i: usize) -> usize {
+    let start = command_cell(rows, i, 3);
+    let count = wrapping_sub_u64(command_cell(rows, i, 4), start);
+    put_hex(out, at, part(payload, start as usize, count as usize))
+}
+
+// The name in a line of K, if there is one.
+fn put_symbol(out: &mut Buffer, at: usize, text: &[u8], line: u64) -> usize {
+    if line == 0 {
+        return at;
+    }
+    let place = put(out, at, b"  ");
+    put(out, place, name_at(text, line))
+}
+
+// The value of row i, if it has one, and its symbol.
+fn put_value(out: &mut Buffer, at: usize, text: &[u8], rows: &[u64], i: usize) -> usize {
+    if command_cell(rows, i, 5) == 0 {
+        return at;
+    }
+    let mut place = put(out, at, b" = ");
+    place = put_number(out, place, command_cell(rows, i, 6));
+    put_symbol(out, place, text, command_cell(rows, i, 7))
+}
+
+// What row i says.
+fn put_said(
+    out: &mut Buffer,
+    at: usize,
+    text: &[u8],
+    payload: &[u8],
+    rows: &[u64],
+    i: usize,
+) -> usize {
+    let kind = command_cell(rows, i, 0);
+    if kind == REPETITION {
+        return put_repetition(out, at, command_cell(rows, i, 8));
+    }
+    if kind == BIT {
+        return put_number(out, at, command_cell(rows, i, 6));
+    }
+    let place = put_bytes(out, at, payload, rows, i);
+    put_value(out, place, text, rows, i)
+}
+
+fn put_param(
+    out: &mut Buffer,
+    at: usize,
+    text: &[u8],
+    payload: &[u8],
+    rows: &[u64],
+    i: usize,
+) -> usize {
+    let mut place = put_head(out, at, text, rows, i);
+    place = put_said(out, place, text, payload, rows, i);
+    put(out, place, b"\n")
+}
+
+// The lines of the n rows of a command.
+pub fn put_params(
+    out: &mut Buffer,
+    at: usize,
+    text: &[u8],
+    payload: &[u8],
+    rows: &[u64],
+    n: usize,
+) -> usize {
+    let mut place = at;
+    let mut i: usize = 0;
+    while i < n {
+        place = put_param(out, place, text, payload, rows, i);
+        i += 1;
+    }
+    place
+}

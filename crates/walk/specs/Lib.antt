@@ -1,4 +1,0 @@
--- What the contracts of `walk` cite.
-pub mod Walk
-pub mod Steps
-mod Examples
