@@ -20,14 +20,17 @@ tells-rows x n at e = rw e refl
 pub tells-refusal : (x : Params) (y : Refusal) (n : ℕ) → x ≡ Refused y → n ≡ numberOf y → 1000000 + n ≡ told x
 tells-refusal x y n e is = rw (e, is) refl
 
-pub tells-decoded : (t d table : List ℕ) (x : Params) (table′ : List ℕ) (r n : ℕ) → Decodes t d table x table′ → r ≡ told x → length table ≡ n → r ≡ told (answerOf t d n)
+pub tells-decoded : (t d table : List ℕ) (x : Params) (table′ : List ℕ) (r n : ℕ) → Decodes t d table x table′ → r ≡ told x
+    → length table ≡ n → r ≡ told (answerOf t d n)
 tells-decoded t d table x table′ r n decodes is size = rw (← size) (is ∙ ap told (decodes .answer))
 
-pub tells-accepted : (t d table : List ℕ) (x : Params) (table′ : List ℕ) (r n : ℕ) → DecodesBy t d table x table′ → verdict t ≡ text.Accepted → r ≡ told x → length table ≡ n → r ≡ told (answerOf t d n)
+pub tells-accepted : (t d table : List ℕ) (x : Params) (table′ : List ℕ) (r n : ℕ) → DecodesBy t d table x table′ → verdict t ≡ text.Accepted
+    → r ≡ told x → length table ≡ n → r ≡ told (answerOf t d n)
 unfolding answerOf
 tells-accepted t d table x table′ r n decodes accepted is size = rw (← size, accepted) (is ∙ ap told (decodes .answer))
 
-pub tells-unfit : (t d : List ℕ) (n : ℕ) (v : Verdict) (x : Refusal) (r : ℕ) → v ≡ verdict t → v ≡ text.Refused x → r ≡ told (Refused x) → r ≡ told (answerOf t d n)
+pub tells-unfit : (t d : List ℕ) (n : ℕ) (v : Verdict) (x : Refusal) (r : ℕ) → v ≡ verdict t → v ≡ text.Refused x → r ≡ told (Refused x)
+    → r ≡ told (answerOf t d n)
 unfolding answerOf
 tells-unfit t d n v x r e q is = rw (sym e ∙ q) is
 

@@ -35,24 +35,34 @@ tells-header x h e = rw e refl
 pub tells-refusal : (x : Decoded) (y : Refusal) (n : ℕ) → x ≡ Refused y → n ≡ numberOf y → 1000 + n ≡ told x
 tells-refusal x y n e is = rw (e, is) refl
 
-pub tells-decoded : (t d : List ℕ) (region speed : ℕ) (table : List ℕ) (x : Decoded) (table′ : List ℕ) (r n : ℕ) → Decodes t d region speed table x table′ → r ≡ told x → length table ≡ n
+pub tells-decoded : (t d : List ℕ) (region speed : ℕ) (table : List ℕ) (x : Decoded) (table′ : List ℕ) (r n : ℕ)
+    → Decodes t d region speed table x table′ → r ≡ told x → length table ≡ n
     → r ≡ told (decoded t d region speed n)
 tells-decoded t d region speed table x table′ r n decodes is size = rw (← size) (is ∙ ap told (decodes .answer))
 
-pub tells-decoded′ : (t d : List ℕ) (region speed : ℕ) (table : List ℕ) (x : Decoded) (table′ : List ℕ) (r n : ℕ) → Decodes t d region speed table x table′ → r ≡ told x → n ≡ length table
+pub tells-decoded′ : (t d : List ℕ) (region speed : ℕ) (table : List ℕ) (x : Decoded) (table′ : List ℕ) (r n : ℕ)
+    → Decodes t d region speed table x table′ → r ≡ told x → n ≡ length table
     → r ≡ told (decoded t d region speed n)
 tells-decoded′ t d region speed table x table′ r n decodes is size = rw size (is ∙ ap told (decodes .answer))
 
-pub tells-first : (t d : List ℕ) (region speed : ℕ) (table : List ℕ) (x : Decoded) (table′ : List ℕ) (r : ℕ) → Decodes t d region speed table x table′ → r ≡ told x → r ≡ told (decoded t d region speed (length table))
+pub tells-first : (t d : List ℕ) (region speed : ℕ) (table : List ℕ) (x : Decoded) (table′ : List ℕ) (r : ℕ)
+    → Decodes t d region speed table x table′ → r ≡ told x → r ≡ told (decoded t d region speed (length table))
 tells-first t d region speed table x table′ r decodes is = is ∙ ap told (decodes .answer)
 
-pub tells-unfit : (t d : List ℕ) (region speed n : ℕ) (v : Verdict) (x : Refusal) (r : ℕ) → v ≡ verdict t → v ≡ text.Refused x → r ≡ told (Refused x) → r ≡ told (decoded t d region speed n)
+pub tells-unfit : (t d : List ℕ) (region speed n : ℕ) (v : Verdict) (x : Refusal) (r : ℕ) → v ≡ verdict t → v ≡ text.Refused x
+    → r ≡ told (Refused x) → r ≡ told (decoded t d region speed n)
 tells-unfit t d region speed n v x r e q is = rw (sym e ∙ q) is
 
 -- ---- candidates
 pub count-starts : (t : List ℕ) (p : Place) → verdict t ≡ text.Accepted → p ≡ record { at = 0; line = 1 } → Counted t p 0 0
 count-starts t p accepted e =
-    rw e (record { readable = readable-start rules t _ accepted refl; short = accepted-short rules t accepted; headers-few = omega arith; params-few = omega arith })
+    rw e (record {
+      readable = readable-start rules t _ accepted refl;
+      short = accepted-short rules t accepted;
+      headers-few = omega arith;
+      params-few =
+          omega arith;
+    })
 
 module _ (t : List ℕ) (p : Place) (key h n : ℕ) (r : NextCandidate) (finds : FindsCandidate t p key h n r) (c : Candidate) (e : r ≡ next.At c) where
   is : IsCandidate t p key h n c
@@ -72,4 +82,20 @@ base-at t key r p n finds e = rw e at finds
 pub walk-shaped : (d fields : List ℕ) (count : ℕ) → count ≡ length fields / 12 → length d ≤ 2048 → count ≤ 128 → Shaped d fields count
 walk-shaped d fields count e s f = record { short = s; few = f; loaded = omega arith }
 
-pub ruleset laws = (tells-header, tells-refusal, tells-decoded, tells-decoded′, tells-first, tells-unfit, count-starts, count-more, count-fits, base-readable, base-number, base-few, accepted-text, base-at, walk-shaped)
+pub ruleset laws = (
+  tells-header,
+  tells-refusal,
+  tells-decoded,
+  tells-decoded′,
+  tells-first,
+  tells-unfit,
+  count-starts,
+  count-more,
+  count-fits,
+  base-readable,
+  base-number,
+  base-few,
+  accepted-text,
+  base-at,
+  walk-shaped,
+)

@@ -39,7 +39,8 @@ use Rattle.command_rules.proofs.Bounds.{walk-most, walk-inside}
 use Rattle.command_rules.proofs.Sums.{walk-adds}
 
 -- ---- one pass
-pub body-rows : (w : Walked) (t t′ : List ℕ) (r : Taken) (p : PayloadOffset) → Gives w t 0 t′ r → length (w .rows) ≤ length t / 9 → p .0 ≡ inPayload (r .end .0) → Fills w t (Rows (r .count) p) t′
+pub body-rows : (w : Walked) (t t′ : List ℕ) (r : Taken) (p : PayloadOffset) → Gives w t 0 t′ r → length (w .rows) ≤ length t / 9
+    → p .0 ≡ inPayload (r .end .0) → Fills w t (Rows (r .count) p) t′
 unfolding within
 body-rows w t t′ r p wrote h ep =
     let q : p .0 ≡ inPayload (w .end) = rw (wrote .end) at ep in
@@ -69,11 +70,14 @@ module _ (w : Walked) (t ys : List ℕ) (m : Taken) (first : Gives w [] 0 ys m) 
 pub body-part : (t : List ℕ) (n : ℕ) → n ≤ length t → n ≡ length (take n t)
 body-part t n h = sym (length-take-le n t h)
 
-pub body-inside : (x l body : List ℕ) (count : ℕ) (t t′ : List ℕ) (r : Taken) → IsLoaded x l count → length body < 65536 → Gives (walk body (entriesOf (headsOf x))) t 0 t′ r → r .end .0 < 2 ^ 32
-body-inside x l body count t t′ r loaded h w = let i = walk-inside body (entriesOf (headsOf x)) (entries-small x l count loaded) in let e = w .end in omega arith
+pub body-inside : (x l body : List ℕ) (count : ℕ) (t t′ : List ℕ) (r : Taken) → IsLoaded x l count → length body < 65536
+    → Gives (walk body (entriesOf (headsOf x))) t 0 t′ r → r .end .0 < 2 ^ 32
+body-inside x l body count t t′ r loaded h w = let i = walk-inside body (entriesOf (headsOf x)) (entries-small x l count loaded) in let e =
+    w .end in omega arith
 
 -- a byte has at most 34 rows of 9 numbers
-pub body-sure : (x l body : List ℕ) (count : ℕ) (t : List ℕ) → IsLoaded x l count → length body * 306 ≤ length t → length (walk body (entriesOf (headsOf x)) .rows) ≤ length t / 9
+pub body-sure : (x l body : List ℕ) (count : ℕ) (t : List ℕ) → IsLoaded x l count → length body * 306 ≤ length t
+    → length (walk body (entriesOf (headsOf x)) .rows) ≤ length t / 9
 body-sure x l body count t loaded h = let m = walk-most body (entriesOf (headsOf x)) (entries-small x l count loaded) in omega arith
 
 pub ruleset body-laws = (body-rows, body-needs, body-fits, body-wrote, body-part, body-inside, body-sure)
@@ -111,17 +115,20 @@ module _ (x payload t : List ℕ) where
     sums (Refused why) e = tt
     sums (Rows n p) e = go (leb (length (walk (bodyOf payload) (definition x) .rows)) (length t / 9)) e
       where
-        go : (b : Bool) → Rows n p ≡ cond b (Rows (length (walk (bodyOf payload) (definition x) .rows)) (record { 0 = inPayload (walk (bodyOf payload) (definition x) .end) })) (Refused (MoreRows (length (walk (bodyOf payload) (definition x) .rows))))
+        go : (b : Bool) → Rows n p ≡ cond b (Rows (length (walk (bodyOf payload) (definition x) .rows))
+            (record { 0 = inPayload (walk (bodyOf payload) (definition x) .end) })) (Refused (MoreRows (length (walk (bodyOf payload) (definition x) .rows))))
             → Adds (length payload) (walk (bodyOf payload) (definition x) .rows) (p .0)
         go true q =
             let ep : p ≡ record { 0 = inPayload (walk (bodyOf payload) (definition x) .end) } = cc in
             rw ep (walk-adds (bodyOf payload) (definition x) (length payload) small (let d = length-drop 2 payload in omega arith))
         go false q = absurd (let z : _≡_ {A = ℕ} 0 1 = cc in omega arith)
 
-    pub accepted-fills : (r : Params) (t′ : List ℕ) → Fills (walk (take (length payload - 2) (drop 2 payload)) (entriesOf (headsOf x))) t r t′ → DecodesBy x payload t r t′
+    pub accepted-fills : (r : Params) (t′ : List ℕ) → Fills (walk (take (length payload - 2) (drop 2 payload)) (entriesOf (headsOf x))) t r t′
+        → DecodesBy x payload t r t′
     unfolding answerBy tableAfter
     accepted-fills r t′ fills =
-        let is : walk (take (length payload - 2) (drop 2 payload)) (entriesOf (headsOf x)) ≡ walk (bodyOf payload) (definition x) = rw (the-body, ← definition-heads x) refl in
+        let is : walk (take (length payload - 2) (drop 2 payload)) (entriesOf (headsOf x)) ≡ walk (bodyOf payload) (definition x) =
+        rw (the-body, ← definition-heads x) refl in
         let f : Fills (walk (bodyOf payload) (definition x)) t r t′ = subst (λ (w : Walked). Fills w t r t′) is fills in
         record {
           answer = rw (le-ltb 2048 (length payload) long, le-ltb (length payload) 2 short) (f .answer);

@@ -88,10 +88,21 @@ module _ (t l body : List ℕ) (count : ℕ) (loaded : IsLoaded t l count) where
         }
 
     -- nothing is taken
-    passed : (d′ : List ℕ) → d′ ≡ d → outer body (entriesOf (drop j (headsOf t))) (o .0) (g .es) next ≡ outer body (entriesOf (drop (j + 1) (headsOf t))) (o .0) (g .es) next
+    passed : (d′ : List ℕ) → d′ ≡ d → outer body (entriesOf (drop j (headsOf t))) (o .0) (g .es) next
+        ≡ outer body (entriesOf (drop (j + 1) (headsOf t))) (o .0) (g .es) next
         → Outer t body d₀ d′ kept have (o .0) next (j + 1)
     passed d′ ed e =
-        rw ed (record { es = g .es; entries-are = g .entries-are; rows = rw e at (g .rows); count-is = rw e at (g .count-is); end = rw e at (g .end); few = g .few; inside = g .inside; same = g .same })
+        rw ed (record {
+          es = g .es;
+          entries-are = g .entries-are;
+          rows = rw e at (g .rows);
+          count-is = rw e at (g .count-is);
+          end = rw e at (g .end);
+          few =
+              g .few;
+          inside = g .inside;
+          same = g .same;
+        })
 
     -- a Q
     module _ (p : Parameter) (rest : entriesOf (drop j (headsOf t)) ≡ single p ∷ entriesOf (drop (j + 1) (headsOf t))) where
@@ -106,17 +117,20 @@ module _ (t l body : List ℕ) (count : ℕ) (loaded : IsLoaded t l count) where
         unfolding outer
         one-more = rw (rest, w .there, w .count, w .end) refl
 
-        all-count : next + (length (paramRows body (fieldOf p) (o .0) (w .size) next 0) + length (outer body (entriesOf (drop (j + 1) (headsOf t))) (e .0) (g .es ++ (paramEntry body (o .0) (w .size) ∷ [])) (next + c) .rows))
+        all-count : next + (length (paramRows body (fieldOf p) (o .0) (w .size) next 0) + length
+            (outer body (entriesOf (drop (j + 1) (headsOf t))) (e .0) (g .es ++ (paramEntry body (o .0) (w .size) ∷ [])) (next + c) .rows))
             ≡ length (walk body (entriesOf (headsOf t)) .rows)
         all-count = rw (one-more, length-append) at (g .count-is)
 
         small : Fits w64 (next + c)
         small = let a = g .few in let b = w .count in omega (arith, all-count)
 
-        taken : (kept′ : List ℕ) (have′ : ℕ) → kept′ ≡ set kept have y → have′ ≡ least (have + 1) 256 → Outer t body d₀ d′ kept′ have′ (e .0) (next + c) (j + 1)
+        taken : (kept′ : List ℕ) (have′ : ℕ) → kept′ ≡ set kept have y → have′ ≡ least (have + 1) 256
+            → Outer t body d₀ d′ kept′ have′ (e .0) (next + c) (j + 1)
         taken kept′ have′ ek eh =
             let b = w .count in
-            let r : written d next (paramRows body (fieldOf p) (o .0) (w .size) next 0 ++ outer body (entriesOf (drop (j + 1) (headsOf t))) (e .0) (g .es ++ (paramEntry body (o .0) (w .size) ∷ [])) (next + c) .rows)
+            let r : written d next (paramRows body (fieldOf p) (o .0) (w .size) next 0
+            ++ outer body (entriesOf (drop (j + 1) (headsOf t))) (e .0) (g .es ++ (paramEntry body (o .0) (w .size) ∷ [])) (next + c) .rows)
             ≡ written d₀ 0 (walk body (entriesOf (headsOf t)) .rows) = rw one-more at (g .rows) in
             let s : next + c ≡ next + length (paramRows body (fieldOf p) (o .0) (w .size) next 0) = omega arith in
             let f = size-facts body (fieldOf p) (g .es) (o .0) (w .size) (w .there) in
@@ -126,9 +140,15 @@ module _ (t l body : List ℕ) (count : ℕ) (loaded : IsLoaded t l count) where
             let k = g .entries-are .kept-are in
             record {
               es = g .es ++ (paramEntry body (o .0) (w .size) ∷ []);
-              entries-are = rw (ek, eh) (record { kept-are = kept-push kept (g .es) have y (paramEntry body (o .0) (w .size)) (w .entry) k; free = free-push kept (g .es) have y k (g .entries-are .free) });
+              entries-are = rw (ek, eh) (record {
+                kept-are = kept-push kept (g .es) have y (paramEntry body (o .0) (w .size)) (w .entry) k;
+                free =
+                    free-push kept (g .es) have y k (g .entries-are .free);
+              });
               rows = rw (w .rows)
-                  (written-more d next (paramRows body (fieldOf p) (o .0) (w .size) next 0) (outer body (entriesOf (drop (j + 1) (headsOf t))) (e .0) (g .es ++ (paramEntry body (o .0) (w .size) ∷ [])) (next + c) .rows) (next + c) s ∙ r);
+                  (written-more d next (paramRows body (fieldOf p) (o .0) (w .size) next 0)
+                  (outer body (entriesOf (drop (j + 1) (headsOf t))) (e .0) (g .es ++ (paramEntry body (o .0) (w .size) ∷ [])) (next + c) .rows)
+                  (next + c) s ∙ r);
               count-is = omega (arith, all-count);
               end = rw one-more at (g .end);
               few = g .few;
@@ -137,7 +157,8 @@ module _ (t l body : List ℕ) (count : ℕ) (loaded : IsLoaded t l count) where
             }
 
     -- a group
-    module _ (h : Group) (line : ℕ) (rest : entriesOf (drop j (headsOf t)) ≡ repeated line h (membersOf (drop (j + 1) (headsOf t))) ∷ entriesOf (drop (j + 1) (headsOf t))) (d′ : List ℕ) (r : Repeated)
+    module _ (h : Group) (line : ℕ) (rest : entriesOf (drop j (headsOf t))
+        ≡ repeated line h (membersOf (drop (j + 1) (headsOf t))) ∷ entriesOf (drop (j + 1) (headsOf t))) (d′ : List ℕ) (r : Repeated)
         (w : GivesGroup (groupAt body line h (membersOf (drop (j + 1) (headsOf t))) (g .es) (o .0) next) d next d′ r) where
       group-more : outer body (entriesOf (drop j (headsOf t))) (o .0) (g .es) next
           ≡ after (groupAt body line h (membersOf (drop (j + 1) (headsOf t))) (g .es) (o .0) next .rows)
@@ -146,7 +167,8 @@ module _ (t l body : List ℕ) (count : ℕ) (loaded : IsLoaded t l count) where
       group-more = rw (rest, w .end, w .times, w .count) refl
 
       group-count : next + (length (groupAt body line h (membersOf (drop (j + 1) (headsOf t))) (g .es) (o .0) next .rows)
-          + length (outer body (entriesOf (drop (j + 1) (headsOf t))) (r .end .0) (g .es ++ replicate (r .times) NoValue) (next + r .count) .rows)) ≡ length (walk body (entriesOf (headsOf t)) .rows)
+          + length (outer body (entriesOf (drop (j + 1) (headsOf t))) (r .end .0) (g .es ++ replicate (r .times) NoValue) (next + r .count) .rows))
+          ≡ length (walk body (entriesOf (headsOf t)) .rows)
       group-count = rw (group-more, length-append) at (g .count-is)
 
       group-fits : Fits w64 (next + r .count)
@@ -155,7 +177,8 @@ module _ (t l body : List ℕ) (count : ℕ) (loaded : IsLoaded t l count) where
       group-inside : r .end .0 ≤ length body
       unfolding groupAt
       group-inside =
-          let b = repetitions-bound body line (membersOf (drop (j + 1) (headsOf t))) (repeats (h .offset) (h .mask) (record { 0 = h .shift }) (g .es) (length body - o .0)) 0 (o .0) next (members-small t l count loaded (j + 1)) in
+          let b = repetitions-bound body line (membersOf (drop (j + 1) (headsOf t)))
+          (repeats (h .offset) (h .mask) (record { 0 = h .shift }) (g .es) (length body - o .0)) 0 (o .0) next (members-small t l count loaded (j + 1)) in
           let b0 = b .forward in
           let b1 = b .inside in
           let i = g .inside in
@@ -165,14 +188,17 @@ module _ (t l body : List ℕ) (count : ℕ) (loaded : IsLoaded t l count) where
       group-taken : (have′ : ℕ) → have′ ≡ least (have + r .times) 256 → Outer t body d₀ d′ kept have′ (r .end .0) (next + r .count) (j + 1)
       group-taken have′ eh =
           let b = w .count in
-          let p : written d next (groupAt body line h (membersOf (drop (j + 1) (headsOf t))) (g .es) (o .0) next .rows ++ outer body (entriesOf (drop (j + 1) (headsOf t))) (r .end .0) (g .es ++ replicate (r .times) NoValue) (next + r .count) .rows)
+          let p : written d next (groupAt body line h (membersOf (drop (j + 1) (headsOf t))) (g .es) (o .0) next .rows
+          ++ outer body (entriesOf (drop (j + 1) (headsOf t))) (r .end .0) (g .es ++ replicate (r .times) NoValue) (next + r .count) .rows)
           ≡ written d₀ 0 (walk body (entriesOf (headsOf t)) .rows) = rw group-more at (g .rows) in
           let s : next + r .count ≡ next + length (groupAt body line h (membersOf (drop (j + 1) (headsOf t))) (g .es) (o .0) next .rows) = omega arith in
           record {
             es = g .es ++ replicate (r .times) NoValue;
             entries-are = rw eh (kept-none kept (g .es) have (r .times) (g .entries-are));
             rows = rw (w .rows)
-                (written-more d next (groupAt body line h (membersOf (drop (j + 1) (headsOf t))) (g .es) (o .0) next .rows) (outer body (entriesOf (drop (j + 1) (headsOf t))) (r .end .0) (g .es ++ replicate (r .times) NoValue) (next + r .count) .rows) (next + r .count) s ∙ p);
+                (written-more d next (groupAt body line h (membersOf (drop (j + 1) (headsOf t))) (g .es) (o .0) next .rows)
+                (outer body (entriesOf (drop (j + 1) (headsOf t))) (r .end .0) (g .es ++ replicate (r .times) NoValue) (next + r .count) .rows)
+                (next + r .count) s ∙ p);
             count-is = omega (arith, group-count);
             end = rw group-more at (g .end);
             few = g .few;
@@ -182,12 +208,16 @@ module _ (t l body : List ℕ) (count : ℕ) (loaded : IsLoaded t l count) where
 
     -- what the group's function answers, over the definition
     module _ (q : Loaded) (h : Group) (is : TellsG q (q .line) h) (d′ : List ℕ) (r : Repeated)
-        (given : GivesGroup (repetitions body (q .line) (membersOf (drop (j + 1) (headsOf t))) (repeats (q .paramoffs) (q .sizemask) (record { 0 = q .sizeoffs }) (entries (take have kept)) (length body - o .0)) 0 (o .0) next) d next d′ r) where
+        (given : GivesGroup (repetitions body (q .line) (membersOf (drop (j + 1) (headsOf t)))
+        (repeats (q .paramoffs) (q .sizemask) (record { 0 = q .sizeoffs }) (entries (take have kept)) (length body - o .0)) 0 (o .0) next) d next d′
+        r) where
       the-group : GivesGroup (groupAt body (q .line) h (membersOf (drop (j + 1) (headsOf t))) (g .es) (o .0) next) d next d′ r
       unfolding groupAt
       the-group =
-          let often : repeats (q .paramoffs) (q .sizemask) (record { 0 = q .sizeoffs }) (entries (take have kept)) (length body - o .0) ≡ repeats (h .offset) (h .mask) (record { 0 = h .shift }) (g .es) (length body - o .0) =
-          ap (λ (xs : List Earlier). repeats (q .paramoffs) (q .sizemask) (record { 0 = q .sizeoffs }) xs (length body - o .0)) (g .entries-are .kept-are .firsts)
+          let often : repeats (q .paramoffs) (q .sizemask) (record { 0 = q .sizeoffs }) (entries (take have kept)) (length body - o .0)
+          ≡ repeats (h .offset) (h .mask) (record { 0 = h .shift }) (g .es) (length body - o .0) =
+          ap (λ (xs : List Earlier). repeats (q .paramoffs) (q .sizemask) (record { 0 = q .sizeoffs }) xs (length body - o .0))
+          (g .entries-are .kept-are .firsts)
           ∙ repeats-first (q .paramoffs) (q .sizemask) (record { 0 = q .sizeoffs }) (g .es) (length body - o .0)
           ∙ rw (is .offset, is .mask, is .shift) refl in
           rw often at given
@@ -200,7 +230,8 @@ module _ (t l body : List ℕ) (count : ℕ) (loaded : IsLoaded t l count) where
       pub outer-pass : x ≡ false → (q .kind ≡ 71 → ⊥) → Outer t body d₀ d kept have (o .0) next (j + 1)
       outer-pass f k = passed d refl (ap (λ (ds : List Entry). outer body ds (o .0) (g .es) next) (no-entry-at t l count loaded j q is-q h (sym is-x ∙ f) k))
 
-      module _ (d′ : List ℕ) (r : Param) (given : ReadsParam body (fieldIn t q) (entries (take have kept)) (o .0) next 0 d next d′ r) (single-q : x ≡ true) where
+      module _ (d′ : List ℕ) (r : Param) (given : ReadsParam body (fieldIn t q) (entries (take have kept)) (o .0) next 0 d next d′ r)
+          (single-q : x ≡ true) where
         m : OuterAt t l count loaded j q is-q h
         m = outer-at t l count loaded j q is-q h (sym is-x ∙ single-q)
 
@@ -211,13 +242,17 @@ module _ (t l body : List ℕ) (count : ℕ) (loaded : IsLoaded t l count) where
 
         module _ (e : BodyOffset) (y c : ℕ) (f : r ≡ Read e y c) where
           pub outer-fits : Fits w64 (next + c)
-          outer-fits = small (m .param) (m .rest) d′ e y c (is-read t q (m .param) (m .is) body kept (g .es) have (g .entries-are .kept-are) (o .0) next 0 d next d′ r given e y c f)
+          outer-fits = small (m .param) (m .rest) d′ e y c
+              (is-read t q (m .param) (m .is) body kept (g .es) have (g .entries-are .kept-are) (o .0) next 0 d next d′ r given e y c f)
 
-          pub outer-take : (kept′ : List ℕ) (have′ : ℕ) → kept′ ≡ set kept have y → have′ ≡ least (have + 1) 256 → Outer t body d₀ d′ kept′ have′ (e .0) (next + c) (j + 1)
-          outer-take = taken (m .param) (m .rest) d′ e y c (is-read t q (m .param) (m .is) body kept (g .es) have (g .entries-are .kept-are) (o .0) next 0 d next d′ r given e y c f)
+          pub outer-take : (kept′ : List ℕ) (have′ : ℕ) → kept′ ≡ set kept have y → have′ ≡ least (have + 1) 256
+              → Outer t body d₀ d′ kept′ have′ (e .0) (next + c) (j + 1)
+          outer-take = taken (m .param) (m .rest) d′ e y c
+              (is-read t q (m .param) (m .is) body kept (g .es) have (g .entries-are .kept-are) (o .0) next 0 d next d′ r given e y c f)
 
       module _ (d′ : List ℕ) (r : Repeated)
-          (given : GivesGroup (repetitions body (q .line) (membersOf (drop (j + 1) (headsOf t))) (repeats (q .paramoffs) (q .sizemask) (record { 0 = q .sizeoffs }) (entries (take have kept)) (length body - o .0)) 0 (o .0) next) d next d′ r)
+          (given : GivesGroup (repetitions body (q .line) (membersOf (drop (j + 1) (headsOf t)))
+          (repeats (q .paramoffs) (q .sizemask) (record { 0 = q .sizeoffs }) (entries (take have kept)) (length body - o .0)) 0 (o .0) next) d next d′ r)
           (kind : q .kind ≡ 71) where
         a : GroupAt t l count loaded j q is-q h
         a = group-at t l count loaded j q is-q h kind
@@ -225,7 +260,23 @@ module _ (t l body : List ℕ) (count : ℕ) (loaded : IsLoaded t l count) where
         pub outer-group-fits : Fits w64 (next + r .count)
         outer-group-fits = group-fits (a .group) (q .line) (a .rest) d′ r (the-group q (a .group) (a .is) d′ r given)
 
-        pub outer-group : (have′ : ℕ) → have′ ≡ least (have + r .times) 256 → Outer t body d₀ d′ kept have′ (r .end .0) (next + r .count) (j + 1)
+        pub outer-group : (have′ : ℕ) → have′ ≡ least (have + r .times) 256
+            → Outer t body d₀ d′ kept have′ (r .end .0) (next + r .count) (j + 1)
         outer-group have′ eh = group-taken (a .group) (q .line) (a .rest) d′ r (the-group q (a .group) (a .is) d′ r given) have′ eh
 
-pub ruleset outer-laws = (outer-start, outer-part, outer-size, outer-most, outer-low, outer-next-low, outer-end, outer-stands, outer-pass, outer-missing, outer-fits, outer-take, outer-group-fits, outer-group)
+pub ruleset outer-laws = (
+  outer-start,
+  outer-part,
+  outer-size,
+  outer-most,
+  outer-low,
+  outer-next-low,
+  outer-end,
+  outer-stands,
+  outer-pass,
+  outer-missing,
+  outer-fits,
+  outer-take,
+  outer-group-fits,
+  outer-group,
+)

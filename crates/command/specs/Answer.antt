@@ -24,7 +24,8 @@ bodyOf payload = drop 2 payload
 
 -- C18, R8: the answer, if a table of `room` numbers has rows enough
 unfoldable pub within : Walked → ℕ → Params
-within w room = cond (leb (length (w .rows)) (room / width)) (Rows (length (w .rows)) (record { 0 = inPayload (w .end) })) (Refused (MoreRows (length (w .rows))))
+within w room =
+    cond (leb (length (w .rows)) (room / width)) (Rows (length (w .rows)) (record { 0 = inPayload (w .end) })) (Refused (MoreRows (length (w .rows))))
 
 -- R4, R5, R11: a payload that is too long or too short; else the answer by a definition
 unfoldable pub answerBy : List Entry → List ℕ → ℕ → Params

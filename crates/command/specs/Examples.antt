@@ -14,7 +14,9 @@ use Rattle.command.specs.Answer.{within, answerBy, answerOf, tableAfter}
 -- `Q|0|BYTE|Length|-|-/Q|0|VARIANT|Data|-|-/R|0|7|0|0/`, | a tab and / a line end
 abbrev pub text : List ℕ
 text =
-    81 ∷ 9 ∷ 48 ∷ 9 ∷ 66 ∷ 89 ∷ 84 ∷ 69 ∷ 9 ∷ 76 ∷ 101 ∷ 110 ∷ 103 ∷ 116 ∷ 104 ∷ 9 ∷ 45 ∷ 9 ∷ 45 ∷ 10 ∷ 81 ∷ 9 ∷ 48 ∷ 9 ∷ 86 ∷ 65 ∷ 82 ∷ 73 ∷ 65 ∷ 78 ∷ 84 ∷ 9 ∷ 68 ∷ 97 ∷ 116 ∷ 97 ∷ 9 ∷ 45 ∷ 9 ∷ 45 ∷ 10 ∷ 82 ∷ 9 ∷ 48 ∷ 9 ∷ 55 ∷ 9 ∷ 48 ∷ 9 ∷ 48 ∷ 10 ∷ []
+    81 ∷ 9 ∷ 48 ∷ 9 ∷ 66 ∷ 89 ∷ 84 ∷ 69 ∷ 9 ∷ 76 ∷ 101 ∷ 110 ∷ 103 ∷ 116 ∷ 104 ∷ 9 ∷ 45 ∷ 9 ∷ 45 ∷ 10 ∷ 81 ∷ 9
+    ∷ 48 ∷ 9 ∷ 86 ∷ 65 ∷ 82 ∷ 73 ∷ 65 ∷ 78 ∷ 84 ∷ 9 ∷ 68 ∷ 97 ∷ 116 ∷ 97 ∷ 9 ∷ 45 ∷ 9 ∷ 45 ∷ 10 ∷ 82 ∷ 9 ∷ 48
+    ∷ 9 ∷ 55 ∷ 9 ∷ 48 ∷ 9 ∷ 48 ∷ 10 ∷ []
 
 abbrev pub payload : List ℕ
 payload = 0x20 ∷ 0x01 ∷ 0x02 ∷ 0xAA ∷ 0xBB ∷ 0xCC ∷ []
@@ -54,7 +56,11 @@ bad-line = refl
 -- `Q|0|BYTE|Count|-|-/T|1|Odd/S|6|1|Pair/G|Group|0|3|0/Q|1|BYTE|Kind|-|-/Q|1|CONST|More|0|1/K|7|Seven/`
 abbrev group-text : List ℕ
 group-text =
-    81 ∷ 9 ∷ 48 ∷ 9 ∷ 66 ∷ 89 ∷ 84 ∷ 69 ∷ 9 ∷ 67 ∷ 111 ∷ 117 ∷ 110 ∷ 116 ∷ 9 ∷ 45 ∷ 9 ∷ 45 ∷ 10 ∷ 84 ∷ 9 ∷ 49 ∷ 9 ∷ 79 ∷ 100 ∷ 100 ∷ 10 ∷ 83 ∷ 9 ∷ 54 ∷ 9 ∷ 49 ∷ 9 ∷ 80 ∷ 97 ∷ 105 ∷ 114 ∷ 10 ∷ 71 ∷ 9 ∷ 71 ∷ 114 ∷ 111 ∷ 117 ∷ 112 ∷ 9 ∷ 48 ∷ 9 ∷ 51 ∷ 9 ∷ 48 ∷ 10 ∷ 81 ∷ 9 ∷ 49 ∷ 9 ∷ 66 ∷ 89 ∷ 84 ∷ 69 ∷ 9 ∷ 75 ∷ 105 ∷ 110 ∷ 100 ∷ 9 ∷ 45 ∷ 9 ∷ 45 ∷ 10 ∷ 81 ∷ 9 ∷ 49 ∷ 9 ∷ 67 ∷ 79 ∷ 78 ∷ 83 ∷ 84 ∷ 9 ∷ 77 ∷ 111 ∷ 114 ∷ 101 ∷ 9 ∷ 48 ∷ 9 ∷ 49 ∷ 10 ∷ 75 ∷ 9 ∷ 55 ∷ 9 ∷ 83 ∷ 101 ∷ 118 ∷ 101 ∷ 110 ∷ 10 ∷ []
+    81 ∷ 9 ∷ 48 ∷ 9 ∷ 66 ∷ 89 ∷ 84 ∷ 69 ∷ 9 ∷ 67 ∷ 111 ∷ 117 ∷ 110 ∷ 116 ∷ 9 ∷ 45 ∷ 9 ∷ 45 ∷ 10 ∷ 84 ∷ 9 ∷ 49 ∷ 9
+    ∷ 79 ∷ 100 ∷ 100 ∷ 10 ∷ 83 ∷ 9 ∷ 54 ∷ 9 ∷ 49 ∷ 9 ∷ 80 ∷ 97 ∷ 105 ∷ 114 ∷ 10 ∷ 71 ∷ 9 ∷ 71 ∷ 114 ∷ 111 ∷ 117
+    ∷ 112 ∷ 9 ∷ 48 ∷ 9 ∷ 51 ∷ 9 ∷ 48 ∷ 10 ∷ 81 ∷ 9 ∷ 49 ∷ 9 ∷ 66 ∷ 89 ∷ 84 ∷ 69 ∷ 9 ∷ 75 ∷ 105 ∷ 110 ∷ 100 ∷ 9
+    ∷ 45 ∷ 9 ∷ 45 ∷ 10 ∷ 81 ∷ 9 ∷ 49 ∷ 9 ∷ 67 ∷ 79 ∷ 78 ∷ 83 ∷ 84 ∷ 9 ∷ 77 ∷ 111 ∷ 114 ∷ 101 ∷ 9 ∷ 48 ∷ 9 ∷ 49
+    ∷ 10 ∷ 75 ∷ 9 ∷ 55 ∷ 9 ∷ 83 ∷ 101 ∷ 118 ∷ 101 ∷ 110 ∷ 10 ∷ []
 
 -- 20 01 02 01 07 04 CC: Count 2 with Odd 0 and Pair 1; Kind 1 and More 7 in the first repetition; Kind 4 alone in the second; remainder CC
 group-rows : tableAfter (definition group-text) (0x20 ∷ 0x01 ∷ 0x02 ∷ 0x01 ∷ 0x07 ∷ 0x04 ∷ 0xCC ∷ []) [] (Rows 8 (record { 0 = 6 }))
@@ -67,7 +73,8 @@ group-rows : tableAfter (definition group-text) (0x20 ∷ 0x01 ∷ 0x02 ∷ 0x01
     ∷ 2 ∷ 4 ∷ 0 ∷ 5 ∷ 6 ∷ 0 ∷ 0 ∷ 0 ∷ 1
     ∷ 0 ∷ 5 ∷ 7 ∷ 5 ∷ 6 ∷ 1 ∷ 4 ∷ 0 ∷ 0
     ∷ []
-unfolding answerOf answerBy within walk outer groupAt repeats repetitions repetitionRow turn members sizeOf paramRows paramEntry bigEndian bitRows tableAfter table
+unfolding answerOf answerBy within walk outer groupAt repeats repetitions repetitionRow turn members sizeOf paramRows paramEntry bigEndian bitRows tableAfter
+    table
 group-rows = refl
 
 group-answer : answerOf group-text (0x20 ∷ 0x01 ∷ 0x02 ∷ 0x01 ∷ 0x07 ∷ 0x04 ∷ 0xCC ∷ []) 72 ≡ Rows 8 (record { 0 = 6 })

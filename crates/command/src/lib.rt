@@ -107,7 +107,8 @@ fn walk_params(text: &[u8], loaded: &[u16], count: usize, body: &[u8], rows: &mu
 
 // Writes all rows of a body, for which the table has room.
 fn write_body(text: &[u8], loaded: &[u16], count: usize, body: &[u8], rows: &mut [u64]) -> Params
-    requires { ⌜ (IsLoaded (now text) (now loaded) count) × (length (now body) < 65536) × (length (walk (now body) (entriesOf (headsOf (now text))) .rows) ≤ length (now rows) / 9) ⌝ }
+    requires { ⌜ (IsLoaded (now text) (now loaded) count) × (length (now body) < 65536)
+        × (length (walk (now body) (entriesOf (headsOf (now text))) .rows) ≤ length (now rows) / 9) ⌝ }
     ensures { λ r. ⌜ Fills (walk (now (body .entry)) (entriesOf (headsOf (now (text .entry))))) (now (rows .entry)) r (now (rows .exit)) ⌝ }
 {
     let taken = walk_params(text, loaded, count, body, rows);

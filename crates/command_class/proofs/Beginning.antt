@@ -75,7 +75,8 @@ opened t p r inside = go (first (left t p)) refl (first-reads (left t p))
     open-end [] h e = omega arith
     open-end (x ∷ xs) h e = let z : _≡_ {A = ℕ} 0 1 = cc in omega arith
 
-    allowed : (l more : List ℕ) → lines (left t p) ≡ l ∷ lines more → Allowed rules (r .before) (form (fields l)) (λ x. judge rules (x ∷ r .before) (suc (p .line)) (lines more))
+    allowed : (l more : List ℕ) → lines (left t p) ≡ l ∷ lines more
+        → Allowed rules (r .before) (form (fields l)) (λ x. judge rules (x ∷ r .before) (suc (p .line)) (lines more))
     allowed l more e =
         accepted-line rules (r .before) (p .line) (form (fields l)) _
         (sym (ap (judge rules (r .before) (p .line)) e ∙ judge-line rules (r .before) (p .line) l (lines more) (split-some 10 more)) ∙ r .good)
@@ -114,7 +115,8 @@ follows-at t p q r inside pass =
     let h : Passed rules t p q = passed rules t p q r inside pass in
     record {
       said = h .said;
-      lines = ap (numbered (p .line)) (h .rest-is) ∙ ap (λ (n : ℕ). record { line = p .line; says = h .said } ∷ numbered n (rest rules t q)) (sym (pass .count ∙ add-one (p .line)));
+      lines = ap (numbered (p .line)) (h .rest-is) ∙ ap (λ (n : ℕ). record { line = p .line; says = h .said } ∷ numbered n (rest rules t q))
+          (sym (pass .count ∙ add-one (p .line)));
       readable = h .next;
       on = pass .on;
     }

@@ -15,7 +15,8 @@ use Rattle.text.specs.Records.{rest, Readable}
 use Rattle.text.specs.declared.Place.{Place}
 use Rattle.text.specs.declared.Line.{Line}
 use Rattle.text.proofs.Reading.{Said, said-step}
-use Rattle.command_text.specs.Form.{Record, param, group, variant, array, bitFlag, bitField, fieldEnum, const, bitmask, typeOf, paramForm, groupForm, variantForm, arrayForm, namedForm, bitsForm, bitmaskForm, ofType, said, paramSaid, form}
+use Rattle.command_text.specs.Form.{Record, param, group, variant, array, bitFlag, bitField, fieldEnum, const, bitmask, typeOf, paramForm, groupForm}
+use Rattle.command_text.specs.Form.{variantForm, arrayForm, namedForm, bitsForm, bitmaskForm, ofType, said, paramSaid, form}
 use Rattle.command_text.specs.Form as form
 use Rattle.command_text.specs.Rules.{begins, rules}
 use Rattle.command_class.specs.Definition.{numbered, letter}
@@ -36,11 +37,13 @@ module _ (fs : List (List ℕ)) (x : Record) where
   one-param false o k e = absurd (let z : _≡_ {A = ℕ} 0 1 = cc in omega arith)
 
   pub kind-letter : form fs ≡ some x → kindOf fs ≡ letter x
-  kind-letter e = by-kind (eqb (kindOf fs) 81) (eqb (kindOf fs) 71) (eqb (kindOf fs) 82) (eqb (kindOf fs) 65) (eqb (kindOf fs) 84) (eqb (kindOf fs) 83) (eqb (kindOf fs) 85) (eqb (kindOf fs) 75) (eqb (kindOf fs) 77)
+  kind-letter e = by-kind (eqb (kindOf fs) 81) (eqb (kindOf fs) 71) (eqb (kindOf fs) 82) (eqb (kindOf fs) 65) (eqb (kindOf fs) 84) (eqb (kindOf fs) 83)
+      (eqb (kindOf fs) 85) (eqb (kindOf fs) 75) (eqb (kindOf fs) 77)
       refl refl refl refl refl refl refl refl refl e
     where
       by-kind : (q g r a t s u k m : Bool)
-          → eqb (kindOf fs) 81 ≡ q → eqb (kindOf fs) 71 ≡ g → eqb (kindOf fs) 82 ≡ r → eqb (kindOf fs) 65 ≡ a → eqb (kindOf fs) 84 ≡ t → eqb (kindOf fs) 83 ≡ s → eqb (kindOf fs) 85 ≡ u → eqb (kindOf fs) 75 ≡ k → eqb (kindOf fs) 77 ≡ m
+          → eqb (kindOf fs) 81 ≡ q → eqb (kindOf fs) 71 ≡ g → eqb (kindOf fs) 82 ≡ r → eqb (kindOf fs) 65 ≡ a → eqb (kindOf fs) 84 ≡ t
+          → eqb (kindOf fs) 83 ≡ s → eqb (kindOf fs) 85 ≡ u → eqb (kindOf fs) 75 ≡ k → eqb (kindOf fs) 77 ≡ m
           → cond q (paramSaid fs)
           (cond g (said (groupForm fs) (some (group (form.groupOf fs))))
           (cond r (said (variantForm fs) (some (variant (form.sizeOf fs))))
@@ -77,7 +80,8 @@ lined t p l readable inside step =
       says = h .said;
       form-is = h .form-is;
       kind-is = step .kind-is ∙ kind-letter (cells t l) (h .said) (h .form-is);
-      lines = ap (numbered (p .line)) (h .rest-is) ∙ ap (λ (n : ℕ). record { line = p .line; says = h .said } ∷ numbered n (rest rules t (l .next))) (sym (step .count ∙ add-one (p .line)));
+      lines = ap (numbered (p .line)) (h .rest-is) ∙ ap (λ (n : ℕ). record { line = p .line; says = h .said } ∷ numbered n (rest rules t (l .next)))
+          (sym (step .count ∙ add-one (p .line)));
       next = h .next;
     }
 

@@ -22,15 +22,19 @@ few-lines before [] keeps h = omega arith
 few-lines before (r ∷ rs) keeps h = go (begins r) (keeps .0) (few-lines (r ∷ before) rs (keeps .2))
   where
     go : (b : Bool) → cond b (leb 256 (count before)) (owned before && leb 32 (items before)) ≡ false
-        → (cond b (suc (count before)) (count before) ≤ 256 → count rs + cond b (suc (count before)) (count before) ≤ 256) → cond b (suc (count rs)) (count rs) + count before ≤ 256
+        → (cond b (suc (count before)) (count before) ≤ 256 → count rs + cond b (suc (count before)) (count before) ≤ 256)
+        → cond b (suc (count rs)) (count rs) + count before ≤ 256
     go true e ih = omega (arith, ih (leb-false 256 (count before) e))
     go false e ih = ih h
 
 few-items : (before rs : List Record) → Keeps rules before rs → items before ≤ 32 → items rs + items before ≤ 32
 few-items before [] keeps h = omega arith
-few-items before (r ∷ rs) keeps h = go (begins r) (keeps .0) (or-left (cond (begins r) (member r && not (grouped before)) (not (owned before))) (ltb 7 (shift r)) (keeps .1)) (few-items (r ∷ before) rs (keeps .2))
+few-items before (r ∷ rs) keeps h = go (begins r) (keeps .0)
+    (or-left (cond (begins r) (member r && not (grouped before)) (not (owned before))) (ltb 7 (shift r)) (keeps .1))
+    (few-items (r ∷ before) rs (keeps .2))
   where
-    go : (b : Bool) → cond b (leb 256 (count before)) (owned before && leb 32 (items before)) ≡ false → cond b (member r && not (grouped before)) (not (owned before)) ≡ false
+    go : (b : Bool) → cond b (leb 256 (count before)) (owned before && leb 32 (items before)) ≡ false
+        → cond b (member r && not (grouped before)) (not (owned before)) ≡ false
         → (cond b 0 (suc (items before)) ≤ 32 → items rs + cond b 0 (suc (items before)) ≤ 32) → cond b 0 (suc (items rs)) + items before ≤ 32
     go true e l ih = omega arith
     go false e l ih = omega (arith, ih (leb-false 32 (items before) (held (owned before) (leb 32 (items before)) e l)))

@@ -29,7 +29,8 @@ pub const-start : (t : List ℕ) (p : Place) (v : ℕ) → Readable rules t p �
 const-start t p v r = record { readable = r; so = refl }
 
 -- a line that is no K names nothing
-other-const : (v n : ℕ) (x : Record) (is : List Item) → begins x ≡ false → (letter x ≡ 75 → ⊥) → firstConst v (under (record { line = n; says = x } ∷ is)) ≡ firstConst v (under is)
+other-const : (v n : ℕ) (x : Record) (is : List Item) → begins x ≡ false → (letter x ≡ 75 → ⊥)
+    → firstConst v (under (record { line = n; says = x } ∷ is)) ≡ firstConst v (under is)
 other-const v n (param q) is b k = absurd (let z : _≡_ {A = ℕ} 0 1 = cc in omega arith)
 other-const v n (group g) is b k = absurd (let z : _≡_ {A = ℕ} 0 1 = cc in omega arith)
 other-const v n (variant s) is b k = refl
@@ -58,11 +59,14 @@ module _ (t : List ℕ) (p₀ : Place) (v : ℕ) (p : Place) (k : Naming t p₀ 
 
       pub const-over : (q : Place) → Follows t p q → (kind ≡ 75 → ⊥) → x ≡ false → Naming t p₀ v q
       const-over q follows other e =
-          let z : record { line = p .line; says = begin .said } ∷ begin .others ≡ record { line = p .line; says = follows .said } ∷ from t q = sym (begin .lines) ∙ follows .lines in
+          let z : record { line = p .line; says = begin .said } ∷ begin .others ≡ record { line = p .line; says = follows .said } ∷ from t q =
+          sym (begin .lines) ∙ follows .lines in
           let rest : begin .others ≡ from t q = cc in
-          let lines : from t p ≡ record { line = p .line; says = begin .said } ∷ from t q = begin .lines ∙ ap (λ (is : List Item). record { line = p .line; says = begin .said } ∷ is) rest in
+          let lines : from t p ≡ record { line = p .line; says = begin .said } ∷ from t q =
+          begin .lines ∙ ap (λ (is : List Item). record { line = p .line; says = begin .said } ∷ is) rest in
           let same : firstConst v (under (from t p)) ≡ firstConst v (under (from t q)) =
-          ap (λ (is : List Item). firstConst v (under is)) lines ∙ other-const v (p .line) (begin .said) (from t q) (sym begins-is ∙ e) (λ y. other (begin .kind ∙ y)) in
+          ap (λ (is : List Item). firstConst v (under is)) lines
+          ∙ other-const v (p .line) (begin .said) (from t q) (sym begins-is ∙ e) (λ y. other (begin .kind ∙ y)) in
           record { readable = follows .readable; so = k .so ∙ same }
 
     -- a K
@@ -75,7 +79,8 @@ module _ (t : List ℕ) (p₀ : Place) (v : ℕ) (p : Place) (k : Naming t p₀ 
 
       kind-is : l .kind ≡ 75
       kind-is =
-          let z : record { line = p .line; says = begin .said } ∷ begin .others ≡ record { line = p .line; says = here .says } ∷ from t (l .next) = sym (begin .lines) ∙ here .lines in
+          let z : record { line = p .line; says = begin .said } ∷ begin .others ≡ record { line = p .line; says = here .says } ∷ from t (l .next) =
+          sym (begin .lines) ∙ here .lines in
           let y : _≡_ {A = Item} (record { line = p .line; says = begin .said }) (record { line = p .line; says = here .says }) = cc in
           here .kind-is ∙ ap (λ (i : Item). letter (i .says)) (sym y) ∙ sym (begin .kind) ∙ is-k
 
@@ -83,12 +88,14 @@ module _ (t : List ℕ) (p₀ : Place) (v : ℕ) (p : Place) (k : Naming t p₀ 
       const-field = const-has t l good kind-is 1 (omega arith)
 
       is-const : here .says ≡ const (worth 0 (field 1 (cells t l))) (field 2 (cells t l))
-      is-const = let z : some (here .says) ≡ some (const (worth 0 (field 1 (cells t l))) (field 2 (cells t l))) = sym (here .form-is) ∙ k-said t l good kind-is .1 in cc
+      is-const = let z : some (here .says) ≡ some (const (worth 0 (field 1 (cells t l))) (field 2 (cells t l))) =
+          sym (here .form-is) ∙ k-said t l good kind-is .1 in cc
 
       told-const : firstConst v (under (from t p₀)) ≡ cond (eqb (value 255 (field 1 (cells t l))) v) (p .line) (firstConst v (under (from t (l .next))))
       told-const =
           k .so
-          ∙ ap (λ (is : List Item). firstConst v (under is)) (here .lines ∙ ap (λ (x : Record). record { line = p .line; says = x } ∷ from t (l .next)) is-const)
+          ∙ ap (λ (is : List Item). firstConst v (under is))
+          (here .lines ∙ ap (λ (x : Record). record { line = p .line; says = x } ∷ from t (l .next)) is-const)
           ∙ rw (named-value t l good (k-said t l good kind-is .0)) refl
 
       module _ (n : ℕ) (says : n ≡ value 255 (field 1 (cells t l))) where

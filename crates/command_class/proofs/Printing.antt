@@ -12,7 +12,8 @@ use Rattle.text.specs.Honest.{Keeps}
 use Rattle.text.specs.Print.{shown, orDash, Every, Clean, Prints}
 use Rattle.text.specs.declared.Verdict.the-variants.{Accepted}
 use Rattle.text.proofs.Printing.{clean-shown, clean-name, letter-clean, number-test, number-clean, shown-up-to, shown-worth, shown-given, printed-accepted}
-use Rattle.command_text.specs.Form.{Param, Bits, Record, param, group, variant, array, bitFlag, bitField, fieldEnum, const, bitmask, given, shiftOf, asciiOf, typeOf, form}
+use Rattle.command_text.specs.Form.{Param, Bits, Record, param, group, variant, array, bitFlag, bitField, fieldEnum, const, bitmask, given, shiftOf, asciiOf}
+use Rattle.command_text.specs.Form.{typeOf, form}
 use Rattle.command_text.specs.Rules.{rules, verdict}
 use Rattle.command_class.specs.Definition.{entriesAt, definition}
 use Rattle.command_class.specs.Print.{typeName, digit, print, ParamFits, BitsFit, Fits, commandText}
@@ -84,7 +85,10 @@ prints-param q f = record {
         number-back (q .mask),
       );
   some-field = omega arith;
-  clean = (letter-clean 81 (omega arith) (omega arith), (clean-shown (q .level), (type-clean (q .type), (clean-name (q .name) (f .named), (number-clean (q .offset), (number-clean (q .mask), tt))))));
+  clean = (
+    letter-clean 81 (omega arith) (omega arith),
+    (clean-shown (q .level), (type-clean (q .type), (clean-name (q .name) (f .named), (number-clean (q .offset), (number-clean (q .mask), tt))))),
+  );
 }
 
 prints-bit-field : (b : Bits) → BitsFit b → Prints rules print (bitField b)
@@ -115,7 +119,10 @@ prints (group g) f = record {
         shown-worth (g .shift),
       );
   some-field = omega arith;
-  clean = (letter-clean 71 (omega arith) (omega arith), (clean-name (g .name) (f .0), (clean-shown (g .offset), (clean-shown (g .mask), (clean-shown (g .shift), tt)))));
+  clean = (
+    letter-clean 71 (omega arith) (omega arith),
+    (clean-name (g .name) (f .0), (clean-shown (g .offset), (clean-shown (g .mask), (clean-shown (g .shift), tt)))),
+  );
 }
 prints (variant s) f = record {
   form-is =
@@ -130,7 +137,10 @@ prints (variant s) f = record {
         digit-back (s .ascii),
       );
   some-field = omega arith;
-  clean = (letter-clean 82 (omega arith) (omega arith), (clean-shown (s .offset), (clean-shown (s .mask), (clean-shown (s .shift), (digit-clean (s .ascii), tt)))));
+  clean = (
+    letter-clean 82 (omega arith) (omega arith),
+    (clean-shown (s .offset), (clean-shown (s .mask), (clean-shown (s .shift), (digit-clean (s .ascii), tt)))),
+  );
 }
 prints (array n ascii) f = record {
   form-is = rw (shown-up-to 255 n f, digit-test ascii, shown-worth n, digit-back ascii);

@@ -20,7 +20,9 @@ use Rattle.text.specs.declared.Optional.{Optional}
 use Rattle.text.specs.declared.Optional.the-variants.{Given, Missing, Wrong}
 use Rattle.text.proofs.Laws.{cells-length}
 use Rattle.text.proofs.Tests.{and-left, and-right, value-of, optional-value-of}
-use Rattle.command_text.specs.Form.{Record, param, group, variant, array, bitFlag, bitField, fieldEnum, const, bitmask, typeOf, paramWords, paramCondition, paramFields, paramForm, paramOf, groupFields, groupForm, groupOf, variantFields, variantForm, sizeOf, arrayForm, asciiOf, namedForm, bitsFields, bitsForm, bitsOf, bitmaskForm, given, ofType, said, form}
+use Rattle.command_text.specs.Form.{Record, param, group, variant, array, bitFlag, bitField, fieldEnum, const, bitmask, typeOf, paramWords, paramCondition}
+use Rattle.command_text.specs.Form.{paramFields, paramForm, paramOf, groupFields, groupForm, groupOf, variantFields, variantForm, sizeOf, arrayForm, asciiOf}
+use Rattle.command_text.specs.Form.{namedForm, bitsFields, bitsForm, bitsOf, bitmaskForm, given, ofType, said, form}
 use Rattle.command_text.specs.Rules.{rules}
 use Rattle.command_class.specs.Definition.{letter}
 use Rattle.command_class.specs.Find.{from, Good, orMissing, optionalOr, Tells, IsRead}
@@ -34,7 +36,8 @@ use Rattle.command_class.proofs.Finding.{Lined, lined, kind-letter}
 
 -- ---- what may be missing
 module _ (l : List ℕ) where
-  or-missing-given : (m d u : Bool) → (m || (d && u)) ≡ true → optionalOr (cond m Missing (text.given (cond d (cond u (number.Is (worth 0 l)) Over) number.Not))) ≡ orMissing (cond m none (some (worth 0 l)))
+  or-missing-given : (m d u : Bool) → (m || (d && u)) ≡ true
+      → optionalOr (cond m Missing (text.given (cond d (cond u (number.Is (worth 0 l)) Over) number.Not))) ≡ orMissing (cond m none (some (worth 0 l)))
   or-missing-given true d u e = refl
   or-missing-given false true true e = refl
   or-missing-given false true false e = absurd (let z : _≡_ {A = ℕ} 0 1 = cc in omega arith)
@@ -56,11 +59,13 @@ module _ (r o : Optional) (is : r ≡ o) where
 pub ruleset optional-laws = (optional-given, optional-missing, optional-wrong)
 
 -- ---- a line of a kind
-said-good : (fs : List (List ℕ)) (b : Bool) (y : Record) → form fs ≡ said b (some y) → isSome (form fs) ≡ true → (b ≡ true) × (form fs ≡ some y)
+said-good : (fs : List (List ℕ)) (b : Bool) (y : Record) → form fs ≡ said b (some y) → isSome (form fs) ≡ true → (b ≡ true)
+    × (form fs ≡ some y)
 said-good fs true y e f = (refl, e)
 said-good fs false y e f = absurd (let z : _≡_ {A = Bool} false true = rw e at f in let w : _≡_ {A = ℕ} 0 1 = cc in omega arith)
 
-param-good : (fs : List (List ℕ)) (b : Bool) (o : Typed) → form fs ≡ said b (ofType fs o) → isSome (form fs) ≡ true → (b ≡ true) × ((type : ParamType) × (o ≡ Is type) × (form fs ≡ some (param (paramOf fs type))))
+param-good : (fs : List (List ℕ)) (b : Bool) (o : Typed) → form fs ≡ said b (ofType fs o) → isSome (form fs) ≡ true → (b ≡ true)
+    × ((type : ParamType) × (o ≡ Is type) × (form fs ≡ some (param (paramOf fs type))))
 param-good fs true (Is type) e f = (refl, (type, refl, e))
 param-good fs true Not e f = absurd (let z : _≡_ {A = Bool} false true = rw e at f in let w : _≡_ {A = ℕ} 0 1 = cc in omega arith)
 param-good fs false o e f = absurd (let z : _≡_ {A = Bool} false true = rw e at f in let w : _≡_ {A = ℕ} 0 1 = cc in omega arith)
@@ -70,7 +75,11 @@ module _ (t : List ℕ) (l : Line) (good : Good t l) where
   fs = cells t l
 
   has-of : (n : ℕ) (b : Bool) → (eqb (length fs) n && b) ≡ true → (k : ℕ) → k < n → Has t l k
-  has-of n b e k h = record { marked = good .marked; there = omega (arith, cells-length t (l .marks) (l .fields) 0, eqb-true (length fs) n (and-left (eqb (length fs) n) b e)) }
+  has-of n b e k h = record {
+    marked = good .marked;
+    there =
+        omega (arith, cells-length t (l .marks) (l .fields) 0, eqb-true (length fs) n (and-left (eqb (length fs) n) b e));
+  }
 
   -- Q
   module _ (is : l .kind ≡ 81) where
@@ -84,9 +93,11 @@ module _ (t : List ℕ) (l : Line) (good : Good t l) where
     type-says s r type part e q = rw (← part, ← e) q
 
     pub type-never : (s : List ℕ) (r : Typed) → s ≡ field 2 fs → r ≡ typeOf s → r ≡ Not → typeOf (field 2 fs) ≡ Is Byte
-    type-never s r part e q = absurd (let z : Is (q-said .1 .0) ≡ Not = sym (q-said .1 .1) ∙ (rw part at (sym e ∙ q)) in let w : _≡_ {A = ℕ} 0 1 = cc in omega arith)
+    type-never s r part e q =
+        absurd (let z : Is (q-said .1 .0) ≡ Not = sym (q-said .1 .1) ∙ (rw part at (sym e ∙ q)) in let w : _≡_ {A = ℕ} 0 1 = cc in omega arith)
 
-    pub param-tells : (v o m : ℕ) (type : ParamType) → v ≡ value 1 (field 1 fs) → typeOf (field 2 fs) ≡ Is type → o ≡ optionalOr (optional 255 (field 4 fs)) → m ≡ optionalOr (optional 255 (field 5 fs))
+    pub param-tells : (v o m : ℕ) (type : ParamType) → v ≡ value 1 (field 1 fs) → typeOf (field 2 fs) ≡ Is type
+        → o ≡ optionalOr (optional 255 (field 4 fs)) → m ≡ optionalOr (optional 255 (field 5 fs))
         → Tells t l (record { kind = 81; level = v; typed = type; offset = o; mask = m; shift = 0; value = 0; ascii = false })
     param-tells v o m type ev et eo em =
         let w : paramFields fs ≡ true = and-right (eqb (length fs) 6) (paramFields fs) (q-said .0) in
@@ -140,7 +151,8 @@ module _ (t : List ℕ) (l : Line) (good : Good t l) where
     pub variant-has : (k : ℕ) → k < 5 → Has t l k
     variant-has k h = has-of 5 (variantFields fs) (r-said .0) k h
 
-    pub variant-tells : (o m s a : ℕ) → o ≡ value 255 (field 1 fs) → m ≡ value 255 (field 2 fs) → s ≡ optionalValue 255 (field 3 fs) → a ≡ value 1 (field 4 fs)
+    pub variant-tells : (o m s a : ℕ) → o ≡ value 255 (field 1 fs) → m ≡ value 255 (field 2 fs) → s ≡ optionalValue 255 (field 3 fs)
+        → a ≡ value 1 (field 4 fs)
         → Tells t l (record { kind = 82; level = 0; typed = Byte; offset = o; mask = m; shift = s; value = 0; ascii = eqb a 1 })
     variant-tells o m s a eo em es ea =
         let w : variantFields fs ≡ true = and-right (eqb (length fs) 5) (variantFields fs) (r-said .0) in
@@ -174,7 +186,11 @@ module _ (t : List ℕ) (l : Line) (good : Good t l) where
           said = array (worth 0 (field 1 fs)) (asciiOf (field 2 fs));
           form-is = a-said .1;
           kind = refl;
-          says = (ev ∙ value-of 255 (field 1 fs) (and-left (upTo 255 (field 1 fs)) (upTo 1 (field 2 fs)) w), ascii-of 2 a ea (and-right (upTo 255 (field 1 fs)) (upTo 1 (field 2 fs)) w));
+          says = (
+            ev ∙ value-of 255 (field 1 fs) (and-left (upTo 255 (field 1 fs)) (upTo 1 (field 2 fs)) w),
+            ascii-of 2 a ea
+                (and-right (upTo 255 (field 1 fs)) (upTo 1 (field 2 fs)) w),
+          );
         }
 
   -- T and K
@@ -188,7 +204,8 @@ module _ (t : List ℕ) (l : Line) (good : Good t l) where
     pub bit-flag-has : (k : ℕ) → k < 3 → Has t l k
     bit-flag-has k h = has-of 3 _ (t-said .0) k h
 
-    pub bit-flag-tells : (m : ℕ) → m ≡ value 255 (field 1 fs) → Tells t l (record { kind = 84; level = 0; typed = Byte; offset = 0; mask = m; shift = 0; value = 0; ascii = false })
+    pub bit-flag-tells : (m : ℕ) → m ≡ value 255 (field 1 fs)
+        → Tells t l (record { kind = 84; level = 0; typed = Byte; offset = 0; mask = m; shift = 0; value = 0; ascii = false })
     bit-flag-tells m e = record { said = bitFlag (worth 0 (field 1 fs)) (field 2 fs); form-is = t-said .1; kind = refl; says = e ∙ named-value (t-said .0) }
 
   module _ (is : l .kind ≡ 75) where
@@ -198,11 +215,13 @@ module _ (t : List ℕ) (l : Line) (good : Good t l) where
     pub const-has : (k : ℕ) → k < 3 → Has t l k
     const-has k h = has-of 3 _ (k-said .0) k h
 
-    pub const-tells : (v : ℕ) → v ≡ value 255 (field 1 fs) → Tells t l (record { kind = 75; level = 0; typed = Byte; offset = 0; mask = 0; shift = 0; value = v; ascii = false })
+    pub const-tells : (v : ℕ) → v ≡ value 255 (field 1 fs)
+        → Tells t l (record { kind = 75; level = 0; typed = Byte; offset = 0; mask = 0; shift = 0; value = v; ascii = false })
     const-tells v e = record { said = const (worth 0 (field 1 fs)) (field 2 fs); form-is = k-said .1; kind = refl; says = e ∙ named-value (k-said .0) }
 
   -- S and U
-  bits-says : (m s : ℕ) → bitsForm fs ≡ true → m ≡ value 255 (field 1 fs) → s ≡ optionalValue 255 (field 2 fs) → (m ≡ bitsOf fs .mask) × (s ≡ bitsOf fs .shift)
+  bits-says : (m s : ℕ) → bitsForm fs ≡ true → m ≡ value 255 (field 1 fs) → s ≡ optionalValue 255 (field 2 fs) → (m ≡ bitsOf fs .mask)
+      × (s ≡ bitsOf fs .shift)
   bits-says m s h em es =
       let w : bitsFields fs ≡ true = and-right (eqb (length fs) 4) (bitsFields fs) h in
       (em ∙ value-of 255 (field 1 fs) (and-left (upTo 255 (field 1 fs)) _ w), es ∙ optional-value-of 255 (field 2 fs) (bits-shift fs w))
@@ -214,7 +233,8 @@ module _ (t : List ℕ) (l : Line) (good : Good t l) where
     pub bit-field-has : (k : ℕ) → k < 4 → Has t l k
     bit-field-has k h = has-of 4 (bitsFields fs) (s-said .0) k h
 
-    pub bit-field-tells : (m s : ℕ) → m ≡ value 255 (field 1 fs) → s ≡ optionalValue 255 (field 2 fs) → Tells t l (record { kind = 83; level = 0; typed = Byte; offset = 0; mask = m; shift = s; value = 0; ascii = false })
+    pub bit-field-tells : (m s : ℕ) → m ≡ value 255 (field 1 fs) → s ≡ optionalValue 255 (field 2 fs)
+        → Tells t l (record { kind = 83; level = 0; typed = Byte; offset = 0; mask = m; shift = s; value = 0; ascii = false })
     bit-field-tells m s em es = record { said = bitField (bitsOf fs); form-is = s-said .1; kind = refl; says = bits-says m s (s-said .0) em es }
 
   module _ (is : l .kind ≡ 85) where
@@ -224,7 +244,8 @@ module _ (t : List ℕ) (l : Line) (good : Good t l) where
     pub field-enum-has : (k : ℕ) → k < 4 → Has t l k
     field-enum-has k h = has-of 4 (bitsFields fs) (u-said .0) k h
 
-    pub field-enum-tells : (m s : ℕ) → m ≡ value 255 (field 1 fs) → s ≡ optionalValue 255 (field 2 fs) → Tells t l (record { kind = 85; level = 0; typed = Byte; offset = 0; mask = m; shift = s; value = 0; ascii = false })
+    pub field-enum-tells : (m s : ℕ) → m ≡ value 255 (field 1 fs) → s ≡ optionalValue 255 (field 2 fs)
+        → Tells t l (record { kind = 85; level = 0; typed = Byte; offset = 0; mask = m; shift = s; value = 0; ascii = false })
     field-enum-tells m s em es = record { said = fieldEnum (bitsOf fs); form-is = u-said .1; kind = refl; says = bits-says m s (u-said .0) em es }
 
   -- M
@@ -235,11 +256,19 @@ module _ (t : List ℕ) (l : Line) (good : Good t l) where
     pub bitmask-has : (k : ℕ) → k < 2 → Has t l k
     bitmask-has k h = has-of 2 _ (m-said .0) k h
 
-    pub bitmask-tells : (v : ℕ) → v ≡ optionalOr (optional 255 (field 1 fs)) → Tells t l (record { kind = 77; level = 0; typed = Byte; offset = 0; mask = 0; shift = 0; value = v; ascii = false })
-    bitmask-tells v e = record { said = bitmask (given (field 1 fs)); form-is = m-said .1; kind = refl; says = e ∙ or-missing (field 1 fs) (and-right (eqb (length fs) 2) (optionalUpTo 255 (field 1 fs)) (m-said .0)) }
+    pub bitmask-tells : (v : ℕ) → v ≡ optionalOr (optional 255 (field 1 fs))
+        → Tells t l (record { kind = 77; level = 0; typed = Byte; offset = 0; mask = 0; shift = 0; value = v; ascii = false })
+    bitmask-tells v e = record {
+      said = bitmask (given (field 1 fs));
+      form-is = m-said .1;
+      kind = refl;
+      says =
+          e ∙ or-missing (field 1 fs) (and-right (eqb (length fs) 2) (optionalUpTo 255 (field 1 fs)) (m-said .0));
+    }
 
   -- no other kind
-  pub last-kind : (l .kind ≡ 81 → ⊥) → (l .kind ≡ 71 → ⊥) → (l .kind ≡ 82 → ⊥) → (l .kind ≡ 65 → ⊥) → (l .kind ≡ 84 → ⊥) → (l .kind ≡ 83 → ⊥) → (l .kind ≡ 85 → ⊥) → (l .kind ≡ 75 → ⊥) → l .kind ≡ 77
+  pub last-kind : (l .kind ≡ 81 → ⊥) → (l .kind ≡ 71 → ⊥) → (l .kind ≡ 82 → ⊥) → (l .kind ≡ 65 → ⊥) → (l .kind ≡ 84 → ⊥)
+      → (l .kind ≡ 83 → ⊥) → (l .kind ≡ 85 → ⊥) → (l .kind ≡ 75 → ⊥) → l .kind ≡ 77
   last-kind q g r a f s u k = go (form fs) refl (good .formed)
     where
       of-record : (x : Record) → l .kind ≡ letter x → l .kind ≡ 77
@@ -259,7 +288,24 @@ module _ (t : List ℕ) (l : Line) (good : Good t l) where
 
 pub ruleset param-laws = (param-has, type-says, type-never, param-tells)
 
-pub ruleset row-laws = (group-has, group-tells, variant-has, variant-tells, array-has, array-tells, bit-flag-has, bit-flag-tells, const-has, const-tells, bit-field-has, bit-field-tells, field-enum-has, field-enum-tells, bitmask-has, bitmask-tells)
+pub ruleset row-laws = (
+  group-has,
+  group-tells,
+  variant-has,
+  variant-tells,
+  array-has,
+  array-tells,
+  bit-flag-has,
+  bit-flag-tells,
+  const-has,
+  const-tells,
+  bit-field-has,
+  bit-field-tells,
+  field-enum-has,
+  field-enum-tells,
+  bitmask-has,
+  bitmask-tells,
+)
 
 -- ---- the line at a place
 module _ (t : List ℕ) (p : Place) (l : Line) (readable : Readable rules t p) (inside : p .at < length t) (step : Steps t p l) where

@@ -13,7 +13,9 @@ use Rattle.text.specs.Place.{kindOf}
 use Rattle.text.specs.Print.{Optionally, Every}
 use Rattle.text.specs.Records.{onto, records}
 use Rattle.text.proofs.Tests.{and-left, and-right}
-use Rattle.command_text.specs.Form.{Record, param, group, variant, array, bitFlag, bitField, fieldEnum, const, bitmask, value, given, shiftOf, asciiOf, known, typeOf, paramWords, paramCondition, paramFields, paramForm, groupFields, groupForm, variantFields, variantForm, arrayForm, namedForm, bitsFields, bitsForm, bitmaskForm, paramOf, groupOf, sizeOf, bitsOf, ofType, said, paramSaid, form}
+use Rattle.command_text.specs.Form.{Record, param, group, variant, array, bitFlag, bitField, fieldEnum, const, bitmask, value, given, shiftOf, asciiOf}
+use Rattle.command_text.specs.Form.{known, typeOf, paramWords, paramCondition, paramFields, paramForm, groupFields, groupForm, variantFields, variantForm}
+use Rattle.command_text.specs.Form.{arrayForm, namedForm, bitsFields, bitsForm, bitmaskForm, paramOf, groupOf, sizeOf, bitsOf, ofType, said, paramSaid, form}
 use Rattle.command_text.specs.declared.ParamType.{ParamType}
 use Rattle.command_text.specs.declared.Typed.{Typed}
 use Rattle.command_text.specs.declared.Typed.the-variants.{Is, Not}
@@ -106,7 +108,8 @@ module _ (fs : List (List ℕ)) where
     one-param false o f e = absurd (let z : _≡_ {A = ℕ} 0 1 = cc in omega arith)
 
     pub said-fits : form fs ≡ some x → Fits x
-    said-fits e = by-kind (eqb (kindOf fs) 81) (eqb (kindOf fs) 71) (eqb (kindOf fs) 82) (eqb (kindOf fs) 65) (eqb (kindOf fs) 84) (eqb (kindOf fs) 83) (eqb (kindOf fs) 85) (eqb (kindOf fs) 75) (eqb (kindOf fs) 77) e
+    said-fits e = by-kind (eqb (kindOf fs) 81) (eqb (kindOf fs) 71) (eqb (kindOf fs) 82) (eqb (kindOf fs) 65) (eqb (kindOf fs) 84) (eqb (kindOf fs) 83)
+        (eqb (kindOf fs) 85) (eqb (kindOf fs) 75) (eqb (kindOf fs) 77) e
       where
         by-kind : (q g r a t s u k m : Bool)
             → cond q (paramSaid fs)
@@ -136,6 +139,7 @@ records-fit [] = tt
 records-fit (l ∷ []) = tt
 records-fit (l ∷ m ∷ ms) = go (form (fields l)) (said-fits (fields l)) (records-fit (m ∷ ms))
   where
-    go : (x : Option Record) → ((r : Record) → x ≡ some r → Fits r) → Every Fits (records form (m ∷ ms)) → Every Fits (onto x (records form (m ∷ ms)))
+    go : (x : Option Record) → ((r : Record) → x ≡ some r → Fits r) → Every Fits (records form (m ∷ ms))
+        → Every Fits (onto x (records form (m ∷ ms)))
     go none f rest = rest
     go (some r) f rest = (f r refl, rest)

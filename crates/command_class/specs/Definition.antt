@@ -54,7 +54,8 @@ membersAt n (bitmask length ∷ rs) = membersAt (suc n) rs
 -- a Q of level 0 stands by itself, one of level 1 in its group
 abbrev pub entriesAt : ℕ → List Record → List Entry
 entriesAt n [] = []
-entriesAt n (param q ∷ rs) = cond (eqb (q .level) 0) (single (record { line = n; says = q; items = under (numbered (suc n) rs) }) ∷ entriesAt (suc n) rs) (entriesAt (suc n) rs)
+entriesAt n (param q ∷ rs) =
+    cond (eqb (q .level) 0) (single (record { line = n; says = q; items = under (numbered (suc n) rs) }) ∷ entriesAt (suc n) rs) (entriesAt (suc n) rs)
 entriesAt n (group g ∷ rs) = repeated n g (membersAt (suc n) rs) ∷ entriesAt (suc n) rs
 entriesAt n (variant s ∷ rs) = entriesAt (suc n) rs
 entriesAt n (array length ascii ∷ rs) = entriesAt (suc n) rs

@@ -22,11 +22,24 @@ use Rattle.command_groups.proofs.Entries.{Kept}
 
 -- a part of the table: from row k on
 param-from : (body : List ℕ) (q : Field) (es : List Earlier) (at n parent : ℕ) (d ys : List ℕ) (k rest : ℕ) (r : Param) → rest ≡ rowAt k (length d)
-    → ReadsParam body q es at n parent (take (length d - rest) (drop rest d)) 0 ys r → ReadsParam body q es at n parent d k (take rest d ++ (ys ++ drop (length d - rest) (drop rest d))) r
+    → ReadsParam body q es at n parent (take (length d - rest) (drop rest d)) 0 ys r
+    → ReadsParam body q es at n parent d k (take rest d ++ (ys ++ drop (length d - rest) (drop rest d))) r
 param-from body q es at n parent d ys k rest (Read e x c) is w =
-    record { size = w .size; there = w .there; end = w .end; entry = w .entry; count = w .count; rows = part-back d ys k rest (paramRows body q at (w .size) n parent) is (w .rows) }
+    record {
+      size = w .size;
+      there = w .there;
+      end = w .end;
+      entry = w .entry;
+      count = w .count;
+      rows =
+          part-back d ys k rest (paramRows body q at (w .size) n parent) is (w .rows);
+    }
 param-from body q es at n parent d ys k rest Absent is w =
-    record { there = w .there; rows = part-back d ys k rest _ is (w .rows ∙ sym (written-none (take (length d - rest) (drop rest d)) 0)) ∙ written-none d k }
+    record {
+      there = w .there;
+      rows = part-back d ys k rest _ is (w .rows ∙ sym (written-none (take (length d - rest) (drop rest d)) 0))
+          ∙ written-none d k;
+    }
 
 pub param-part : (t : List ℕ) (l : Loaded) (body ns : List ℕ) (at n parent : ℕ) (d ys : List ℕ) (k rest : ℕ) (r : Param)
     → ReadsParam body (fieldIn t l) (entries ns) at n parent (take (length d - rest) (drop rest d)) 0 ys r → rest ≡ rowAt k (length d)
@@ -35,7 +48,8 @@ param-part t l body ns at n parent d ys k rest r w is = param-from body (fieldIn
 
 pub ruleset param-laws = (param-part)
 
-module _ (t : List ℕ) (l : Loaded) (p : Parameter) (is : IsParam t l p) (body kept : List ℕ) (es : List Earlier) (have : ℕ) (k : Kept kept have es) (at n parent : ℕ) (d : List ℕ) (m : ℕ) (d′ : List ℕ) (r : Param)
+module _ (t : List ℕ) (l : Loaded) (p : Parameter) (is : IsParam t l p) (body kept : List ℕ) (es : List Earlier) (have : ℕ) (k : Kept kept have es)
+    (at n parent : ℕ) (d : List ℕ) (m : ℕ) (d′ : List ℕ) (r : Param)
     (given : ReadsParam body (fieldIn t l) (entries (take have kept)) at n parent d m d′ r) where
   by-all : (q : Field) → sizeAt body q (entries (take have kept)) at ≡ sizeAt body q es at
   by-all q = ap (λ (xs : List Earlier). sizeAt body q xs at) (k .firsts) ∙ size-first (q .offset) (q .mask) (q .rule) es (length body - at)
@@ -43,11 +57,13 @@ module _ (t : List ℕ) (l : Loaded) (p : Parameter) (is : IsParam t l p) (body 
   pub is-read : (e : BodyOffset) (x c : ℕ) → r ≡ Read e x c → IsRead body (fieldOf p) es at n parent d m d′ e x c
   is-read e x c q =
       let w : IsRead body (fieldIn t l) (entries (take have kept)) at n parent d m d′ e x c = rw q at given in
-      let v : IsRead body (fieldOf p) (entries (take have kept)) at n parent d m d′ e x c = subst (λ (f : Field). IsRead body f (entries (take have kept)) at n parent d m d′ e x c) (is .field) w in
+      let v : IsRead body (fieldOf p) (entries (take have kept)) at n parent d m d′ e x c =
+      subst (λ (f : Field). IsRead body f (entries (take have kept)) at n parent d m d′ e x c) (is .field) w in
       record { size = v .size; there = sym (by-all (fieldOf p)) ∙ v .there; end = v .end; entry = v .entry; count = v .count; rows = v .rows }
 
   pub is-absent : r ≡ Absent → IsAbsent body (fieldOf p) es at n parent d m d′
   is-absent q =
       let w : IsAbsent body (fieldIn t l) (entries (take have kept)) at n parent d m d′ = rw q at given in
-      let v : IsAbsent body (fieldOf p) (entries (take have kept)) at n parent d m d′ = subst (λ (f : Field). IsAbsent body f (entries (take have kept)) at n parent d m d′) (is .field) w in
+      let v : IsAbsent body (fieldOf p) (entries (take have kept)) at n parent d m d′ =
+      subst (λ (f : Field). IsAbsent body f (entries (take have kept)) at n parent d m d′) (is .field) w in
       record { there = sym (by-all (fieldOf p)) ∙ v .there; rows = v .rows }

@@ -29,7 +29,8 @@ pub kept-part : (kept : List ℕ) (es : List Earlier) (have : ℕ) → Kept kept
 kept-part kept es have g = let m = g .most in let z = g .size in sym (length-take-le have kept (omega arith))
 
 -- while there is room, all are kept
-kept-count : (kept : List ℕ) (es : List Earlier) (have : ℕ) → Kept kept have es → (have < 256 → length es ≡ have) × (256 ≤ have → 256 ≤ length es)
+kept-count : (kept : List ℕ) (es : List Earlier) (have : ℕ) → Kept kept have es → (have < 256 → length es ≡ have)
+    × (256 ≤ have → 256 ≤ length es)
 kept-count kept es have g = go (decLe 256 (length es))
   where
     both : have ≡ length (take 256 es)
@@ -57,7 +58,8 @@ entries-append [] ys = refl
 entries-append (x ∷ xs) ys = ap (λ (l : List Earlier). earlier x ∷ l) (entries-append xs ys)
 
 -- one entry more
-pub kept-push : (kept : List ℕ) (es : List Earlier) (have e : ℕ) (x : Earlier) → earlier e ≡ x → Kept kept have es → Kept (set kept have e) (least (have + 1) 256) (es ++ (x ∷ []))
+pub kept-push : (kept : List ℕ) (es : List Earlier) (have e : ℕ) (x : Earlier) → earlier e ≡ x → Kept kept have es
+    → Kept (set kept have e) (least (have + 1) 256) (es ++ (x ∷ []))
 kept-push kept es have e x ex g = go (decLt have 256)
   where
     go : Dec (have < 256) → Kept (set kept have e) (least (have + 1) 256) (es ++ (x ∷ []))
@@ -88,7 +90,8 @@ free-push kept es have e g f = go (decLt have 256)
     go (yes h) =
         let z = g .size in
         let next : 256 - have ≡ suc (256 - (have + 1)) = omega arith in
-        let back : drop (have + 1) (set kept have e) ≡ drop 1 (drop have kept) = drop-set-lt (have + 1) kept have e (omega arith) ∙ sym (drop-drop 1 have kept) in
+        let back : drop (have + 1) (set kept have e) ≡ drop 1 (drop have kept) =
+        drop-set-lt (have + 1) kept have e (omega arith) ∙ sym (drop-drop 1 have kept) in
         rw (least-small (have + 1) 256 (omega arith)) (record { others = rw (back, f .others, next) refl })
     go (no h) =
         let z = g .size in
@@ -111,7 +114,8 @@ pub record KeptFree (kept : List ℕ) (have : ℕ) (es : List Earlier) : Type 0 
   pub free : Free kept have
 
 -- as many entries without value
-pub kept-none : (kept : List ℕ) (es : List Earlier) (have times : ℕ) → KeptFree kept have es → KeptFree kept (least (have + times) 256) (es ++ replicate times NoValue)
+pub kept-none : (kept : List ℕ) (es : List Earlier) (have times : ℕ) → KeptFree kept have es
+    → KeptFree kept (least (have + times) 256) (es ++ replicate times NoValue)
 kept-none kept es have zero g = let m = g .kept-are .most in rw (add-zero, append-nil, least-small have 256 m) g
 kept-none kept es have (suc times) g =
     let same-kept : set kept have 256 ≡ kept = none-same kept es have (g .kept-are) (g .free) in

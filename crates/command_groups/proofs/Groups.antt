@@ -29,7 +29,8 @@ use Rattle.command_groups.specs.declared.Repetition.the-variants.{Took, 
 use Rattle.command_rules.proofs.Bounds.{Bound, turn-bound, repetitions-bound}
 
 pub row-is : (line at end k f t : ℕ) → f ≡ inPayload at → t ≡ inPayload end
-    → _≡_ {A = Row} (record { kind = 2; line = line; parent = 0; start = f; end = t; valued = 0; value = 0; named = 0; number = k }) (repetitionRow line at end k)
+    → _≡_ {A = Row} (record { kind = 2; line = line; parent = 0; start = f; end = t; valued = 0; value = 0; named = 0; number = k })
+    (repetitionRow line at end k)
 unfolding repetitionRow
 row-is line at end k f t ef et = rw (ef, et) refl
 
@@ -39,13 +40,20 @@ none-of (r ∷ rs) h = absurd (omega arith)
 
 -- ---- one repetition: its members from row 1 on
 pub turn-part : (x body : List ℕ) (i at n : ℕ) (t ys : List ℕ) (rest : ℕ) (m : Taken)
-    → Gives (members body (membersOf (drop i (headsOf x))) at [] (n + 1) (n + 1)) (take (length t - rest) (drop rest t)) 0 ys m → rest ≡ rowAt 1 (length t)
+    → Gives (members body (membersOf (drop i (headsOf x))) at [] (n + 1) (n + 1)) (take (length t - rest) (drop rest t)) 0 ys m
+    → rest ≡ rowAt 1 (length t)
     → Gives (turn body (membersOf (drop i (headsOf x))) at n) t 1 (take rest t ++ (ys ++ drop (length t - rest) (drop rest t))) m
 unfolding turn
 turn-part x body i at n t ys rest m w is =
-    record { rows = part-back t ys 1 rest (members body (membersOf (drop i (headsOf x))) at [] (n + 1) (n + 1) .rows) is (w .rows); count = w .count; end = w .end }
+    record {
+      rows = part-back t ys 1 rest (members body (membersOf (drop i (headsOf x))) at [] (n + 1) (n + 1) .rows) is (w .rows);
+      count = w .count;
+      end =
+          w .end;
+    }
 
-module _ (x l body : List ℕ) (count i at n : ℕ) (loaded : IsLoaded x l count) (t t₁ : List ℕ) (m : Taken) (given : Gives (turn body (membersOf (drop i (headsOf x))) at n) t 1 t₁ m) where
+module _ (x l body : List ℕ) (count i at n : ℕ) (loaded : IsLoaded x l count) (t t₁ : List ℕ) (m : Taken)
+    (given : Gives (turn body (membersOf (drop i (headsOf x))) at n) t 1 t₁ m) where
   bound : Bound 33 (length body) at (turn body (membersOf (drop i (headsOf x))) at n)
   bound = turn-bound body (membersOf (drop i (headsOf x))) at n (members-small x l count loaded i)
 
@@ -63,10 +71,12 @@ module _ (x l body : List ℕ) (count i at n : ℕ) (loaded : IsLoaded x l count
       let b0 = bound .forward in
       let b2 = bound .few in
       let z = given .end in
-      let nothing : turn body (membersOf (drop i (headsOf x))) at n .rows ≡ [] = none-of (turn body (membersOf (drop i (headsOf x))) at n .rows) (omega arith) in
+      let nothing : turn body (membersOf (drop i (headsOf x))) at n .rows ≡ [] =
+      none-of (turn body (membersOf (drop i (headsOf x))) at n .rows) (omega arith) in
       record { took = le-ltb at (turn body (membersOf (drop i (headsOf x))) at n .end) (omega arith); rows = given .rows ∙ rw nothing (written-none t 1) }
 
-  pub repetition-took : (line k : ℕ) (row : Row) (t′ : List ℕ) → row ≡ repetitionRow line at (m .end .0) k → t′ ≡ written t₁ 0 (row ∷ []) → at < m .end .0
+  pub repetition-took : (line k : ℕ) (row : Row) (t′ : List ℕ) → row ≡ repetitionRow line at (m .end .0) k → t′ ≡ written t₁ 0 (row ∷ [])
+      → at < m .end .0
       → Repeats body line (membersOf (drop i (headsOf x))) k at n t 0 t′ (Took (m .end) (m .count + 1))
   repetition-took line k row t′ er et h =
       let z = given .end in
@@ -76,14 +86,23 @@ module _ (x l body : List ℕ) (count i at n : ℕ) (loaded : IsLoaded x l count
         took = lt-ltb at (turn body (membersOf (drop i (headsOf x))) at n .end) (omega arith);
         end = z;
         count = omega arith;
-        rows = et ∙ rw (given .rows, own) (written-first t (repetitionRow line at (turn body (membersOf (drop i (headsOf x))) at n .end) k) (turn body (membersOf (drop i (headsOf x))) at n .rows));
+        rows = et ∙ rw (given .rows, own) (written-first t (repetitionRow line at (turn body (membersOf (drop i (headsOf x))) at n .end) k)
+            (turn body (membersOf (drop i (headsOf x))) at n .rows));
       }
 
 -- in a part of the table: from row k on
-repeats-from : (body : List ℕ) (line : ℕ) (qs : List Parameter) (number at n : ℕ) (t ys : List ℕ) (k rest : ℕ) (r : Repetition) → rest ≡ rowAt k (length t)
-    → Repeats body line qs number at n (take (length t - rest) (drop rest t)) 0 ys r → Repeats body line qs number at n t k (take rest t ++ (ys ++ drop (length t - rest) (drop rest t))) r
+repeats-from : (body : List ℕ) (line : ℕ) (qs : List Parameter) (number at n : ℕ) (t ys : List ℕ) (k rest : ℕ) (r : Repetition)
+    → rest ≡ rowAt k (length t)
+    → Repeats body line qs number at n (take (length t - rest) (drop rest t)) 0 ys r
+    → Repeats body line qs number at n t k (take rest t ++ (ys ++ drop (length t - rest) (drop rest t))) r
 repeats-from body line qs number at n t ys k rest (Took e c) is w =
-    record { took = w .took; end = w .end; count = w .count; rows = part-back t ys k rest (repetitionRow line at (turn body qs at n .end) number ∷ turn body qs at n .rows) is (w .rows) }
+    record {
+      took = w .took;
+      end = w .end;
+      count = w .count;
+      rows =
+          part-back t ys k rest (repetitionRow line at (turn body qs at n .end) number ∷ turn body qs at n .rows) is (w .rows);
+    }
 repeats-from body line qs number at n t ys k rest Nothing is w =
     record { took = w .took; rows = part-back t ys k rest [] is (w .rows ∙ sym (written-none (take (length t - rest) (drop rest t)) 0)) ∙ written-none t k }
 
@@ -121,7 +140,8 @@ turns-start x l body count i line most start n t₀ loaded v =
       same = refl;
     }
 
-module _ (body : List ℕ) (qs : List Parameter) (line most start n : ℕ) (t₀ t : List ℕ) (o : BodyOffset) (next k : ℕ) (g : Turns body qs line most start n t₀ t (o .0) next k) where
+module _ (body : List ℕ) (qs : List Parameter) (line most start n : ℕ) (t₀ t : List ℕ) (o : BodyOffset) (next k : ℕ)
+    (g : Turns body qs line most start n t₀ t (o .0) next k) where
   none-left : (t′ : List ℕ) → t′ ≡ t → repetitions body line qs (most - k) k (o .0) (n + next) ≡ ended (o .0)
       → GivesGroup (repetitions body line qs most 0 start n) t₀ 0 t′ (record { end = o; count = next; times = k })
   none-left t′ et e =
@@ -155,7 +175,8 @@ module _ (body : List ℕ) (qs : List Parameter) (line most start n : ℕ) (t₀
           let z : n + (next + c) ≡ n + next + 1 + length (turn body qs (o .0) (n + next) .rows) = let b = w .count in omega arith in
           rw (left-over, w .took, z, w .end) refl
 
-      all-count : next + (suc (length (turn body qs (o .0) (n + next) .rows)) + length (repetitions body line qs (most - (k + 1)) (k + 1) (q .0) (n + (next + c)) .rows)) ≡ length (repetitions body line qs most 0 start n .rows)
+      all-count : next + (suc (length (turn body qs (o .0) (n + next) .rows)) + length
+          (repetitions body line qs (most - (k + 1)) (k + 1) (q .0) (n + (next + c)) .rows)) ≡ length (repetitions body line qs most 0 start n .rows)
       all-count = rw (one-more, length-append) at (g .count)
 
       small : Fits w64 (next + c)
@@ -164,12 +185,15 @@ module _ (body : List ℕ) (qs : List Parameter) (line most start n : ℕ) (t₀
       taken : Turns body qs line most start n t₀ t′ (q .0) (next + c) (k + 1)
       taken =
           let b = w .count in
-          let p : written t next ((repetitionRow line (o .0) (turn body qs (o .0) (n + next) .end) k ∷ turn body qs (o .0) (n + next) .rows) ++ repetitions body line qs (most - (k + 1)) (k + 1) (q .0) (n + (next + c)) .rows)
+          let p : written t next ((repetitionRow line (o .0) (turn body qs (o .0) (n + next) .end) k ∷ turn body qs (o .0) (n + next) .rows)
+          ++ repetitions body line qs (most - (k + 1)) (k + 1) (q .0) (n + (next + c)) .rows)
           ≡ written t₀ 0 (repetitions body line qs most 0 start n .rows) = rw one-more at (g .rows) in
           let s : next + c ≡ next + suc (length (turn body qs (o .0) (n + next) .rows)) = omega arith in
-          let u : k + (repetitions body line qs (most - (k + 1)) (k + 1) (q .0) (n + (next + c)) .times + 1) ≡ repetitions body line qs most 0 start n .times = rw one-more at (g .times) in
+          let u : k + (repetitions body line qs (most - (k + 1)) (k + 1) (q .0) (n + (next + c)) .times + 1)
+          ≡ repetitions body line qs most 0 start n .times = rw one-more at (g .times) in
           record {
-            rows = rw (w .rows) (written-more t next (repetitionRow line (o .0) (turn body qs (o .0) (n + next) .end) k ∷ turn body qs (o .0) (n + next) .rows) (repetitions body line qs (most - (k + 1)) (k + 1) (q .0) (n + (next + c)) .rows) (next + c) s ∙ p);
+            rows = rw (w .rows) (written-more t next (repetitionRow line (o .0) (turn body qs (o .0) (n + next) .end) k ∷ turn body qs (o .0)
+                (n + next) .rows) (repetitions body line qs (most - (k + 1)) (k + 1) (q .0) (n + (next + c)) .rows) (next + c) s ∙ p);
             count = omega (arith, all-count);
             end = rw one-more at (g .end);
             times = omega arith;
@@ -196,11 +220,19 @@ pub ruleset turns-laws = (turns-start, turns-end, turns-low, turns-next-low, tur
 
 -- a group in a part of the table: from row k on
 pub group-part : (x body ns : List ℕ) (line i most left offset mask : ℕ) (shift : BitOffset) (at n : ℕ) (t ys : List ℕ) (k rest : ℕ) (r : Repeated)
-    → GivesGroup (repetitions body line (membersOf (drop i (headsOf x))) most 0 at n) (take (length t - rest) (drop rest t)) 0 ys r → rest ≡ rowAt k (length t)
+    → GivesGroup (repetitions body line (membersOf (drop i (headsOf x))) most 0 at n) (take (length t - rest) (drop rest t)) 0 ys r
+    → rest ≡ rowAt k (length t)
     → most ≡ repeats offset mask shift (entries ns) left → left ≡ length body - at
-    → GivesGroup (repetitions body line (membersOf (drop i (headsOf x))) (repeats offset mask shift (entries ns) (length body - at)) 0 at n) t k (take rest t ++ (ys ++ drop (length t - rest) (drop rest t))) r
+    → GivesGroup (repetitions body line (membersOf (drop i (headsOf x))) (repeats offset mask shift (entries ns) (length body - at)) 0 at n) t k
+    (take rest t ++ (ys ++ drop (length t - rest) (drop rest t))) r
 group-part x body ns line i most left offset mask shift at n t ys k rest r w is e f =
     let often : most ≡ repeats offset mask shift (entries ns) (length body - at) = rw f at e in
-    rw (← often) (record { rows = part-back t ys k rest (repetitions body line (membersOf (drop i (headsOf x))) most 0 at n .rows) is (w .rows); count = w .count; end = w .end; times = w .times })
+    rw (← often) (record {
+      rows = part-back t ys k rest (repetitions body line (membersOf (drop i (headsOf x))) most 0 at n .rows) is (w .rows);
+      count =
+          w .count;
+      end = w .end;
+      times = w .times;
+    })
 
 pub ruleset group-laws = (group-part)

@@ -35,8 +35,10 @@ use Rattle.command_groups.proofs.Answers.{is-read, is-absent}
 pub record Members (t body : List ℕ) (count i start n : ℕ) (d₀ d kept : List ℕ) (have at next j : ℕ) : Type 0 where
   pub es : List Earlier
   pub kept-are : Kept kept have es
-  pub rows : written d next (members body (membersOf (drop j (headsOf t))) at es (n + next) n .rows) ≡ written d₀ 0 (members body (membersOf (drop i (headsOf t))) start [] n n .rows)
-  pub count-is : next + length (members body (membersOf (drop j (headsOf t))) at es (n + next) n .rows) ≡ length (members body (membersOf (drop i (headsOf t))) start [] n n .rows)
+  pub rows : written d next (members body (membersOf (drop j (headsOf t))) at es (n + next) n .rows)
+      ≡ written d₀ 0 (members body (membersOf (drop i (headsOf t))) start [] n n .rows)
+  pub count-is : next + length (members body (membersOf (drop j (headsOf t))) at es (n + next) n .rows)
+      ≡ length (members body (membersOf (drop i (headsOf t))) start [] n n .rows)
   pub end : members body (membersOf (drop j (headsOf t))) at es (n + next) n .end ≡ members body (membersOf (drop i (headsOf t))) start [] n n .end
   pub few : length (members body (membersOf (drop i (headsOf t))) start [] n n .rows) < 2 ^ 40
   pub within : j ≤ count
@@ -44,7 +46,8 @@ pub record Members (t body : List ℕ) (count i start n : ℕ) (d₀ d kept : Li
   pub same-kept : length kept ≡ 256
 
 module _ (t l body : List ℕ) (count i n : ℕ) (loaded : IsLoaded t l count) where
-  pub members-start : (start : ℕ) (d₀ kept : List ℕ) → i ≤ count → length body < 65536 → length kept ≡ 256 → Members t body count i start n d₀ d₀ kept 0 start 0 i
+  pub members-start : (start : ℕ) (d₀ kept : List ℕ) → i ≤ count → length body < 65536 → length kept ≡ 256
+      → Members t body count i start n d₀ d₀ kept 0 start 0 i
   members-start start d₀ kept h u size =
       let b = members-bound body (membersOf (drop i (headsOf t))) start [] n n (members-small t l count loaded i) in
       let b1 = b .inside in
@@ -61,8 +64,10 @@ module _ (t l body : List ℕ) (count i n : ℕ) (loaded : IsLoaded t l count) w
         same-kept = size;
       }
 
-  module _ (start : ℕ) (d₀ d kept : List ℕ) (have : ℕ) (o : BodyOffset) (next j : ℕ) (g : Members t body count i start n d₀ d kept have (o .0) next j) where
-    none-left : membersOf (drop j (headsOf t)) ≡ [] → Gives (members body (membersOf (drop i (headsOf t))) start [] n n) d₀ 0 d (record { end = o; count = next })
+  module _ (start : ℕ) (d₀ d kept : List ℕ) (have : ℕ) (o : BodyOffset) (next j : ℕ)
+      (g : Members t body count i start n d₀ d kept have (o .0) next j) where
+    none-left : membersOf (drop j (headsOf t)) ≡ [] → Gives (members body (membersOf (drop i (headsOf t))) start [] n n) d₀ 0 d
+        (record { end = o; count = next })
     unfolding members
     none-left e =
         record {
@@ -93,7 +98,8 @@ module _ (t l body : List ℕ) (count i n : ℕ) (loaded : IsLoaded t l count) w
 
     -- a member
     module _ (p : Parameter) (rest : membersOf (drop j (headsOf t)) ≡ p ∷ membersOf (drop (j + 1) (headsOf t))) (h : j < count) where
-      absent : sizeAt body (fieldOf p) (g .es) (o .0) ≡ Missing → (d′ : List ℕ) → d′ ≡ d → Gives (members body (membersOf (drop i (headsOf t))) start [] n n) d₀ 0 d′ (record { end = o; count = next })
+      absent : sizeAt body (fieldOf p) (g .es) (o .0) ≡ Missing → (d′ : List ℕ) → d′ ≡ d
+          → Gives (members body (membersOf (drop i (headsOf t))) start [] n n) d₀ 0 d′ (record { end = o; count = next })
       unfolding members
       absent e d′ ed =
           let nothing : members body (membersOf (drop j (headsOf t))) (o .0) (g .es) (n + next) n ≡ ended (o .0) = rw (rest, e) refl in
@@ -112,24 +118,29 @@ module _ (t l body : List ℕ) (count i n : ℕ) (loaded : IsLoaded t l count) w
             let z : n + (next + c) ≡ n + next + length (paramRows body (fieldOf p) (o .0) (w .size) (n + next) n) = let b = w .count in omega arith in
             rw (rest, w .there, z, w .end) refl
 
-        all-count : next + (length (paramRows body (fieldOf p) (o .0) (w .size) (n + next) n) + length (members body (membersOf (drop (j + 1) (headsOf t))) (e .0) (g .es ++ (paramEntry body (o .0) (w .size) ∷ [])) (n + (next + c)) n .rows))
+        all-count : next + (length (paramRows body (fieldOf p) (o .0) (w .size) (n + next) n) + length
+            (members body (membersOf (drop (j + 1) (headsOf t))) (e .0) (g .es ++ (paramEntry body (o .0) (w .size) ∷ [])) (n + (next + c)) n .rows))
             ≡ length (members body (membersOf (drop i (headsOf t))) start [] n n .rows)
         all-count = rw (one-more, length-append) at (g .count-is)
 
         small : Fits w64 (next + c)
         small = let a = g .few in let b = w .count in omega (arith, all-count)
 
-        taken : (kept′ : List ℕ) (have′ : ℕ) → kept′ ≡ set kept have y → have′ ≡ least (have + 1) 256 → Members t body count i start n d₀ d′ kept′ have′ (e .0) (next + c) (j + 1)
+        taken : (kept′ : List ℕ) (have′ : ℕ) → kept′ ≡ set kept have y → have′ ≡ least (have + 1) 256
+            → Members t body count i start n d₀ d′ kept′ have′ (e .0) (next + c) (j + 1)
         taken kept′ have′ ek eh =
             let b = w .count in
-            let r : written d next (paramRows body (fieldOf p) (o .0) (w .size) (n + next) n ++ members body (membersOf (drop (j + 1) (headsOf t))) (e .0) (g .es ++ (paramEntry body (o .0) (w .size) ∷ [])) (n + (next + c)) n .rows)
+            let r : written d next (paramRows body (fieldOf p) (o .0) (w .size) (n + next) n
+            ++ members body (membersOf (drop (j + 1) (headsOf t))) (e .0) (g .es ++ (paramEntry body (o .0) (w .size) ∷ [])) (n + (next + c)) n .rows)
             ≡ written d₀ 0 (members body (membersOf (drop i (headsOf t))) start [] n n .rows) = rw one-more at (g .rows) in
             let s : next + c ≡ next + length (paramRows body (fieldOf p) (o .0) (w .size) (n + next) n) = omega arith in
             record {
               es = g .es ++ (paramEntry body (o .0) (w .size) ∷ []);
               kept-are = rw (ek, eh) (kept-push kept (g .es) have y (paramEntry body (o .0) (w .size)) (w .entry) (g .kept-are));
               rows = rw (w .rows)
-                  (written-more d next (paramRows body (fieldOf p) (o .0) (w .size) (n + next) n) (members body (membersOf (drop (j + 1) (headsOf t))) (e .0) (g .es ++ (paramEntry body (o .0) (w .size) ∷ [])) (n + (next + c)) n .rows) (next + c) s ∙ r);
+                  (written-more d next (paramRows body (fieldOf p) (o .0) (w .size) (n + next) n)
+                  (members body (membersOf (drop (j + 1) (headsOf t))) (e .0) (g .es ++ (paramEntry body (o .0) (w .size) ∷ [])) (n + (next + c)) n .rows)
+                  (next + c) s ∙ r);
               count-is = omega (arith, all-count);
               end = rw one-more at (g .end);
               few = g .few;
@@ -150,9 +161,13 @@ module _ (t l body : List ℕ) (count i n : ℕ) (loaded : IsLoaded t l count) w
 
       module _ (e : BodyOffset) (y c : ℕ) (f : r ≡ Read e y c) where
         pub members-fits : Fits w64 (next + c)
-        members-fits = small (m .param) (m .rest) h d′ e y c (is-read t q (m .param) (m .is) body kept (g .es) have (g .kept-are) (o .0) (n + next) n d next d′ r given e y c f)
+        members-fits = small (m .param) (m .rest) h d′ e y c
+            (is-read t q (m .param) (m .is) body kept (g .es) have (g .kept-are) (o .0) (n + next) n d next d′ r given e y c f)
 
-        pub members-take : (kept′ : List ℕ) (have′ : ℕ) → kept′ ≡ set kept have y → have′ ≡ least (have + 1) 256 → Members t body count i start n d₀ d′ kept′ have′ (e .0) (next + c) (j + 1)
-        members-take = taken (m .param) (m .rest) h d′ e y c (is-read t q (m .param) (m .is) body kept (g .es) have (g .kept-are) (o .0) (n + next) n d next d′ r given e y c f)
+        pub members-take : (kept′ : List ℕ) (have′ : ℕ) → kept′ ≡ set kept have y → have′ ≡ least (have + 1) 256
+            → Members t body count i start n d₀ d′ kept′ have′ (e .0) (next + c) (j + 1)
+        members-take = taken (m .param) (m .rest) h d′ e y c
+            (is-read t q (m .param) (m .is) body kept (g .es) have (g .kept-are) (o .0) (n + next) n d next d′ r given e y c f)
 
-pub ruleset members-laws = (members-start, members-part, members-end, members-low, members-next-low, members-stop, members-stands, members-missing, members-fits, members-take)
+pub ruleset members-laws =
+    (members-start, members-part, members-end, members-low, members-next-low, members-stop, members-stands, members-missing, members-fits, members-take)

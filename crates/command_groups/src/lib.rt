@@ -75,7 +75,8 @@ pub fn param_at(
     n: usize,
 ) -> Param
     requires { ⌜ (Stands (now text) q) × (length (now body) < 65536) × (n < 2 ^ 50) × (k < 2 ^ 50) ⌝ }
-    ensures { λ r. ⌜ ReadsParam (now (body .entry)) (fieldIn (now (text .entry)) q) (entries (now (es .entry))) (at .0) n parent (now (rows .entry)) k (now (rows .exit)) r ⌝ }
+    ensures { λ r. ⌜ ReadsParam (now (body .entry)) (fieldIn (now (text .entry)) q) (entries (now (es .entry))) (at .0) n parent (now (rows .entry)) k
+        (now (rows .exit)) r ⌝ }
 {
     let rest = command_rows::row_at(k, rows.len());
     command_param::decode_param(text, q, body, at, es, parent, &mut rows[rest..], n)
@@ -95,7 +96,8 @@ fn read_members(
     n: usize,
 ) -> Taken
     requires { ⌜ (IsLoaded (now text) (now loaded) count) × (i ≤ count) × (length (now body) < 65536) × (length (now kept) ≡ 256) × (n < 2 ^ 49) ⌝ }
-    ensures { λ r. ⌜ Gives (members (now (body .entry)) (membersOf (drop i (headsOf (now (text .entry))))) (start .0) [] n n) (now (rows .entry)) 0 (now (rows .exit)) r ⌝ }
+    ensures { λ r. ⌜ Gives (members (now (body .entry)) (membersOf (drop i (headsOf (now (text .entry))))) (start .0) [] n n) (now (rows .entry)) 0
+        (now (rows .exit)) r ⌝ }
 {
     let mut have: usize = 0;
     let mut at = start;
@@ -174,7 +176,8 @@ fn members_at(
     n: usize,
 ) -> Taken
     requires { ⌜ (IsLoaded (now text) (now loaded) count) × (i ≤ count) × (length (now body) < 65536) × (length (now kept) ≡ 256) × (n < 2 ^ 48) ⌝ }
-    ensures { λ r. ⌜ Gives (turn (now (body .entry)) (membersOf (drop i (headsOf (now (text .entry))))) (at .0) n) (now (rows .entry)) 1 (now (rows .exit)) r ⌝ }
+    ensures { λ r. ⌜ Gives (turn (now (body .entry)) (membersOf (drop i (headsOf (now (text .entry))))) (at .0) n) (now (rows .entry)) 1
+        (now (rows .exit)) r ⌝ }
 {
     let rest = command_rows::row_at(1, rows.len());
     read_members(
@@ -205,7 +208,8 @@ fn read_repetition(
     n: usize,
 ) -> Repetition
     requires { ⌜ (IsLoaded (now text) (now loaded) count) × (i ≤ count) × (length (now body) < 65536) × (length (now kept) ≡ 256) × (n < 2 ^ 48) ⌝ }
-    ensures { λ r. ⌜ Repeats (now (body .entry)) line (membersOf (drop i (headsOf (now (text .entry))))) number (at .0) n (now (rows .entry)) 0 (now (rows .exit)) r ⌝ }
+    ensures { λ r. ⌜ Repeats (now (body .entry)) line (membersOf (drop i (headsOf (now (text .entry))))) number (at .0) n (now (rows .entry)) 0
+        (now (rows .exit)) r ⌝ }
 {
     let taken = members_at(text, loaded, count, i, body, at, kept, rows, n);
     let end = taken.end;
@@ -234,8 +238,10 @@ fn repetition_at(
     k: usize,
     n: usize,
 ) -> Repetition
-    requires { ⌜ (IsLoaded (now text) (now loaded) count) × (i ≤ count) × (length (now body) < 65536) × (length (now kept) ≡ 256) × (n < 2 ^ 48) × (k < 2 ^ 50) ⌝ }
-    ensures { λ r. ⌜ Repeats (now (body .entry)) line (membersOf (drop i (headsOf (now (text .entry))))) number (at .0) n (now (rows .entry)) k (now (rows .exit)) r ⌝ }
+    requires { ⌜ (IsLoaded (now text) (now loaded) count) × (i ≤ count) × (length (now body) < 65536) × (length (now kept) ≡ 256) × (n < 2 ^ 48)
+        × (k < 2 ^ 50) ⌝ }
+    ensures { λ r. ⌜ Repeats (now (body .entry)) line (membersOf (drop i (headsOf (now (text .entry))))) number (at .0) n (now (rows .entry)) k
+        (now (rows .exit)) r ⌝ }
 {
     let rest = command_rows::row_at(k, rows.len());
     read_repetition(
@@ -267,7 +273,8 @@ fn read_group(
     n: usize,
 ) -> Repeated
     requires { ⌜ (IsLoaded (now text) (now loaded) count) × (i ≤ count) × (length (now body) < 65536) × (n < 2 ^ 47) ⌝ }
-    ensures { λ r. ⌜ GivesGroup (repetitions (now (body .entry)) line (membersOf (drop i (headsOf (now (text .entry))))) most 0 (start .0) n) (now (rows .entry)) 0 (now (rows .exit)) r ⌝ }
+    ensures { λ r. ⌜ GivesGroup (repetitions (now (body .entry)) line (membersOf (drop i (headsOf (now (text .entry))))) most 0 (start .0) n)
+        (now (rows .entry)) 0 (now (rows .exit)) r ⌝ }
 {
     let mut kept = [0u16; 256];
     let mut from = start;
@@ -319,7 +326,9 @@ pub fn group_at(
     k: usize,
 ) -> Repeated
     requires { ⌜ (IsLoaded (now text) (now loaded) count) × (i ≤ count) × (length (now body) < 65536) × (k < 2 ^ 47) ⌝ }
-    ensures { λ r. ⌜ GivesGroup (repetitions (now (body .entry)) (g .line) (membersOf (drop i (headsOf (now (text .entry))))) (repeats (g .paramoffs) (g .sizemask) (record { 0 = g .sizeoffs }) (entries (now (es .entry))) (length (now (body .entry)) - at .0)) 0 (at .0) k) (now (rows .entry)) k (now (rows .exit)) r ⌝ }
+    ensures { λ r. ⌜ GivesGroup (repetitions (now (body .entry)) (g .line) (membersOf (drop i (headsOf (now (text .entry)))))
+        (repeats (g .paramoffs) (g .sizemask) (record { 0 = g .sizeoffs }) (entries (now (es .entry))) (length (now (body .entry)) - at .0)) 0 (at .0) k)
+        (now (rows .entry)) k (now (rows .exit)) r ⌝ }
 {
     let rest = command_param::remaining(body, at);
     let most = command_lengths::repeats_of(

@@ -110,7 +110,8 @@ module _ (rule : Rule) (es : List Earlier) where
   pub wanted-open : rule ≡ Open → Rest ≡ wanted rule es
   wanted-open q = rw q
 
-  pub wanted-counted : (k mask : ℕ) (shift : BitOffset) (e : Earlier) (r : Wanted) → rule ≡ Counted k mask shift → e ≡ entryAt es k → r ≡ byEntry mask shift e → r ≡ wanted rule es
+  pub wanted-counted : (k mask : ℕ) (shift : BitOffset) (e : Earlier) (r : Wanted) → rule ≡ Counted k mask shift → e ≡ entryAt es k
+      → r ≡ byEntry mask shift e → r ≡ wanted rule es
   wanted-counted k mask shift e r q ee er = er ∙ ap (byEntry mask shift) ee ∙ rw q
 
 module _ (w : Wanted) (rest : ℕ) where
@@ -154,7 +155,8 @@ module _ (offset mask : ℕ) (shift : BitOffset) (es : List Earlier) (rest : ℕ
     unfolding repeats
     repeats-0 h = rw (ne-eqb offset 255 other, eq-eqb mask 0 h)
 
-    pub repeats-counted : (e : Earlier) (r : ℕ) → e ≡ entryAt es offset → r ≡ counted mask shift e → (mask ≡ 0 → ⊥) → r ≡ repeats offset mask shift es rest
+    pub repeats-counted : (e : Earlier) (r : ℕ) → e ≡ entryAt es offset → r ≡ counted mask shift e → (mask ≡ 0 → ⊥)
+        → r ≡ repeats offset mask shift es rest
     unfolding repeats
     repeats-counted e r ee er h = er ∙ ap (counted mask shift) ee ∙ rw (ne-eqb offset 255 other, ne-eqb mask 0 h)
 
@@ -176,13 +178,48 @@ wanted-first (Fixed n) es = refl
 wanted-first Open es = refl
 wanted-first (Counted k mask shift) es = ap (byEntry mask shift) (entry-first es k)
 
-pub size-first : (offset mask : Option ℕ) (rule : Rule) (es : List Earlier) (rest : ℕ) → sizeOf offset mask rule (take 256 es) rest ≡ sizeOf offset mask rule es rest
+pub size-first : (offset mask : Option ℕ) (rule : Rule) (es : List Earlier) (rest : ℕ)
+    → sizeOf offset mask rule (take 256 es) rest ≡ sizeOf offset mask rule es rest
 unfolding sizeOf
 size-first offset mask rule es rest = rw (holds-first offset mask es, wanted-first rule es) refl
 
-pub repeats-first : (offset mask : ℕ) (shift : BitOffset) (es : List Earlier) (rest : ℕ) → repeats offset mask shift (take 256 es) rest ≡ repeats offset mask shift es rest
+pub repeats-first : (offset mask : ℕ) (shift : BitOffset) (es : List Earlier) (rest : ℕ)
+    → repeats offset mask shift (take 256 es) rest ≡ repeats offset mask shift es rest
 unfolding repeats
 repeats-first offset mask shift es rest = ap (λ (e : Earlier). cond (eqb offset 255 || eqb mask 0) rest (counted mask shift e)) (entry-first es offset)
 
 -- what the proofs of the functions go by
-pub ruleset laws = (earlier-value, earlier-none, earlier-not, entry-far, entry-past, entry-is, meets-value, meets-none, meets-nothing, holds-no-offset, holds-no-mask, holds-is, masked-far, by-value, by-none, by-nothing, count-value, count-none, count-nothing, wanted-fixed, wanted-open, wanted-counted, cut-rest, cut-less, cut-more, size-none, size-absent, size-zero, size-is, repeats-255, repeats-0, repeats-counted)
+pub ruleset laws = (
+  earlier-value,
+  earlier-none,
+  earlier-not,
+  entry-far,
+  entry-past,
+  entry-is,
+  meets-value,
+  meets-none,
+  meets-nothing,
+  holds-no-offset,
+  holds-no-mask,
+  holds-is,
+  masked-far,
+  by-value,
+  by-none,
+  by-nothing,
+  count-value,
+  count-none,
+  count-nothing,
+  wanted-fixed,
+  wanted-open,
+  wanted-counted,
+  cut-rest,
+  cut-less,
+  cut-more,
+  size-none,
+  size-absent,
+  size-zero,
+  size-is,
+  repeats-255,
+  repeats-0,
+  repeats-counted,
+)

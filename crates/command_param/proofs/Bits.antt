@@ -42,13 +42,15 @@ module _ (b : ℕ) (l : Line) where
   bit-set h e = rw (eq-eqb (l .kind) 84 h, ne-eqb (bitAnd b (l .mask)) 0 e)
 
 pub bit-row-is : (b number parent start v : ℕ) (l : Line) → v ≡ bitNumber b l
-    → _≡_ {A = Row} (record { kind = 1; line = number; parent = parent; start = start; end = start + 1; valued = 1; value = v; named = 0; number = 0 }) (bitRow number parent start (bitNumber b l))
+    → _≡_ {A = Row} (record { kind = 1; line = number; parent = parent; start = start; end = start + 1; valued = 1; value = v; named = 0; number = 0 })
+    (bitRow number parent start (bitNumber b l))
 bit-row-is b number parent start v l e = rw e refl
 
 pub ruleset line-laws = (bit-other, bit-clear, bit-set, bit-row-is, among-laws)
 
 -- what a line says, by its numbers
-bit-said : (b : ℕ) (x : Record) (l : Line) → l .kind ≡ letter x → Says x l → among 84 83 85 (l .kind) ≡ true → bitValue b x ≡ some (bitNumber b l)
+bit-said : (b : ℕ) (x : Record) (l : Line) → l .kind ≡ letter x → Says x l → among 84 83 85 (l .kind) ≡ true
+    → bitValue b x ≡ some (bitNumber b l)
 bit-said b (param q) l k s h = absurd (let z : _≡_ {A = Bool} false true = rw k at h in let w : _≡_ {A = ℕ} 0 1 = cc in omega arith)
 bit-said b (group g) l k s h = absurd (let z : _≡_ {A = Bool} false true = rw k at h in let w : _≡_ {A = ℕ} 0 1 = cc in omega arith)
 bit-said b (variant v) l k s h = absurd (let z : _≡_ {A = Bool} false true = rw k at h in let w : _≡_ {A = ℕ} 0 1 = cc in omega arith)
@@ -102,7 +104,8 @@ module _ (t : List ℕ) (q : Loaded) (b parent start : ℕ) (stands : Stands t q
         same = refl;
       })
 
-module _ (t : List ℕ) (p₀ : Place) (b parent start total : ℕ) (d₀ d : List ℕ) (p : Place) (k : ℕ) (g : Children t p₀ b parent start total d₀ d p k) where
+module _ (t : List ℕ) (p₀ : Place) (b parent start total : ℕ) (d₀ d : List ℕ) (p : Place) (k : ℕ)
+    (g : Children t p₀ b parent start total d₀ d p k) where
   pub children-done : (q : Loaded) → p₀ ≡ after q → total ≤ k → Writes d₀ 0 (bitRows b parent start (under (from t (after q)))) d total
   children-done q e h =
       let c = g .count in
@@ -143,17 +146,27 @@ module _ (t : List ℕ) (p₀ : Place) (b parent start total : ℕ) (d₀ d : Li
         children-pass f =
             let same-rows : bitRows b parent start (under (from t p)) ≡ bitRows b parent start (under (from t (read .next))) =
             rw (under-is, no-bit-said b (is-read .said) (read .row) (is-read .kind) (sym is-x ∙ f)) refl in
-            record { readable = is-read .next; rows = rw same-rows at (g .rows); count = rw same-rows at (g .count); all = g .all; few = g .few; same = g .same }
+            record {
+              readable = is-read .next;
+              rows = rw same-rows at (g .rows);
+              count = rw same-rows at (g .count);
+              all = g .all;
+              few = g .few;
+              same =
+                  g .same;
+            }
 
         -- a T, S or U
-        module _ (row : Row) (d′ : List ℕ) (is-row : row ≡ bitRow (p .line) parent start (bitNumber b (read .row))) (wrote : d′ ≡ written d k (row ∷ [])) where
+        module _ (row : Row) (d′ : List ℕ) (is-row : row ≡ bitRow (p .line) parent start (bitNumber b (read .row)))
+            (wrote : d′ ≡ written d k (row ∷ [])) where
           pub children-more : x ≡ true → Children t p₀ b parent start total d₀ d′ (read .next) (k + 1)
           unfolding bitRows
           children-more f =
               let one-more : bitRows b parent start (under (from t p)) ≡ row ∷ bitRows b parent start (under (from t (read .next))) =
               rw (under-is, bit-said b (is-read .said) (read .row) (is-read .kind) (is-read .says) (sym is-x ∙ f), is-row) refl in
               let c : k + suc (length (bitRows b parent start (under (from t (read .next))))) ≡ total = rw one-more at (g .count) in
-              let r : written d k (row ∷ bitRows b parent start (under (from t (read .next)))) ≡ written d₀ 0 (bitRows b parent start (under (from t p₀))) = rw one-more at (g .rows) in
+              let r : written d k (row ∷ bitRows b parent start (under (from t (read .next))))
+              ≡ written d₀ 0 (bitRows b parent start (under (from t p₀))) = rw one-more at (g .rows) in
               record {
                 readable = is-read .next;
                 rows = rw wrote (written-more d k (row ∷ []) (bitRows b parent start (under (from t (read .next)))) (k + 1) refl ∙ r);

@@ -21,15 +21,28 @@ use Rattle.command_schema.specs.declared.Loaded.{Loaded}
 use Rattle.command_rows.specs.Rows.{written, rowAt, Writes}
 use Rattle.command_rules.specs.declared.Row.{Row}
 use Rattle.command_rows.proofs.Laws.{written-none, written-full, written-more, part-back}
-use Rattle.command_rules.specs.Param.{inPayload, valueOf, valued, orZero, constLine, entryOf, bitRows, childRows, rowOf, bytesAt, sizeAt, paramRows, paramEntry}
+use Rattle.command_rules.specs.Param.{inPayload, valueOf, valued, orZero, constLine, entryOf, bitRows, childRows, rowOf, bytesAt, sizeAt, paramRows}
+use Rattle.command_rules.specs.Param.{paramEntry}
 use Rattle.command_param.specs.Steps.{WritesParam, ReadsParam}
 use Rattle.command_rules.specs.declared.Uint.{Uint}
 use Rattle.command_param.specs.declared.Param.the-variants.{Read, Absent}
 use Rattle.command_param.specs.declared.Wrote.{Wrote}
 
 -- ---- its own row
-pub row-is : (t : List ℕ) (q : Loaded) (bs : List ℕ) (start parent : ℕ) (value : Uint) (a v k : ℕ) → value ≡ valueOf bs → a ≡ valued value → v ≡ orZero value → k ≡ constLine (fieldIn t q) value
-    → _≡_ {A = Row} (record { kind = 0; line = q .line; parent = parent; start = start; end = start + length bs; valued = a; value = v; named = k; number = 0 }) (rowOf (fieldIn t q) parent start bs)
+pub row-is : (t : List ℕ) (q : Loaded) (bs : List ℕ) (start parent : ℕ) (value : Uint) (a v k : ℕ) → value ≡ valueOf bs → a ≡ valued value
+    → v ≡ orZero value → k ≡ constLine (fieldIn t q) value
+    → _≡_ {A = Row} (record {
+      kind = 0;
+      line = q .line;
+      parent = parent;
+      start = start;
+      end = start + length bs;
+      valued = a;
+      value = v;
+      named =
+          k;
+      number = 0;
+    }) (rowOf (fieldIn t q) parent start bs)
 row-is t q bs start parent value a v k is-value ea ev ek = rw (ea, ev, ek, is-value) refl
 
 -- ---- its children
@@ -37,7 +50,8 @@ module _ (q : Field) (bs d : List ℕ) (start parent : ℕ) where
   pub no-children : (length bs ≡ 1 → ⊥) → Writes d 1 (childRows q parent start bs) d 0
   no-children h = rw (ne-eqb (length bs) 1 h) (record { rows = sym (written-none d 1); count = refl })
 
-pub part-children : (t : List ℕ) (q : Loaded) (bs d ys : List ℕ) (start parent rest b c : ℕ) → Writes (take (length d - rest) (drop rest d)) 0 (bitRows b parent start (under (from t (after q)))) ys c
+pub part-children : (t : List ℕ) (q : Loaded) (bs d ys : List ℕ) (start parent rest b c : ℕ)
+    → Writes (take (length d - rest) (drop rest d)) 0 (bitRows b parent start (under (from t (after q)))) ys c
     → rest ≡ rowAt 1 (length d) → b ≡ getD bs 0 0 → length bs ≡ 1
     → Writes d 1 (childRows (fieldIn t q) parent start bs) (take rest d ++ (ys ++ drop (length d - rest) (drop rest d))) c
 part-children t q bs d ys start parent rest b c w er eb h =
@@ -74,7 +88,8 @@ module _ (t : List ℕ) (q : Loaded) (body : List ℕ) (at size n parent start :
       let own : d ≡ written d₀ 0 (rowOf (fieldIn t q) parent (inPayload at) (take size (drop at body)) ∷ []) = rw (b, es) at ed in
       let c-is : c ≡ length (childRows (fieldIn t q) (n + 1) (inPayload at) (take size (drop at body))) = rw (b, es) at (w .count) in
       record {
-        rows = kids ∙ rw own (written-more d₀ 0 (rowOf (fieldIn t q) parent (inPayload at) (take size (drop at body)) ∷ []) (childRows (fieldIn t q) (n + 1) (inPayload at) (take size (drop at body))) 1 refl);
+        rows = kids ∙ rw own (written-more d₀ 0 (rowOf (fieldIn t q) parent (inPayload at) (take size (drop at body)) ∷ [])
+            (childRows (fieldIn t q) (n + 1) (inPayload at) (take size (drop at body))) 1 refl);
         count = omega arith;
         entry = ee ∙ ap entryOf (ev ∙ ap valueOf b);
       }
@@ -83,7 +98,8 @@ pub ruleset written-laws = (param-written)
 
 -- ---- a Q at a place of the body
 module _ (t : List ℕ) (q : Loaded) (body ns : List ℕ) (at n parent : ℕ) (d : List ℕ) (rest : ℕ) (rule : Rule) (s : Size)
-    (is-s : s ≡ sizeOf (given (q .optionaloffs)) (given (q .optionalmask)) rule (entries ns) rest) (is-rule : rule ≡ ruleIn q) (is-rest : rest ≡ length body - at) where
+    (is-s : s ≡ sizeOf (given (q .optionaloffs)) (given (q .optionalmask)) rule (entries ns) rest) (is-rule : rule ≡ ruleIn q)
+    (is-rest : rest ≡ length body - at) where
   here : s ≡ sizeAt body (fieldIn t q) (entries ns) at
   here = rw (is-rule, is-rest) at is-s
 
@@ -103,7 +119,8 @@ module _ (t : List ℕ) (q : Loaded) (body ns : List ℕ) (at n parent : ℕ) (d
     pub param-end-fits : length body < 65536 → Fits w64 (at + size)
     param-end-fits h = omega (arith, param-inside)
 
-    pub param-read : (d′ : List ℕ) (w : Wrote) → WritesParam body (fieldIn t q) at size n parent d d′ w → ReadsParam body (fieldIn t q) (entries ns) at n parent d 0 d′ (Read (record { 0 = at + size }) (w .entry) (w .count))
+    pub param-read : (d′ : List ℕ) (w : Wrote) → WritesParam body (fieldIn t q) at size n parent d d′ w
+        → ReadsParam body (fieldIn t q) (entries ns) at n parent d 0 d′ (Read (record { 0 = at + size }) (w .entry) (w .count))
     param-read d′ w wrote = record { size = size; there = there; end = refl; entry = wrote .entry; count = wrote .count; rows = wrote .rows }
 
 pub remaining-none : (size at : ℕ) → size ≤ at → 0 ≡ size - at

@@ -86,7 +86,8 @@ module _ (value : Uint) where
     pub const-other : (v : ℕ) → value ≡ Is v → (q .named ≡ 1 → ⊥) → 0 ≡ constLine (fieldIn t q) value
     const-other v e h = rw (e, ne-eqb (q .named) 1 h)
 
-    pub const-is : (v low : ℕ) (p : Place) (r : ℕ) → p ≡ after q → low ≡ v % 256 → r ≡ firstConst low (under (from t p)) → value ≡ Is v → q .named ≡ 1 → r ≡ constLine (fieldIn t q) value
+    pub const-is : (v low : ℕ) (p : Place) (r : ℕ) → p ≡ after q → low ≡ v % 256 → r ≡ firstConst low (under (from t p)) → value ≡ Is v
+        → q .named ≡ 1 → r ≡ constLine (fieldIn t q) value
     const-is v low p r ep el er e h = rw (e, eq-eqb (q .named) 1 h, ← el) (rw ep at er)
 
 -- the place after the line of a Q

@@ -233,7 +233,8 @@ fn write_children(
     rows: &mut [u64],
 ) -> usize
     requires { ⌜ (Stands (now text) q) × (start .0 < 2 ^ 62) ⌝ }
-    ensures { λ r. ⌜ Writes (now (rows .entry)) 1 (childRows (fieldIn (now (text .entry)) q) parent (start .0) (now (bytes .entry))) (now (rows .exit)) r ⌝ }
+    ensures { λ r. ⌜ Writes (now (rows .entry)) 1 (childRows (fieldIn (now (text .entry)) q) parent (start .0) (now (bytes .entry)))
+        (now (rows .exit)) r ⌝ }
     ensures { λ r. ⌜ r < 65536 ⌝ }
 {
     if bytes.len() != 1 {
@@ -254,7 +255,8 @@ fn write_own(
     rows: &mut [u64],
 )
     requires { ⌜ (Stands (now text) q) × (start .0 + length (now bytes) < 2 ^ 63) ⌝ }
-    ensures { λ _. ⌜ now (rows .exit) ≡ written (now (rows .entry)) 0 (rowOf (fieldIn (now (text .entry)) q) parent (start .0) (now (bytes .entry)) ∷ []) ⌝ }
+    ensures { λ _. ⌜ now (rows .exit) ≡ written (now (rows .entry)) 0
+        (rowOf (fieldIn (now (text .entry)) q) parent (start .0) (now (bytes .entry)) ∷ []) ⌝ }
 {
     if rows.len() < WIDTH {
         return;
@@ -310,7 +312,8 @@ pub fn decode_param(
     n: usize,
 ) -> Param
     requires { ⌜ (Stands (now text) q) × (length (now body) < 65536) × (n < 2 ^ 50) ⌝ }
-    ensures { λ r. ⌜ ReadsParam (now (body .entry)) (fieldIn (now (text .entry)) q) (entries (now (es .entry))) (at .0) n parent (now (rows .entry)) 0 (now (rows .exit)) r ⌝ }
+    ensures { λ r. ⌜ ReadsParam (now (body .entry)) (fieldIn (now (text .entry)) q) (entries (now (es .entry))) (at .0) n parent (now (rows .entry)) 0
+        (now (rows .exit)) r ⌝ }
 {
     let rest = remaining(body, at);
     let Size::Bytes(size) = command_lengths::size_of(

@@ -22,7 +22,8 @@ map-append (r ∷ rs) ss = ap (λ (l : List (List ℕ)). numbers r ∷ l) (map-a
 
 -- ---- write_row, row_at
 
-pub write-one : (t : List ℕ) (k : ℕ) (row : Row) (ns t′ : List ℕ) → ns ≡ numbers row → t′ ≡ put t (k * 9) ns → t′ ≡ written t k (row ∷ [])
+pub write-one : (t : List ℕ) (k : ℕ) (row : Row) (ns t′ : List ℕ) → ns ≡ numbers row → t′ ≡ put t (k * 9) ns
+    → t′ ≡ written t k (row ∷ [])
 unfolding written puts
 write-one t k row ns t′ en et = rw en at et
 

@@ -31,7 +31,8 @@ stays b size at = record { forward = omega arith; inside = omega arith; few = om
 
 -- what a Q takes, and how many rows it has
 pub size-facts : (body : List ℕ) (q : Field) (es : List Earlier) (at n : ℕ) → sizeAt body q es at ≡ Bytes n → (0 < n) × (n ≤ length body - at)
-size-facts body q es at n e = (size-some (q .offset) (q .mask) (q .rule) es (length body - at) n e, size-within (q .offset) (q .mask) (q .rule) es (length body - at) n e)
+size-facts body q es at n e =
+    (size-some (q .offset) (q .mask) (q .rule) es (length body - at) n e, size-within (q .offset) (q .mask) (q .rule) es (length body - at) n e)
 
 params-few : (body : List ℕ) (q : Parameter) (at size n parent : ℕ) → Small q → length (paramRows body (fieldOf q) at size n parent) ≤ 33
 unfolding paramRows
@@ -41,14 +42,17 @@ params-few body q at size n parent small = go (eqb (length (bytesAt body at size
     go true = omega (arith, bits-count (getD (bytesAt body at size) 0 0) (n + 1) (inPayload at) (q .items))
     go false = omega arith
 
-pub members-bound : (body : List ℕ) (qs : List Parameter) (at : ℕ) (es : List Earlier) (n parent : ℕ) → SmallAll qs → Bound 33 (length body) at (members body qs at es n parent)
+pub members-bound : (body : List ℕ) (qs : List Parameter) (at : ℕ) (es : List Earlier) (n parent : ℕ) → SmallAll qs
+    → Bound 33 (length body) at (members body qs at es n parent)
 unfolding members SmallAll
 members-bound body [] at es n parent small = stays 33 (length body) at
 members-bound body (q ∷ qs) at es n parent small =
-    go (sizeAt body (fieldOf q) es at) refl (λ size. members-bound body qs (at + size) (es ++ (paramEntry body at size ∷ [])) (n + length (paramRows body (fieldOf q) at size n parent)) parent (small .1))
+    go (sizeAt body (fieldOf q) es at) refl (λ size. members-bound body qs (at + size) (es ++ (paramEntry body at size ∷ []))
+    (n + length (paramRows body (fieldOf q) at size n parent)) parent (small .1))
   where
     go : (s : Size) → sizeAt body (fieldOf q) es at ≡ s
-        → ((size : ℕ) → Bound 33 (length body) (at + size) (members body qs (at + size) (es ++ (paramEntry body at size ∷ [])) (n + length (paramRows body (fieldOf q) at size n parent)) parent))
+        → ((size : ℕ) → Bound 33 (length body) (at + size)
+        (members body qs (at + size) (es ++ (paramEntry body at size ∷ [])) (n + length (paramRows body (fieldOf q) at size n parent)) parent))
         → Bound 33 (length body) at
         (onSize s
         (λ size.
@@ -71,7 +75,8 @@ pub turn-bound : (body : List ℕ) (qs : List Parameter) (at n : ℕ) → SmallA
 unfolding turn
 turn-bound body qs at n small = members-bound body qs at [] (n + 1) (n + 1) small
 
-pub repetitions-bound : (body : List ℕ) (line : ℕ) (qs : List Parameter) (most k at n : ℕ) → SmallAll qs → Bound 34 (length body) at (repetitions body line qs most k at n)
+pub repetitions-bound : (body : List ℕ) (line : ℕ) (qs : List Parameter) (most k at n : ℕ) → SmallAll qs
+    → Bound 34 (length body) at (repetitions body line qs most k at n)
 unfolding repetitions
 repetitions-bound body line qs zero k at n small = stays 34 (length body) at
 repetitions-bound body line qs (suc most) k at n small =
@@ -80,11 +85,13 @@ repetitions-bound body line qs (suc most) k at n small =
     go : (m : Walked) → Bound 33 (length body) at m
         → ((m : Walked) → Bound 34 (length body) (m .end) (repetitions body line qs most (k + 1) (m .end) (n + 1 + length (m .rows))))
         → Bound 34 (length body) at
-        (cond (ltb at (m .end)) (after (repetitionRow line at (m .end) k ∷ m .rows) (once (repetitions body line qs most (k + 1) (m .end) (n + 1 + length (m .rows))))) (ended at))
+        (cond (ltb at (m .end)) (after (repetitionRow line at (m .end) k ∷ m .rows)
+        (once (repetitions body line qs most (k + 1) (m .end) (n + 1 + length (m .rows))))) (ended at))
     go m b more = by (ltb at (m .end)) refl
       where
         by : (t : Bool) → ltb at (m .end) ≡ t
-            → Bound 34 (length body) at (cond t (after (repetitionRow line at (m .end) k ∷ m .rows) (once (repetitions body line qs most (k + 1) (m .end) (n + 1 + length (m .rows))))) (ended at))
+            → Bound 34 (length body) at (cond t (after (repetitionRow line at (m .end) k ∷ m .rows)
+            (once (repetitions body line qs most (k + 1) (m .end) (n + 1 + length (m .rows))))) (ended at))
         by true e =
             let l = ltb-true at (m .end) e in
             let b1 = b .inside in
@@ -96,13 +103,15 @@ repetitions-bound body line qs (suc most) k at n small =
             record { forward = omega arith; inside = omega arith; few = rw length-append (omega arith) }
         by false e = stays 34 (length body) at
 
-pub outer-bound : (body : List ℕ) (ds : List Entry) (at : ℕ) (es : List Earlier) (n : ℕ) → SmallEntries ds → Bound 34 (length body) at (outer body ds at es n)
+pub outer-bound : (body : List ℕ) (ds : List Entry) (at : ℕ) (es : List Earlier) (n : ℕ) → SmallEntries ds
+    → Bound 34 (length body) at (outer body ds at es n)
 unfolding outer groupAt SmallEntries
 outer-bound body [] at es n small = stays 34 (length body) at
 outer-bound body (single q ∷ ds) at es n small =
     go (sizeAt body (fieldOf q) es at) refl (λ at′ es′ n′. outer-bound body ds at′ es′ n′ (small .1))
   where
-    go : (s : Size) → sizeAt body (fieldOf q) es at ≡ s → ((at′ : ℕ) (es′ : List Earlier) (n′ : ℕ) → Bound 34 (length body) at′ (outer body ds at′ es′ n′))
+    go : (s : Size) → sizeAt body (fieldOf q) es at ≡ s
+        → ((at′ : ℕ) (es′ : List Earlier) (n′ : ℕ) → Bound 34 (length body) at′ (outer body ds at′ es′ n′))
         → Bound 34 (length body) at
         (onSize s
         (λ size.
@@ -125,7 +134,8 @@ outer-bound body (repeated line g qs ∷ ds) at es n small =
     (repetitions-bound body line qs (repeats (g .offset) (g .mask) (record { 0 = g .shift }) es (length body - at)) 0 at n (small .0))
     (λ at′ es′ n′. outer-bound body ds at′ es′ n′ (small .1))
   where
-    go : (w : Walked) → Bound 34 (length body) at w → ((at′ : ℕ) (es′ : List Earlier) (n′ : ℕ) → Bound 34 (length body) at′ (outer body ds at′ es′ n′))
+    go : (w : Walked) → Bound 34 (length body) at w → ((at′ : ℕ) (es′ : List Earlier) (n′ : ℕ)
+        → Bound 34 (length body) at′ (outer body ds at′ es′ n′))
         → Bound 34 (length body) at (after (w .rows) (outer body ds (w .end) (es ++ replicate (w .times) NoValue) (n + length (w .rows))))
     go w b more =
         let b0 = b .forward in

@@ -13,7 +13,8 @@ use Rattle.command_rules.specs.Walk.{Walked, ended, after, once, turn, r
 use Rattle.command_rules.proofs.Bounds.{Bound, turn-bound}
 
 -- where no byte remains, no repetition takes anything
-none-remains : (body : List ℕ) (line : ℕ) (qs : List Parameter) (most k at n : ℕ) → SmallAll qs → length body ≤ at → repetitions body line qs most k at n ≡ ended at
+none-remains : (body : List ℕ) (line : ℕ) (qs : List Parameter) (most k at n : ℕ) → SmallAll qs → length body ≤ at
+    → repetitions body line qs most k at n ≡ ended at
 unfolding repetitions
 none-remains body line qs zero k at n small h = refl
 none-remains body line qs (suc most) k at n small h =
@@ -32,13 +33,17 @@ enough body line qs (suc a) (suc b) k at n small h g =
     go : (m : Walked) → Bound 33 (length body) at m
         → ((m : Walked) → at < m .end → length body - m .end ≤ a → length body - m .end ≤ b
         → repetitions body line qs a (k + 1) (m .end) (n + 1 + length (m .rows)) ≡ repetitions body line qs b (k + 1) (m .end) (n + 1 + length (m .rows)))
-        → cond (ltb at (m .end)) (after (repetitionRow line at (m .end) k ∷ m .rows) (once (repetitions body line qs a (k + 1) (m .end) (n + 1 + length (m .rows))))) (ended at)
-        ≡ cond (ltb at (m .end)) (after (repetitionRow line at (m .end) k ∷ m .rows) (once (repetitions body line qs b (k + 1) (m .end) (n + 1 + length (m .rows))))) (ended at)
+        → cond (ltb at (m .end)) (after (repetitionRow line at (m .end) k ∷ m .rows)
+        (once (repetitions body line qs a (k + 1) (m .end) (n + 1 + length (m .rows))))) (ended at)
+        ≡ cond (ltb at (m .end)) (after (repetitionRow line at (m .end) k ∷ m .rows)
+        (once (repetitions body line qs b (k + 1) (m .end) (n + 1 + length (m .rows))))) (ended at)
     go m bd ih = by (ltb at (m .end)) refl
       where
         by : (t : Bool) → ltb at (m .end) ≡ t
-            → cond t (after (repetitionRow line at (m .end) k ∷ m .rows) (once (repetitions body line qs a (k + 1) (m .end) (n + 1 + length (m .rows))))) (ended at)
-            ≡ cond t (after (repetitionRow line at (m .end) k ∷ m .rows) (once (repetitions body line qs b (k + 1) (m .end) (n + 1 + length (m .rows))))) (ended at)
+            → cond t (after (repetitionRow line at (m .end) k ∷ m .rows) (once (repetitions body line qs a (k + 1) (m .end) (n + 1 + length (m .rows)))))
+            (ended at)
+            ≡ cond t (after (repetitionRow line at (m .end) k ∷ m .rows) (once (repetitions body line qs b (k + 1) (m .end) (n + 1 + length (m .rows)))))
+            (ended at)
         by true e =
             let l = ltb-true at (m .end) e in
             let i = bd .inside in

@@ -14,7 +14,8 @@ unfolding bitRows
 bits-count b parent start [] = refl
 bits-count b parent start (i ∷ is) = go (i .says) (bits-count b parent start is)
   where
-    go : (x : Record) → length (bitRows b parent start is) ≡ countBits is → length (bitOnto (i .line) parent start (bitValue b x) (bitRows b parent start is)) ≡ countBits (record { line = i .line; says = x } ∷ is)
+    go : (x : Record) → length (bitRows b parent start is) ≡ countBits is
+        → length (bitOnto (i .line) parent start (bitValue b x) (bitRows b parent start is)) ≡ countBits (record { line = i .line; says = x } ∷ is)
     go (param q) ih = ih
     go (group g) ih = ih
     go (variant v) ih = ih

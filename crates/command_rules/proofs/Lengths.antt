@@ -39,7 +39,8 @@ module _ (offset mask : Option ℕ) (rule : Rule) (es : List Earlier) (rest n : 
   unfolding sizeOf
   size-some = go (ltb 0 rest) (holds offset mask es) (eqb (cut (wanted rule es) rest) 0) refl is
     where
-      go : (a b c : Bool) → eqb (cut (wanted rule es) rest) 0 ≡ c → cond (a && (b && not c)) (Bytes (cut (wanted rule es) rest)) Missing ≡ Bytes n → 0 < n
+      go : (a b c : Bool) → eqb (cut (wanted rule es) rest) 0 ≡ c → cond (a && (b && not c)) (Bytes (cut (wanted rule es) rest)) Missing ≡ Bytes n
+          → 0 < n
       go true true true q e = absurd (let z : _≡_ {A = ℕ} 0 1 = cc in omega arith)
       go true true false q e = let z : cut (wanted rule es) rest ≡ n = cc in omega (arith, ne-zero (cut (wanted rule es) rest) q)
         where

@@ -30,7 +30,8 @@ unfolding childrenOf
 children-append c [] b = refl
 children-append c (r ∷ a) b = go (eqb (r .parent) c) (children-append c a b)
   where
-    go : (x : Bool) → childrenOf c (a ++ b) ≡ childrenOf c a ++ childrenOf c b → cond x (r ∷ childrenOf c (a ++ b)) (childrenOf c (a ++ b)) ≡ cond x (r ∷ childrenOf c a) (childrenOf c a) ++ childrenOf c b
+    go : (x : Bool) → childrenOf c (a ++ b) ≡ childrenOf c a ++ childrenOf c b
+        → cond x (r ∷ childrenOf c (a ++ b)) (childrenOf c (a ++ b)) ≡ cond x (r ∷ childrenOf c a) (childrenOf c a) ++ childrenOf c b
     go true ih = ap (λ (l : List Row). r ∷ l) ih
     go false ih = ih
 
@@ -90,15 +91,21 @@ unfolding Leaves OnByte
 leaves-on p s [] r h es ee = tt
 leaves-on p s (k ∷ ks) r h es ee = (h .0, h .2 ∙ sym es, h .3 ∙ sym ee, ee ∙ ap (λ (x : ℕ). x + 1) (sym es), leaves-on p s ks r (h .4) es ee)
 
-leaves-placed : (m p s : ℕ) (ks tail : List Row) → Leaves p s ks → p ≤ m → ((c : ℕ) → m < c → c ≤ m + length ks → childrenOf c tail ≡ []) → Placed (m + length ks) tail → Placed m (ks ++ tail)
+leaves-placed : (m p s : ℕ) (ks tail : List Row) → Leaves p s ks → p ≤ m
+    → ((c : ℕ) → m < c → c ≤ m + length ks → childrenOf c tail ≡ []) → Placed (m + length ks) tail → Placed m (ks ++ tail)
 unfolding Leaves Placed
 leaves-placed m p s [] tail h l clear t = rw add-zero at t
 leaves-placed m p s (k ∷ ks) tail h l clear t =
     let e : m + length (k ∷ ks) ≡ m + 1 + length ks = omega arith in
-    let alone : childrenOf (m + 1) (ks ++ tail) ≡ [] = neither (m + 1) ks tail (leaves-none (m + 1) p s ks (h .4) (λ z. omega arith)) (clear (m + 1) (omega arith) (omega arith)) in
+    let alone : childrenOf (m + 1) (ks ++ tail) ≡ [] =
+    neither (m + 1) ks tail (leaves-none (m + 1) p s ks (h .4) (λ z. omega arith)) (clear (m + 1) (omega arith) (omega arith)) in
     let kind : k .kind ≡ 1 = h .0 in
-    let parent : k .parent ≡ p = h .1 in
-    (omega arith, subst (λ (x : ℕ). Inside x k (childrenOf (m + 1) (ks ++ tail))) (sym kind) alone, leaves-placed (m + 1) p s ks tail (h .4) (omega arith) (λ c u v. clear c (omega arith) (omega arith)) (rw e at t))
+    let parent : k .parent ≡ p = h .1 in (
+      omega arith,
+      subst (λ (x : ℕ). Inside x k (childrenOf (m + 1) (ks ++ tail))) (sym kind) alone,
+      leaves-placed (m + 1) p s ks tail (h .4) (omega arith)
+          (λ c u v. clear c (omega arith) (omega arith)) (rw e at t),
+    )
 
 -- ---- a Q: its own row and its bit children
 record Shape (rs : List Row) (at size n parent : ℕ) : Type 0 where
@@ -112,7 +119,8 @@ record Shape (rs : List Row) (at size n parent : ℕ) : Type 0 where
   leaves : Leaves (n + 1) (inPayload at) kids
   on : OnByte row kids
 
-shape : (body : List ℕ) (q : Field) (es : List Earlier) (at size n parent : ℕ) → sizeAt body q es at ≡ Bytes size → Shape (paramRows body q at size n parent) at size n parent
+shape : (body : List ℕ) (q : Field) (es : List Earlier) (at size n parent : ℕ) → sizeAt body q es at ≡ Bytes size
+    → Shape (paramRows body q at size n parent) at size n parent
 unfolding paramRows
 shape body q es at size n parent there = go (eqb (length (bytesAt body at size)) 1) refl
   where
@@ -120,7 +128,8 @@ shape body q es at size n parent there = go (eqb (length (bytesAt body at size))
     long = let f = size-facts body q es at size there in let f1 = f .1 in length-take-le size (drop at body) (rw length-drop f1)
 
     go : (x : Bool) → eqb (length (bytesAt body at size)) 1 ≡ x
-        → Shape (rowOf q parent (inPayload at) (bytesAt body at size) ∷ cond x (bitRows (getD (bytesAt body at size) 0 0) (n + 1) (inPayload at) (q .items)) []) at size n parent
+        → Shape (rowOf q parent (inPayload at) (bytesAt body at size) ∷ cond x
+        (bitRows (getD (bytesAt body at size) 0 0) (n + 1) (inPayload at) (q .items)) []) at size n parent
     go true e =
         let kids-are = bits-leaves (getD (bytesAt body at size) 0 0) (n + 1) (inPayload at) (q .items) in
         let one : length (bytesAt body at size) ≡ 1 = eqb-true (length (bytesAt body at size)) 1 e in
@@ -133,7 +142,8 @@ shape body q es at size n parent there = go (eqb (length (bytesAt body at size))
           start = refl;
           end = omega (arith, long);
           leaves = kids-are;
-          on = leaves-on (n + 1) (inPayload at) (bitRows (getD (bytesAt body at size) 0 0) (n + 1) (inPayload at) (q .items)) (rowOf q parent (inPayload at) (bytesAt body at size)) kids-are refl (ap (λ (x : ℕ). inPayload at + x) one);
+          on = leaves-on (n + 1) (inPayload at) (bitRows (getD (bytesAt body at size) 0 0) (n + 1) (inPayload at) (q .items))
+              (rowOf q parent (inPayload at) (bytesAt body at size)) kids-are refl (ap (λ (x : ℕ). inPayload at + x) one);
         }
     go false e =
         record {
@@ -156,7 +166,8 @@ module _ (rs : List Row) (at size n parent : ℕ) (w : Shape rs at size n parent
 
   param-one : parent ≤ n → childrenOf parent rs ≡ w .row ∷ []
   unfolding childrenOf
-  param-one h = rw (w .is, eq-eqb (w .row .parent) parent (w .parent-is)) (ap (λ (l : List Row). w .row ∷ l) (leaves-none parent (n + 1) (inPayload at) (w .kids) (w .leaves) (λ z. omega arith)))
+  param-one h = rw (w .is, eq-eqb (w .row .parent) parent (w .parent-is))
+      (ap (λ (l : List Row). w .row ∷ l) (leaves-none parent (n + 1) (inPayload at) (w .kids) (w .leaves) (λ z. omega arith)))
 
   param-follow : 0 < size → Follow (inPayload at) (w .row ∷ []) (inPayload (at + size))
   unfolding Follow
@@ -166,35 +177,46 @@ module _ (rs : List Row) (at size n parent : ℕ) (w : Shape rs at size n parent
   unfolding AllParams
   param-kind = (w .kind, tt)
 
-  param-placed : (tail : List Row) → parent ≤ n → ((c : ℕ) → n < c → c ≤ n + length rs → childrenOf c tail ≡ []) → Placed (n + length rs) tail → Placed n (rs ++ tail)
+  param-placed : (tail : List Row) → parent ≤ n → ((c : ℕ) → n < c → c ≤ n + length rs → childrenOf c tail ≡ [])
+      → Placed (n + length rs) tail → Placed n (rs ++ tail)
   unfolding Placed
   param-placed tail h clear t =
       let count : length rs ≡ suc (length (w .kids)) = ap length (w .is) in
       let kids-are : childrenOf (n + 1) (w .kids ++ tail) ≡ w .kids =
-      children-append (n + 1) (w .kids) tail ∙ rw (leaves-all (n + 1) (inPayload at) (w .kids) (w .leaves), clear (n + 1) (omega arith) (omega arith)) (append-nil (w .kids)) in
-      let on-it : Inside (w .row .kind) (w .row) (childrenOf (n + 1) (w .kids ++ tail)) = subst (λ (x : ℕ). Inside x (w .row) (childrenOf (n + 1) (w .kids ++ tail))) (sym (w .kind)) (rw kids-are (w .on)) in
+      children-append (n + 1) (w .kids) tail ∙ rw (leaves-all (n + 1) (inPayload at) (w .kids) (w .leaves), clear (n + 1) (omega arith) (omega arith))
+      (append-nil (w .kids)) in
+      let on-it : Inside (w .row .kind) (w .row) (childrenOf (n + 1) (w .kids ++ tail)) =
+      subst (λ (x : ℕ). Inside x (w .row) (childrenOf (n + 1) (w .kids ++ tail))) (sym (w .kind)) (rw kids-are (w .on)) in
       let low : w .row .parent ≤ n = let p = w .parent-is in omega arith in
       let e : n + length rs ≡ n + 1 + length (w .kids) = omega arith in
-      rw (w .is) (low, on-it, leaves-placed (n + 1) (n + 1) (inPayload at) (w .kids) tail (w .leaves) (omega arith) (λ c u v. clear c (omega arith) (omega arith)) (rw e at t))
+      rw (w .is) (
+        low,
+        on-it,
+        leaves-placed (n + 1) (n + 1) (inPayload at) (w .kids) tail (w .leaves) (omega arith)
+            (λ c u v. clear c (omega arith) (omega arith)) (rw e at t),
+      )
 
 -- ---- the members of a repetition
 record Inner (w : Walked) (at n parent : ℕ) : Type 0 where
   none-other : (c : ℕ) → (parent ≡ c → ⊥) → c ≤ n → childrenOf c (w .rows) ≡ []
   follow : parent ≤ n → Follow (inPayload at) (childrenOf parent (w .rows)) (inPayload (w .end))
   params : parent ≤ n → AllParams (childrenOf parent (w .rows))
-  placed : (tail : List Row) → parent ≤ n → ((c : ℕ) → 0 < c → c ≤ n + length (w .rows) → childrenOf c tail ≡ []) → Placed (n + length (w .rows)) tail → Placed n (w .rows ++ tail)
+  placed : (tail : List Row) → parent ≤ n → ((c : ℕ) → 0 < c → c ≤ n + length (w .rows) → childrenOf c tail ≡ [])
+      → Placed (n + length (w .rows)) tail → Placed n (w .rows ++ tail)
 
 inner-end : (at n parent : ℕ) → Inner (ended at) at n parent
 unfolding childrenOf Follow AllParams
 inner-end at n parent = record { none-other = λ c d h. refl; follow = λ h. refl; params = λ h. tt; placed = λ tail h clear t. rw add-zero at t }
 
-inner-more : (rs : List Row) (at size n parent : ℕ) (w : Walked) → Shape rs at size n parent → 0 < size → Inner w (at + size) (n + length rs) parent → Inner (after rs w) at n parent
+inner-more : (rs : List Row) (at size n parent : ℕ) (w : Walked) → Shape rs at size n parent → 0 < size → Inner w (at + size) (n + length rs) parent
+    → Inner (after rs w) at n parent
 inner-more rs at size n parent w s byte rest =
     record {
       none-other = λ c d h. neither c rs (w .rows) (param-none rs at size n parent s c d (λ z. omega arith)) (rest .none-other c d (omega arith));
       follow = λ h.
           rw (children-append parent rs (w .rows), param-one rs at size n parent s h)
-          (follow-append (inPayload at) (inPayload (at + size)) (inPayload (w .end)) (s .row ∷ []) (childrenOf parent (w .rows)) (param-follow rs at size n parent s byte) (rest .follow (omega arith)));
+          (follow-append (inPayload at) (inPayload (at + size)) (inPayload (w .end)) (s .row ∷ []) (childrenOf parent (w .rows))
+          (param-follow rs at size n parent s byte) (rest .follow (omega arith)));
       params = λ h.
           rw (children-append parent rs (w .rows), param-one rs at size n parent s h)
           (params-append (s .row ∷ []) (childrenOf parent (w .rows)) (param-kind rs at size n parent s) (rest .params (omega arith)));
@@ -210,10 +232,12 @@ inner-members : (body : List ℕ) (qs : List Parameter) (at : ℕ) (es : List Ea
 unfolding members
 inner-members body [] at es n parent = inner-end at n parent
 inner-members body (q ∷ qs) at es n parent =
-    go (sizeAt body (fieldOf q) es at) refl (λ size. inner-members body qs (at + size) (es ++ (paramEntry body at size ∷ [])) (n + length (paramRows body (fieldOf q) at size n parent)) parent)
+    go (sizeAt body (fieldOf q) es at) refl (λ size. inner-members body qs (at + size) (es ++ (paramEntry body at size ∷ []))
+    (n + length (paramRows body (fieldOf q) at size n parent)) parent)
   where
     go : (s : Size) → sizeAt body (fieldOf q) es at ≡ s
-        → ((size : ℕ) → Inner (members body qs (at + size) (es ++ (paramEntry body at size ∷ [])) (n + length (paramRows body (fieldOf q) at size n parent)) parent) (at + size) (n + length (paramRows body (fieldOf q) at size n parent)) parent)
+        → ((size : ℕ) → Inner (members body qs (at + size) (es ++ (paramEntry body at size ∷ []))
+        (n + length (paramRows body (fieldOf q) at size n parent)) parent) (at + size) (n + length (paramRows body (fieldOf q) at size n parent)) parent)
         → Inner
         (onSize s
         (λ size.
@@ -222,27 +246,32 @@ inner-members body (q ∷ qs) at es n parent =
         (ended at))
         at n parent
     go (Bytes size) e more =
-        inner-more (paramRows body (fieldOf q) at size n parent) at size n parent _ (shape body (fieldOf q) es at size n parent e) (size-facts body (fieldOf q) es at size e .0) (more size)
+        inner-more (paramRows body (fieldOf q) at size n parent) at size n parent _ (shape body (fieldOf q) es at size n parent e)
+        (size-facts body (fieldOf q) es at size e .0) (more size)
     go Missing e more = inner-end at n parent
 
 -- ---- what stands in the outer list
 record Outermost (w : Walked) (at n : ℕ) : Type 0 where
   none-other : (c : ℕ) → 0 < c → c ≤ n → childrenOf c (w .rows) ≡ []
   follow : Follow (inPayload at) (childrenOf 0 (w .rows)) (inPayload (w .end))
-  placed : (tail : List Row) → ((c : ℕ) → 0 < c → c ≤ n + length (w .rows) → childrenOf c tail ≡ []) → Placed (n + length (w .rows)) tail → Placed n (w .rows ++ tail)
+  placed : (tail : List Row) → ((c : ℕ) → 0 < c → c ≤ n + length (w .rows) → childrenOf c tail ≡ []) → Placed (n + length (w .rows)) tail
+      → Placed n (w .rows ++ tail)
 
 outermost-end : (at n : ℕ) → Outermost (ended at) at n
 unfolding childrenOf Follow
 outermost-end at n = record { none-other = λ c d h. refl; follow = refl; placed = λ tail clear t. rw add-zero at t }
 
 -- a Q, and then what a walk gives
-outermost-param : (rs : List Row) (at size n : ℕ) (w : Walked) → Shape rs at size n 0 → 0 < size → Outermost w (at + size) (n + length rs) → Outermost (after rs w) at n
+outermost-param : (rs : List Row) (at size n : ℕ) (w : Walked) → Shape rs at size n 0 → 0 < size → Outermost w (at + size) (n + length rs)
+    → Outermost (after rs w) at n
 outermost-param rs at size n w s byte rest =
     record {
-      none-other = λ c d h. neither c rs (w .rows) (param-none rs at size n 0 s c (λ z. omega arith) (λ z. omega arith)) (rest .none-other c d (omega arith));
+      none-other =
+          λ c d h. neither c rs (w .rows) (param-none rs at size n 0 s c (λ z. omega arith) (λ z. omega arith)) (rest .none-other c d (omega arith));
       follow =
           rw (children-append 0 rs (w .rows), param-one rs at size n 0 s (omega arith))
-          (follow-append (inPayload at) (inPayload (at + size)) (inPayload (w .end)) (s .row ∷ []) (childrenOf 0 (w .rows)) (param-follow rs at size n 0 s byte) (rest .follow));
+          (follow-append (inPayload at) (inPayload (at + size)) (inPayload (w .end)) (s .row ∷ []) (childrenOf 0 (w .rows))
+          (param-follow rs at size n 0 s byte) (rest .follow));
       placed = λ tail clear t.
           let all : n + length (rs ++ w .rows) ≡ n + length rs + length (w .rows) = rw length-append (omega arith) in
           rw append-assoc
@@ -259,27 +288,43 @@ module _ (line k at n : ℕ) (m : Walked) (inside : Inner m at (n + 1) (n + 1)) 
 
   repetition-one : childrenOf 0 (repetitionRow line at (m .end) k ∷ m .rows) ≡ repetitionRow line at (m .end) k ∷ []
   unfolding childrenOf repetitionRow
-  repetition-one = ap (λ (l : List Row). record { kind = 2; line = line; parent = 0; start = inPayload at; end = inPayload (m .end); valued = 0; value = 0; named = 0; number = k } ∷ l) (inside .none-other 0 (λ z. omega arith) (omega arith))
+  repetition-one = ap (λ (l : List Row). record {
+    kind = 2;
+    line = line;
+    parent = 0;
+    start = inPayload at;
+    end = inPayload (m .end);
+    valued = 0;
+    value =
+        0;
+    named = 0;
+    number = k;
+  } ∷ l) (inside .none-other 0 (λ z. omega arith) (omega arith))
 
   repetition-follow : Follow (inPayload at) (repetitionRow line at (m .end) k ∷ []) (inPayload (m .end))
   unfolding Follow repetitionRow
   repetition-follow = (refl, omega arith, refl)
 
-  repetition-placed : (tail : List Row) → ((c : ℕ) → 0 < c → c ≤ n + 1 + length (m .rows) → childrenOf c tail ≡ []) → Placed (n + 1 + length (m .rows)) tail → Placed n (repetitionRow line at (m .end) k ∷ (m .rows ++ tail))
+  repetition-placed : (tail : List Row) → ((c : ℕ) → 0 < c → c ≤ n + 1 + length (m .rows) → childrenOf c tail ≡ [])
+      → Placed (n + 1 + length (m .rows)) tail → Placed n (repetitionRow line at (m .end) k ∷ (m .rows ++ tail))
   unfolding Placed repetitionRow
   repetition-placed tail clear t =
-      let kids : childrenOf (n + 1) (m .rows ++ tail) ≡ childrenOf (n + 1) (m .rows) = children-append (n + 1) (m .rows) tail ∙ rw (clear (n + 1) (omega arith) (omega arith)) (append-nil (childrenOf (n + 1) (m .rows))) in
+      let kids : childrenOf (n + 1) (m .rows ++ tail) ≡ childrenOf (n + 1) (m .rows) =
+      children-append (n + 1) (m .rows) tail ∙ rw (clear (n + 1) (omega arith) (omega arith)) (append-nil (childrenOf (n + 1) (m .rows))) in
       (omega arith, (rw kids (inside .params (omega arith)), rw kids (inside .follow (omega arith))), inside .placed tail (omega arith) clear t)
 
-  outermost-repetition : (w : Walked) → Outermost w (m .end) (n + 1 + length (m .rows)) → Outermost (after (repetitionRow line at (m .end) k ∷ m .rows) w) at n
+  outermost-repetition : (w : Walked) → Outermost w (m .end) (n + 1 + length (m .rows))
+      → Outermost (after (repetitionRow line at (m .end) k ∷ m .rows) w) at n
   outermost-repetition w rest =
       record {
         none-other = λ c d h. neither c (repetitionRow line at (m .end) k ∷ m .rows) (w .rows) (repetition-none c d h) (rest .none-other c d (omega arith));
         follow =
             rw (children-append 0 (repetitionRow line at (m .end) k ∷ m .rows) (w .rows), repetition-one)
-            (follow-append (inPayload at) (inPayload (m .end)) (inPayload (w .end)) (repetitionRow line at (m .end) k ∷ []) (childrenOf 0 (w .rows)) repetition-follow (rest .follow));
+            (follow-append (inPayload at) (inPayload (m .end)) (inPayload (w .end)) (repetitionRow line at (m .end) k ∷ [])
+            (childrenOf 0 (w .rows)) repetition-follow (rest .follow));
         placed = λ tail clear t.
-            let all : n + length ((repetitionRow line at (m .end) k ∷ m .rows) ++ w .rows) ≡ n + 1 + length (m .rows) + length (w .rows) = let z = length-append (m .rows) (w .rows) in omega arith in
+            let all : n + length ((repetitionRow line at (m .end) k ∷ m .rows) ++ w .rows) ≡ n + 1 + length (m .rows) + length (w .rows) = let z =
+            length-append (m .rows) (w .rows) in omega arith in
             let regroup : (m .rows ++ w .rows) ++ tail ≡ m .rows ++ (w .rows ++ tail) = append-assoc (m .rows) (w .rows) tail in
             rw regroup
             (repetition-placed (w .rows ++ tail)
@@ -291,19 +336,23 @@ outermost-repetitions : (body : List ℕ) (line : ℕ) (qs : List Parameter) (mo
 unfolding repetitions turn
 outermost-repetitions body line qs zero k at n = outermost-end at n
 outermost-repetitions body line qs (suc most) k at n =
-    go (members body qs at [] (n + 1) (n + 1)) (inner-members body qs at [] (n + 1) (n + 1)) (λ m. outermost-repetitions body line qs most (k + 1) (m .end) (n + 1 + length (m .rows)))
+    go (members body qs at [] (n + 1) (n + 1)) (inner-members body qs at [] (n + 1) (n + 1))
+    (λ m. outermost-repetitions body line qs most (k + 1) (m .end) (n + 1 + length (m .rows)))
   where
     go : (m : Walked) → Inner m at (n + 1) (n + 1)
         → ((m : Walked) → Outermost (repetitions body line qs most (k + 1) (m .end) (n + 1 + length (m .rows))) (m .end) (n + 1 + length (m .rows)))
-        → Outermost (cond (ltb at (m .end)) (after (repetitionRow line at (m .end) k ∷ m .rows) (once (repetitions body line qs most (k + 1) (m .end) (n + 1 + length (m .rows))))) (ended at)) at n
+        → Outermost (cond (ltb at (m .end)) (after (repetitionRow line at (m .end) k ∷ m .rows)
+        (once (repetitions body line qs most (k + 1) (m .end) (n + 1 + length (m .rows))))) (ended at)) at n
     go m inside more = by (ltb at (m .end)) refl
       where
         counted : (w : Walked) (a b : ℕ) → Outermost w a b → Outermost (once w) a b
         counted w a b o = record { none-other = o .none-other; follow = o .follow; placed = o .placed }
 
         by : (x : Bool) → ltb at (m .end) ≡ x
-            → Outermost (cond x (after (repetitionRow line at (m .end) k ∷ m .rows) (once (repetitions body line qs most (k + 1) (m .end) (n + 1 + length (m .rows))))) (ended at)) at n
-        by true e = outermost-repetition line k at n m inside (ltb-true at (m .end) e) (once (repetitions body line qs most (k + 1) (m .end) (n + 1 + length (m .rows)))) (counted _ (m .end) (n + 1 + length (m .rows)) (more m))
+            → Outermost (cond x (after (repetitionRow line at (m .end) k ∷ m .rows)
+            (once (repetitions body line qs most (k + 1) (m .end) (n + 1 + length (m .rows))))) (ended at)) at n
+        by true e = outermost-repetition line k at n m inside (ltb-true at (m .end) e)
+            (once (repetitions body line qs most (k + 1) (m .end) (n + 1 + length (m .rows)))) (counted _ (m .end) (n + 1 + length (m .rows)) (more m))
         by false e = outermost-end at n
 
 -- a group, and then what a walk gives
@@ -327,7 +376,8 @@ unfolding outer groupAt
 outermost body [] at es n = outermost-end at n
 outermost body (single q ∷ ds) at es n = go (sizeAt body (fieldOf q) es at) refl (λ at′ es′ n′. outermost body ds at′ es′ n′)
   where
-    go : (s : Size) → sizeAt body (fieldOf q) es at ≡ s → ((at′ : ℕ) (es′ : List Earlier) (n′ : ℕ) → Outermost (outer body ds at′ es′ n′) at′ n′)
+    go : (s : Size) → sizeAt body (fieldOf q) es at ≡ s
+        → ((at′ : ℕ) (es′ : List Earlier) (n′ : ℕ) → Outermost (outer body ds at′ es′ n′) at′ n′)
         → Outermost
         (onSize s
         (λ size.
@@ -336,19 +386,22 @@ outermost body (single q ∷ ds) at es n = go (sizeAt body (fieldOf q) es at) re
         (outer body ds at es n))
         at n
     go (Bytes size) e more =
-        outermost-param (paramRows body (fieldOf q) at size n 0) at size n _ (shape body (fieldOf q) es at size n 0 e) (size-facts body (fieldOf q) es at size e .0)
+        outermost-param (paramRows body (fieldOf q) at size n 0) at size n _ (shape body (fieldOf q) es at size n 0 e)
+        (size-facts body (fieldOf q) es at size e .0)
         (more (at + size) (es ++ (paramEntry body at size ∷ [])) (n + length (paramRows body (fieldOf q) at size n 0)))
     go Missing e more = more at es n
 outermost body (repeated line g qs ∷ ds) at es n =
     go (repetitions body line qs (repeats (g .offset) (g .mask) (record { 0 = g .shift }) es (length body - at)) 0 at n)
-    (outermost-repetitions body line qs (repeats (g .offset) (g .mask) (record { 0 = g .shift }) es (length body - at)) 0 at n) (λ at′ es′ n′. outermost body ds at′ es′ n′)
+    (outermost-repetitions body line qs (repeats (g .offset) (g .mask) (record { 0 = g .shift }) es (length body - at)) 0 at n)
+    (λ at′ es′ n′. outermost body ds at′ es′ n′)
   where
     go : (w : Walked) → Outermost w at n → ((at′ : ℕ) (es′ : List Earlier) (n′ : ℕ) → Outermost (outer body ds at′ es′ n′) at′ n′)
         → Outermost (after (w .rows) (outer body ds (w .end) (es ++ replicate (w .times) NoValue) (n + length (w .rows)))) at n
     go w o more = outermost-group w _ at n o (more (w .end) (es ++ replicate (w .times) NoValue) (n + length (w .rows)))
 
 -- ---- the whole command
-pub walk-adds : (body : List ℕ) (ds : List Entry) (size : ℕ) → SmallEntries ds → size ≡ 2 + length body → Adds size (walk body ds .rows) (inPayload (walk body ds .end))
+pub walk-adds : (body : List ℕ) (ds : List Entry) (size : ℕ) → SmallEntries ds → size ≡ 2 + length body
+    → Adds size (walk body ds .rows) (inPayload (walk body ds .end))
 unfolding walk Placed childrenOf
 walk-adds body ds size small is =
     let o = outermost body ds 0 [] 0 in

@@ -78,9 +78,11 @@ module _ (t : List ℕ) (p₀ : Place) (g : Gathered) (p : Place) (k : Gathering
     pub gathering-pass : (q : Place) → Follows t p q → x ≡ false → kind ≡ 75 → Gathering t p₀ g q
     unfolding gathered heads
     gathering-pass q follows other is-k =
-        let z : record { line = p .line; says = begin .said } ∷ begin .others ≡ record { line = p .line; says = follows .said } ∷ from t q = sym (begin .lines) ∙ follows .lines in
+        let z : record { line = p .line; says = begin .said } ∷ begin .others ≡ record { line = p .line; says = follows .said } ∷ from t q =
+        sym (begin .lines) ∙ follows .lines in
         let rest : begin .others ≡ from t q = cc in
-        let lines : from t p ≡ record { line = p .line; says = begin .said } ∷ from t q = begin .lines ∙ ap (λ (is : List Item). record { line = p .line; says = begin .said } ∷ is) rest in
+        let lines : from t p ≡ record { line = p .line; says = begin .said } ∷ from t q =
+        begin .lines ∙ ap (λ (is : List Item). record { line = p .line; says = begin .said } ∷ is) rest in
         record {
           readable = follows .readable;
           so = k .so ∙ ap (λ (is : List Item). gathered g (under is)) lines ∙ by-record (begin .said) (sym (begin .kind) ∙ is-k) (from t q);
@@ -89,7 +91,8 @@ module _ (t : List ℕ) (p₀ : Place) (g : Gathered) (p : Place) (k : Gathering
           few = let a = follows .on in let f = k .few in omega arith;
         }
       where
-        by-record : (r : Record) → letter r ≡ 75 → (is : List Item) → gathered g (under (record { line = p .line; says = r } ∷ is)) ≡ gathered g (under is)
+        by-record : (r : Record) → letter r ≡ 75 → (is : List Item)
+            → gathered g (under (record { line = p .line; says = r } ∷ is)) ≡ gathered g (under is)
         by-record (param y) e is = absurd (omega arith)
         by-record (group y) e is = absurd (omega arith)
         by-record (variant y) e is = absurd (omega arith)
@@ -113,7 +116,8 @@ module _ (t : List ℕ) (p₀ : Place) (g : Gathered) (p : Place) (k : Gathering
 
     module _ (read : Read) (is-read : IsRead t p read) (other : x ≡ false) where
       same : begin .said ≡ is-read .said
-      same = let z : record { line = p .line; says = begin .said } ∷ begin .others ≡ record { line = p .line; says = is-read .said } ∷ from t (read .next) = sym (begin .lines) ∙ is-read .lines in
+      same = let z : record { line = p .line; says = begin .said } ∷ begin .others
+          ≡ record { line = p .line; says = is-read .said } ∷ from t (read .next) = sym (begin .lines) ∙ is-read .lines in
           let y : _≡_ {A = Item} (record { line = p .line; says = begin .said }) (record { line = p .line; says = is-read .said }) = cc in
           ap (λ (i : Item). i .says) y
 

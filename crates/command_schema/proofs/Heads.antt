@@ -19,7 +19,8 @@ use Rattle.command_rules.specs.Limits.{countBits}
 heads-members : (n : ℕ) (rs : List Record) → membersAt n rs ≡ membersOf (heads (numbered n rs))
 unfolding heads membersOf
 heads-members n [] = refl
-heads-members n (param q ∷ rs) = ap (λ (ps : List Parameter). cond (eqb (q .level) 1) (record { line = n; says = q; items = under (numbered (suc n) rs) } ∷ ps) []) (heads-members (suc n) rs)
+heads-members n (param q ∷ rs) = ap (λ (ps : List Parameter). cond (eqb (q .level) 1)
+    (record { line = n; says = q; items = under (numbered (suc n) rs) } ∷ ps) []) (heads-members (suc n) rs)
 heads-members n (group g ∷ rs) = refl
 heads-members n (variant s ∷ rs) = heads-members (suc n) rs
 heads-members n (array l a ∷ rs) = heads-members (suc n) rs
@@ -33,7 +34,8 @@ heads-entries : (n : ℕ) (rs : List Record) → entriesAt n rs ≡ entriesOf (h
 unfolding heads entriesOf
 heads-entries n [] = refl
 heads-entries n (param q ∷ rs) =
-    ap (λ (ds : List Entry). cond (eqb (q .level) 0) (single (record { line = n; says = q; items = under (numbered (suc n) rs) }) ∷ ds) ds) (heads-entries (suc n) rs)
+    ap (λ (ds : List Entry). cond (eqb (q .level) 0) (single (record { line = n; says = q; items = under (numbered (suc n) rs) }) ∷ ds) ds)
+    (heads-entries (suc n) rs)
 heads-entries n (group g ∷ rs) =
     let ms = heads-members (suc n) rs in
     let ds = heads-entries (suc n) rs in

@@ -11,12 +11,14 @@ use borrow.Author.Tests.{eqb-true, lt-ltb, le-ltb, eq-eqb, ne-eqb}
 use Rattle.rows.specs.Rows.{put}
 use Rattle.text.specs.declared.Place.{Place}
 use Rattle.command_text.specs.declared.ParamType.{ParamType}
-use Rattle.command_text.specs.declared.ParamType.the-variants.{Byte, StructByte, Const, Marker, Word, Bit24, Dword, Array, Variant as Variants, Bitmask, MultiArray}
+use Rattle.command_text.specs.declared.ParamType.the-variants.{Byte, StructByte, Const, Marker, Word, Bit24, Dword, Array, Variant as Variants, Bitmask}
+use Rattle.command_text.specs.declared.ParamType.the-variants.{MultiArray}
 use Rattle.command_class.specs.declared.Row.{Row}
 use Rattle.command_lengths.specs.Entries.{given}
 use Rattle.command_rules.specs.declared.Rule.the-variants.{Fixed, Open, Counted}
 use Rattle.command_rules.specs.Field.{arrayRule, variantRule, variableRule, ruleOf, arrayAscii, variantAscii, isConst, isNamed}
-use Rattle.command_schema.specs.Gathered.{withVariant, withArray, withBitmask, withBits, notedRow, bitmaskIn, arraySaid, arrayIn, variantSaid, variantIn, lengthNumber}
+use Rattle.command_schema.specs.Gathered.{withVariant, withArray, withBitmask, withBits, notedRow, bitmaskIn, arraySaid, arrayIn, variantSaid}
+use Rattle.command_schema.specs.Gathered.{variantIn, lengthNumber}
 use Rattle.command_schema.specs.Loaded.{numbers, ruleIn, isMember, isOuter, loadedParam}
 use Rattle.command_schema.specs.declared.Loaded.{Loaded}
 use Rattle.command_schema.specs.declared.items.Gathered.{Gathered}
@@ -47,7 +49,8 @@ module _ (l : Loaded) where
   pub outer-level : l .kind ≡ 81 → eqb (l .level) 0 ≡ isOuter l
   outer-level h = rw (eq-eqb (l .kind) 81 h)
 
-pub row-stored : (d : List ℕ) (i : ℕ) (l : Loaded) (ns d′ : List ℕ) → ns ≡ numbers l → d′ ≡ put d (i * 12) ns → d′ ≡ put d (i * 12) (numbers l)
+pub row-stored : (d : List ℕ) (i : ℕ) (l : Loaded) (ns d′ : List ℕ) → ns ≡ numbers l → d′ ≡ put d (i * 12) ns
+    → d′ ≡ put d (i * 12) (numbers l)
 row-stored d i l ns d′ en ed = rw en at ed
 
 -- ---- what is gathered
@@ -56,7 +59,13 @@ module _ (g : Gathered) (row : Row) where
   variant-had h = rw (ne-eqb (g .variant .paramoffs) 256 h)
 
   pub variant-first : g .variant .paramoffs ≡ 256
-      → _≡_ {A = Gathered} (record { bitmask = g .bitmask; array = g .array; variant = record { paramoffs = row .offset; sizemask = row .mask; sizeoffs = row .shift; ascii = row .ascii }; bits = g .bits })
+      → _≡_ {A = Gathered} (record {
+        bitmask = g .bitmask;
+        array = g .array;
+        variant =
+            record { paramoffs = row .offset; sizemask = row .mask; sizeoffs = row .shift; ascii = row .ascii };
+        bits = g .bits;
+      })
       (withVariant g (row .offset) (row .mask) (row .shift) (row .ascii))
   variant-first h = rw (eq-eqb (g .variant .paramoffs) 256 h)
 
@@ -64,7 +73,13 @@ module _ (g : Gathered) (row : Row) where
   array-had h = rw (ne-eqb (g .array .len) 256 h)
 
   pub array-first : g .array .len ≡ 256
-      → _≡_ {A = Gathered} (record { bitmask = g .bitmask; array = record { len = row .value; ascii = row .ascii }; variant = g .variant; bits = g .bits }) (withArray g (row .value) (row .ascii))
+      → _≡_ {A = Gathered} (record {
+        bitmask = g .bitmask;
+        array = record { len = row .value; ascii = row .ascii };
+        variant = g .variant;
+        bits =
+            g .bits;
+      }) (withArray g (row .value) (row .ascii))
   array-first h = rw (eq-eqb (g .array .len) 256 h)
 
   pub bitmask-had : (g .bitmask ≡ 257 → ⊥) → g ≡ withBitmask g (row .value)
@@ -93,8 +108,17 @@ module _ (g : Gathered) (row : Row) where
     pub note-enum : x ≡ withBits g → row .kind ≡ 85 → x ≡ notedRow g row
     note-enum e h = rw h e
 
-  pub note-other : (row .kind ≡ 82 → ⊥) → (row .kind ≡ 65 → ⊥) → (row .kind ≡ 77 → ⊥) → (row .kind ≡ 84 → ⊥) → (row .kind ≡ 83 → ⊥) → (row .kind ≡ 85 → ⊥) → g ≡ notedRow g row
-  note-other r a m t s u = rw (ne-eqb (row .kind) 82 r, ne-eqb (row .kind) 65 a, ne-eqb (row .kind) 77 m, ne-eqb (row .kind) 84 t, ne-eqb (row .kind) 83 s, ne-eqb (row .kind) 85 u)
+  pub note-other : (row .kind ≡ 82 → ⊥) → (row .kind ≡ 65 → ⊥) → (row .kind ≡ 77 → ⊥) → (row .kind ≡ 84 → ⊥)
+      → (row .kind ≡ 83 → ⊥) → (row .kind ≡ 85 → ⊥) → g ≡ notedRow g row
+  note-other r a m t s u = rw (
+    ne-eqb (row .kind) 82 r,
+    ne-eqb (row .kind) 65 a,
+    ne-eqb (row .kind) 77 m,
+    ne-eqb (row .kind) 84 t,
+    ne-eqb
+        (row .kind) 83 s,
+    ne-eqb (row .kind) 85 u,
+  )
 
 -- ---- the first M, A and R
 module _ (v : Variant) where
@@ -135,7 +159,8 @@ module _ (g : Gathered) where
   pub bitmask-length : g .bitmask < 256 → g .bitmask ≡ lengthNumber (variableRule (bitmaskIn g) (variantIn g))
   bitmask-length h = rw (ne-eqb (g .bitmask) 257 (λ e. omega arith), lt-ltb (g .bitmask) 256 h)
 
-  pub bitmask-over : (x : ℕ) → x ≡ lengthNumber (variantRule (variantSaid (g .variant))) → 256 ≤ g .bitmask → x ≡ lengthNumber (variableRule (bitmaskIn g) (variantIn g))
+  pub bitmask-over : (x : ℕ) → x ≡ lengthNumber (variantRule (variantSaid (g .variant))) → 256 ≤ g .bitmask
+      → x ≡ lengthNumber (variableRule (bitmaskIn g) (variantIn g))
   bitmask-over x e h = go (eqb (g .bitmask) 257)
     where
       go : (b : Bool) → x ≡ lengthNumber (variableRule (cond b none (some (given (g .bitmask)))) (variantIn g))
@@ -192,7 +217,8 @@ module _ (g : Gathered) where
           pub named-is : v ≡ false → _≡_ {A = ℕ} 1 (cond (isNamed type (arrayIn g) (variantIn g)) 1 0)
           named-is e = rw (← is-x, const, ← is-a, plain, ← is-v, e)
 
-pub param-loaded : (r : Row) (p next : Place) (g : Gathered) (length named : ℕ) → length ≡ lengthNumber (ruleOf (r .typed) (bitmaskIn g) (arrayIn g) (variantIn g))
+pub param-loaded : (r : Row) (p next : Place) (g : Gathered) (length named : ℕ)
+    → length ≡ lengthNumber (ruleOf (r .typed) (bitmaskIn g) (arrayIn g) (variantIn g))
     → named ≡ cond (isNamed (r .typed) (arrayIn g) (variantIn g)) 1 0
     → _≡_ {A = Loaded}
     (record {
@@ -213,4 +239,52 @@ pub param-loaded : (r : Row) (p next : Place) (g : Gathered) (length named : ℕ
 param-loaded r p next g length named el en = rw (el, en) refl
 
 -- what the proofs of the small functions go by
-pub ruleset laws = (member-not, member-level, outer-not, outer-level, rule-fixed, rule-open, rule-counted, row-stored, variant-had, variant-first, array-had, array-first, bitmask-had, bitmask-first, note-variant, note-array, note-bitmask, note-flag, note-field, note-enum, note-other, variant-none, variant-255, variant-0, variant-counted, variant-ascii, variant-plain, array-plain, array-ascii, bitmask-length, bitmask-over, length-byte, length-struct, length-const, length-marker, length-word, length-bit24, length-dword, length-array, length-variant, length-bitmask, length-multi, named-not, named-array, named-variant, named-is, param-loaded)
+pub ruleset laws = (
+  member-not,
+  member-level,
+  outer-not,
+  outer-level,
+  rule-fixed,
+  rule-open,
+  rule-counted,
+  row-stored,
+  variant-had,
+  variant-first,
+  array-had,
+  array-first,
+  bitmask-had,
+  bitmask-first,
+  note-variant,
+  note-array,
+  note-bitmask,
+  note-flag,
+  note-field,
+  note-enum,
+  note-other,
+  variant-none,
+  variant-255,
+  variant-0,
+  variant-counted,
+  variant-ascii,
+  variant-plain,
+  array-plain,
+  array-ascii,
+  bitmask-length,
+  bitmask-over,
+  length-byte,
+  length-struct,
+  length-const,
+  length-marker,
+  length-word,
+  length-bit24,
+  length-dword,
+  length-array,
+  length-variant,
+  length-bitmask,
+  length-multi,
+  named-not,
+  named-array,
+  named-variant,
+  named-is,
+  param-loaded,
+)

@@ -33,7 +33,8 @@ use Rattle.command_rules.specs.Limits.{countBits}
 use Rattle.command_schema.specs.declared.Loaded.{Loaded}
 use Rattle.command_schema.specs.declared.items.Under.{Under}
 use Rattle.command_schema.proofs.Heads.{heads-count, heads-small}
-use Rattle.command_schema.proofs.Resolving.{AllFit, from-fit, under-from-fit, given-back, gathered-bitmask, gathered-array, gathered-variant, gathered-bits, ruleBy, rule-back, bitmask-small, array-small, variant-agrees}
+use Rattle.command_schema.proofs.Resolving.{AllFit, from-fit, under-from-fit, given-back, gathered-bitmask, gathered-array, gathered-variant}
+use Rattle.command_schema.proofs.Resolving.{gathered-bits, ruleBy, rule-back, bitmask-small, array-small, variant-agrees}
 
 -- ---- rows of the table
 
@@ -47,7 +48,8 @@ module _ (d : List ℕ) (at : ℕ) (vs : List ℕ) (room : at + length vs ≤ le
   -- what is written there
   got : (j : ℕ) → j < length vs → getD (put d at vs) (at + j) 0 ≡ getD vs j 0
   got j h =
-      let e : getD (take at d ++ (vs ++ drop (at + length vs) d)) (length (take at d) + j) 0 ≡ getD (vs ++ drop (at + length vs) d) j 0 = getD-append-add (take at d) (vs ++ drop (at + length vs) d) j 0 in
+      let e : getD (take at d ++ (vs ++ drop (at + length vs) d)) (length (take at d) + j) 0 ≡ getD (vs ++ drop (at + length vs) d) j 0 =
+      getD-append-add (take at d) (vs ++ drop (at + length vs) d) j 0 in
       rw written (rw front at e) ∙ List·getD-append vs (drop (at + length vs) d) 0 j h
 
   -- what stands before it
@@ -97,7 +99,8 @@ module _ (d : List ℕ) (n : ℕ) (l : Loaded) (room : n * 12 + 12 ≤ length d)
       ) refl
 
 -- one row more tells one head more
-told-more : (t d d′ : List ℕ) (i : ℕ) (hs : List Head) (h : Head) → Told t d i hs → ((k : ℕ) → k < i + length hs → loadedAt d′ k ≡ loadedAt d k) → Tells t (loadedAt d′ (i + length hs)) h
+told-more : (t d d′ : List ℕ) (i : ℕ) (hs : List Head) (h : Head) → Told t d i hs
+    → ((k : ℕ) → k < i + length hs → loadedAt d′ k ≡ loadedAt d k) → Tells t (loadedAt d′ (i + length hs)) h
     → Told t d′ i (hs ++ (h ∷ []))
 told-more t d d′ i [] h told same new = (rw add-zero at new, tt)
 told-more t d d′ i (x ∷ xs) h told same new =
@@ -166,14 +169,17 @@ module _ (t : List ℕ) (p : Place) (r : Row) (next : Place) (u : Under) (q : Pa
   mask-is : given (r .mask) ≡ q .mask
   mask-is = rw (says .3) (given-back (q .mask) (fit .mask))
 
-  rule-is : ruleBy (lengthNumber (ruleOf (r .typed) (bitmaskIn (u .gathered)) (arrayIn (u .gathered)) (variantIn (u .gathered)))) (u .gathered .variant .paramoffs) (u .gathered .variant .sizemask) (u .gathered .variant .sizeoffs)
+  rule-is : ruleBy (lengthNumber (ruleOf (r .typed) (bitmaskIn (u .gathered)) (arrayIn (u .gathered)) (variantIn (u .gathered))))
+      (u .gathered .variant .paramoffs) (u .gathered .variant .sizemask) (u .gathered .variant .sizeoffs)
       ≡ ruleOf (q .type) (first asBitmask (under (from t next))) (first asArray (under (from t next))) (first asVariant (under (from t next)))
   rule-is =
-      rule-back (u .gathered .variant .paramoffs) (u .gathered .variant .sizemask) (u .gathered .variant .sizeoffs) (r .typed) (bitmaskIn (u .gathered)) (arrayIn (u .gathered)) (variantIn (u .gathered))
+      rule-back (u .gathered .variant .paramoffs) (u .gathered .variant .sizemask) (u .gathered .variant .sizeoffs) (r .typed) (bitmaskIn (u .gathered))
+      (arrayIn (u .gathered)) (variantIn (u .gathered))
       (rw m-is (bitmask-small (under (from t next)) fit-items)) (rw a-is (array-small (under (from t next)) fit-items)) (variant-agrees (u .gathered))
       ∙ rw (says .1, m-is, a-is, r-is) refl
 
-  named-is : eqb (cond (isNamed (r .typed) (arrayIn (u .gathered)) (variantIn (u .gathered))) 1 0) 1 ≡ isNamed (q .type) (first asArray (under (from t next))) (first asVariant (under (from t next)))
+  named-is : eqb (cond (isNamed (r .typed) (arrayIn (u .gathered)) (variantIn (u .gathered))) 1 0) 1
+      ≡ isNamed (q .type) (first asArray (under (from t next))) (first asVariant (under (from t next)))
   named-is = named-back (isNamed (r .typed) (arrayIn (u .gathered)) (variantIn (u .gathered))) ∙ rw (says .1, a-is, r-is) refl
 
   bits-is : u .gathered .bits ≡ countBits (under (from t next))
@@ -185,7 +191,12 @@ module _ (t : List ℕ) (p : Place) (r : Row) (next : Place) (u : Under) (q : Pa
         kind = refl;
         level = says .0;
         field = rw (← count, offset-is, mask-is, rule-is, named-is) refl;
-        stands = record { readable = rw (← count) readable; bits = rw (← count) bits-is; few = let a = all .few in let b = all .readable .inn .at-in in omega arith };
+        stands = record {
+          readable = rw (← count) readable;
+          bits = rw (← count) bits-is;
+          few = let a = all .few in let b =
+              all .readable .inn .at-in in omega arith;
+        };
       }
 
 -- ---- the loop: the rows so far tell the heads so far, and those of what is left at the place follow
@@ -202,7 +213,8 @@ pub record Loading (t d₀ d : List ℕ) (p : Place) (n : ℕ) : Type 0 where
   pub most : n ≤ 256
   pub short : length t ≤ 60000
 
-pub loading-start : (t d : List ℕ) (p : Place) → verdict t ≡ Accepted → length (headsOf t) * 12 ≤ length d → p ≡ record { at = 0; line = 1 } → Loading t d d p 0
+pub loading-start : (t d : List ℕ) (p : Place) → verdict t ≡ Accepted → length (headsOf t) * 12 ≤ length d → p ≡ record { at = 0; line = 1 }
+    → Loading t d d p 0
 loading-start t d p e size q =
     let w = accepted-within t e in
     record {
@@ -243,7 +255,8 @@ module _ (t d₀ d : List ℕ) (p : Place) (n : ℕ) (k : Loading t d₀ d p n) 
     unfolding heads
     loading-pass a b =
         let same : heads (from t p) ≡ heads (from t (read .next)) =
-        ap heads (is-read .lines) ∙ no-head (is-read .said) (λ z. a (is-read .kind ∙ z)) (λ z. b (is-read .kind ∙ z)) (p .line) (from t (read .next)) (heads (from t (read .next))) in
+        ap heads (is-read .lines) ∙ no-head (is-read .said) (λ z. a (is-read .kind ∙ z)) (λ z. b (is-read .kind ∙ z)) (p .line) (from t (read .next))
+        (heads (from t (read .next))) in
         record {
           done = k .done;
           count = k .count;
@@ -263,10 +276,12 @@ module _ (t d₀ d : List ℕ) (p : Place) (n : ℕ) (k : Loading t d₀ d p n) 
       room : n < length (headsOf t)
       room =
           let c = k .count in
-          let all : length (headsOf t) ≡ length (k .done) + suc (length (heads (from t next))) = ap length (k .all ∙ ap (λ (hs : List Head). k .done ++ hs) left) ∙ length-append (k .done) (h ∷ heads (from t next)) in
+          let all : length (headsOf t) ≡ length (k .done) + suc (length (heads (from t next))) =
+          ap length (k .all ∙ ap (λ (hs : List Head). k .done ++ hs) left) ∙ length-append (k .done) (h ∷ heads (from t next)) in
           omega arith
 
-      one-more : (l : Loaded) (d′ : List ℕ) → Tells t l h → d′ ≡ put d (n * 12) (numbers l) → Readable rules t next → Loading t d₀ d′ next (n + 1)
+      one-more : (l : Loaded) (d′ : List ℕ) → Tells t l h → d′ ≡ put d (n * 12) (numbers l) → Readable rules t next
+          → Loading t d₀ d′ next (n + 1)
       one-more l d′ tells e readable =
           let c = k .count in
           let s = k .size in
@@ -295,12 +310,15 @@ module _ (t d₀ d : List ℕ) (p : Place) (n : ℕ) (k : Loading t d₀ d p n) 
       unfolding heads
       q-left = rw (is-read .lines, said) refl
 
-      q-more : (u : Under) (l : Loaded) (d′ : List ℕ) → Gathers t (read .next) u → l ≡ loadedParam (read .row) p (read .next) (u .gathered) → d′ ≡ put d (n * 12) (numbers l) → Loading t d₀ d′ (u .next) (n + 1)
+      q-more : (u : Under) (l : Loaded) (d′ : List ℕ) → Gathers t (read .next) u → l ≡ loadedParam (read .row) p (read .next) (u .gathered)
+          → d′ ≡ put d (n * 12) (numbers l) → Loading t d₀ d′ (u .next) (n + 1)
       q-more u l d′ gathers el ed =
           let all-fit : AllFit (record { line = p .line; says = is-read .said } ∷ from t (read .next)) = rw (is-read .lines) at (from-fit t p) in
           let says : Says (param q) (read .row) = subst (λ (x : Record). Says x (read .row)) said (is-read .says) in
-          one-more _ (u .next) (q-left ∙ ap (λ (hs : List Head). isQ (record { line = p .line; says = q; items = under (from t (read .next)) }) ∷ hs) (gathers .heads-left)) l d′
-          (rw el (tells-q t p (read .row) (read .next) u q says (is-read .count) (subst Fits said (all-fit .0)) (is-read .next) (k .short) gathers)) ed (gathers .readable)
+          one-more _ (u .next) (q-left ∙ ap (λ (hs : List Head). isQ (record { line = p .line; says = q; items = under (from t (read .next)) }) ∷ hs)
+          (gathers .heads-left)) l d′
+          (rw el (tells-q t p (read .row) (read .next) u q says (is-read .count) (subst Fits said (all-fit .0)) (is-read .next) (k .short) gathers)) ed
+          (gathers .readable)
 
     module _ (is-q : read .row .kind ≡ 81) where
       the-q : (q : Param) × (is-read .said ≡ param q)
@@ -326,10 +344,12 @@ module _ (t d₀ d : List ℕ) (p : Place) (n : ℕ) (k : Loading t d₀ d p n) 
       unfolding heads
       g-left = rw (is-read .lines, said) refl
 
-      g-more : (l : Loaded) (d′ : List ℕ) → l ≡ loadedGroup (read .row) p → d′ ≡ put d (n * 12) (numbers l) → Loading t d₀ d′ (read .next) (n + 1)
+      g-more : (l : Loaded) (d′ : List ℕ) → l ≡ loadedGroup (read .row) p → d′ ≡ put d (n * 12) (numbers l)
+          → Loading t d₀ d′ (read .next) (n + 1)
       g-more l d′ el ed =
           let says : Says (group g) (read .row) = subst (λ (x : Record). Says x (read .row)) said (is-read .says) in
-          one-more _ (read .next) g-left l d′ (rw el (record { kind = refl; line-is = refl; offset = says .0; mask = says .1; shift = says .2 })) ed (is-read .next)
+          one-more _ (read .next) g-left l d′ (rw el (record { kind = refl; line-is = refl; offset = says .0; mask = says .1; shift = says .2 })) ed
+          (is-read .next)
 
     module _ (is-g : read .row .kind ≡ 71) where
       the-g : (g : Group) × (is-read .said ≡ group g)
@@ -338,15 +358,31 @@ module _ (t d₀ d : List ℕ) (p : Place) (n : ℕ) (k : Loading t d₀ d p n) 
       pub loading-g-room : n < 256
       loading-g-room = let f = k .few in omega (arith, room _ (read .next) (g-left (the-g .0) (the-g .1)))
 
-      pub loading-g : (l : Loaded) (d′ : List ℕ) → l ≡ loadedGroup (read .row) p → d′ ≡ put d (n * 12) (numbers l) → Loading t d₀ d′ (read .next) (n + 1)
+      pub loading-g : (l : Loaded) (d′ : List ℕ) → l ≡ loadedGroup (read .row) p → d′ ≡ put d (n * 12) (numbers l)
+          → Loading t d₀ d′ (read .next) (n + 1)
       loading-g l d′ el ed = g-more (the-g .0) (the-g .1) l d′ el ed
 
 -- a Q is stored
-pub stored : (t : List ℕ) (p : Place) (row : Row) (next : Place) (i : ℕ) (d : List ℕ) (u : Under) (l : Loaded) (d′ : List ℕ) → Gathers t next u → l ≡ loadedParam row p next (u .gathered) → d′ ≡ put d (i * 12) (numbers l)
+pub stored : (t : List ℕ) (p : Place) (row : Row) (next : Place) (i : ℕ) (d : List ℕ) (u : Under) (l : Loaded) (d′ : List ℕ) → Gathers t next u
+    → l ≡ loadedParam row p next (u .gathered) → d′ ≡ put d (i * 12) (numbers l)
     → Stores t p row next i d (u .next) d′
 stored t p row next i d u l d′ gathers el ed = record { under-it = u; gathers = gathers; place = refl; table = rw el at ed }
 
 pub stored-at : (t : List ℕ) (next : Place) → Readable rules t next → length t ≤ 60000 → next .at < 65536
 stored-at t next r short = let b = r .inn .at-in in omega arith
 
-pub ruleset load-laws = (stored, stored-at, loading-start, loading-end, loading-line, loading-at, loading-next-less, loading-pass, loading-q-room, loading-q-less, loading-q, loading-g-room, loading-g)
+pub ruleset load-laws = (
+  stored,
+  stored-at,
+  loading-start,
+  loading-end,
+  loading-line,
+  loading-at,
+  loading-next-less,
+  loading-pass,
+  loading-q-room,
+  loading-q-less,
+  loading-q,
+  loading-g-room,
+  loading-g,
+)

@@ -66,12 +66,14 @@ alike f true x y e = e
 alike f false x y e = refl
 
 -- what f tells of what is gathered, step by step, is what it tells of the first line of which a tells something
-by-steps : {A : Type 0} (f : Gathered → Option A) (a : Record → Option A) → ((g : Gathered) (r : Record) → Fits r → f (noted g r) ≡ orElse (f g) (a r))
+by-steps : {A : Type 0} (f : Gathered → Option A) (a : Record → Option A)
+    → ((g : Gathered) (r : Record) → Fits r → f (noted g r) ≡ orElse (f g) (a r))
     → (g : Gathered) (is : List Item) → AllFit is → f (gathered g is) ≡ orElse (f g) (first a is)
 unfolding gathered
 by-steps f a step g [] fit = sym (or-none (f g))
 by-steps f a step g (i ∷ is) fit =
-    by-steps f a step (noted g (i .says)) is (fit .1) ∙ ap (λ x. orElse x (first a is)) (step g (i .says) (fit .0)) ∙ or-assoc (f g) (a (i .says)) (first a is)
+    by-steps f a step (noted g (i .says)) is (fit .1) ∙ ap (λ x. orElse x (first a is)) (step g (i .says) (fit .0))
+    ∙ or-assoc (f g) (a (i .says)) (first a is)
 
 -- the first M
 pub given-back : (l : Option ℕ) → Optionally (λ n. n ≤ 255) l → given (orMissing l) ≡ l
@@ -94,7 +96,8 @@ bitmask-step g (const v n) fit = sym (or-none (bitmaskIn g))
 bitmask-step g (bitmask l) fit = go (eqb (g .bitmask) 257) refl
   where
     go : (b : Bool) → eqb (g .bitmask) 257 ≡ b
-        → bitmaskIn (cond b (record { bitmask = orMissing l; array = g .array; variant = g .variant; bits = g .bits }) g) ≡ orElse (cond b none (some (given (g .bitmask)))) (some l)
+        → bitmaskIn (cond b (record { bitmask = orMissing l; array = g .array; variant = g .variant; bits = g .bits }) g)
+        ≡ orElse (cond b none (some (given (g .bitmask)))) (some l)
     go true e = rw (said-at-all l fit, given-back l fit) refl
     go false e = rw e refl
 
@@ -109,7 +112,8 @@ array-step g (variant v) fit = alike arrayIn (eqb (g .variant .paramoffs) 256) _
 array-step g (array n a) fit = go (eqb (g .array .len) 256) refl
   where
     go : (b : Bool) → eqb (g .array .len) 256 ≡ b
-        → arrayIn (cond b (record { bitmask = g .bitmask; array = record { len = n; ascii = a }; variant = g .variant; bits = g .bits }) g) ≡ orElse (cond b none (some (g .array .len, g .array .ascii))) (some (n, a))
+        → arrayIn (cond b (record { bitmask = g .bitmask; array = record { len = n; ascii = a }; variant = g .variant; bits = g .bits }) g)
+        ≡ orElse (cond b none (some (g .array .len, g .array .ascii))) (some (n, a))
     go true e = rw (ne-eqb n 256 (λ z. omega arith)) refl
     go false e = rw e refl
 array-step g (bitFlag m n) fit = sym (or-none (arrayIn g))
@@ -128,8 +132,20 @@ variant-step g (group q) fit = sym (or-none (variantIn g))
 variant-step g (variant v) fit = go (eqb (g .variant .paramoffs) 256) refl
   where
     go : (b : Bool) → eqb (g .variant .paramoffs) 256 ≡ b
-        → variantIn (cond b (record { bitmask = g .bitmask; array = g .array; variant = record { paramoffs = v .offset; sizemask = v .mask; sizeoffs = v .shift; ascii = v .ascii }; bits = g .bits }) g)
-        ≡ orElse (cond b none (some (record { offset = g .variant .paramoffs; mask = g .variant .sizemask; shift = g .variant .sizeoffs; ascii = g .variant .ascii }))) (some v)
+        → variantIn (cond b (record {
+          bitmask = g .bitmask;
+          array = g .array;
+          variant =
+              record { paramoffs = v .offset; sizemask = v .mask; sizeoffs = v .shift; ascii = v .ascii };
+          bits = g .bits;
+        }) g)
+        ≡ orElse (cond b none (some (record {
+          offset = g .variant .paramoffs;
+          mask = g .variant .sizemask;
+          shift = g .variant .sizeoffs;
+          ascii =
+              g .variant .ascii;
+        }))) (some v)
     go true e = let h : v .offset ≤ 255 = fit .0 in rw (ne-eqb (v .offset) 256 (λ z. omega arith)) refl
     go false e = rw e refl
 variant-step g (array n a) fit = alike variantIn (eqb (g .array .len) 256) _ g refl ∙ sym (or-none (variantIn g))
@@ -186,7 +202,8 @@ module _ (offset mask shift : ℕ) where
   variant-back (some s) h = go (eqb (s .offset) 255 || eqb (s .mask) 0)
     where
       go : (b : Bool)
-          → ruleBy (lengthNumber (cond b Open (Counted (s .offset) (s .mask) (record { 0 = s .shift })))) offset mask shift ≡ cond b Open (Counted (s .offset) (s .mask) (record { 0 = s .shift }))
+          → ruleBy (lengthNumber (cond b Open (Counted (s .offset) (s .mask) (record { 0 = s .shift })))) offset mask shift
+          ≡ cond b Open (Counted (s .offset) (s .mask) (record { 0 = s .shift }))
       go true = refl
       go false = rw (h .0, h .1, h .2) refl
 
@@ -220,7 +237,8 @@ pub bitmask-small : (is : List Item) → AllFit is → Optionally (Optionally (�
 bitmask-small [] fit = tt
 bitmask-small (i ∷ is) fit = go (i .says) (fit .0) (bitmask-small is (fit .1))
   where
-    go : (r : Record) → Fits r → Optionally (Optionally (λ n. n ≤ 255)) (first asBitmask is) → Optionally (Optionally (λ n. n ≤ 255)) (orElse (asBitmask r) (first asBitmask is))
+    go : (r : Record) → Fits r → Optionally (Optionally (λ n. n ≤ 255)) (first asBitmask is)
+        → Optionally (Optionally (λ n. n ≤ 255)) (orElse (asBitmask r) (first asBitmask is))
     go (param q) f h = h
     go (group q) f h = h
     go (variant v) f h = h
@@ -235,7 +253,8 @@ pub array-small : (is : List Item) → AllFit is → Optionally (λ a. a .0 ≤ 
 array-small [] fit = tt
 array-small (i ∷ is) fit = go (i .says) (fit .0) (array-small is (fit .1))
   where
-    go : (r : Record) → Fits r → Optionally (λ a. a .0 ≤ 255) (first asArray is) → Optionally (λ a. a .0 ≤ 255) (orElse (asArray r) (first asArray is))
+    go : (r : Record) → Fits r → Optionally (λ a. a .0 ≤ 255) (first asArray is)
+        → Optionally (λ a. a .0 ≤ 255) (orElse (asArray r) (first asArray is))
     go (param q) f h = h
     go (group q) f h = h
     go (variant v) f h = h
@@ -251,6 +270,12 @@ pub variant-agrees : (g : Gathered) → Agrees (variantIn g) (g .variant .paramo
 variant-agrees g = go (eqb (g .variant .paramoffs) 256)
   where
     go : (b : Bool)
-        → Agrees (cond b none (some (record { offset = g .variant .paramoffs; mask = g .variant .sizemask; shift = g .variant .sizeoffs; ascii = g .variant .ascii }))) (g .variant .paramoffs) (g .variant .sizemask) (g .variant .sizeoffs)
+        → Agrees (cond b none (some (record {
+          offset = g .variant .paramoffs;
+          mask = g .variant .sizemask;
+          shift = g .variant .sizeoffs;
+          ascii =
+              g .variant .ascii;
+        }))) (g .variant .paramoffs) (g .variant .sizemask) (g .variant .sizeoffs)
     go true = tt
     go false = (refl, refl, refl)

@@ -12,7 +12,8 @@ use Rattle.text.specs.Text.{split, lines, fields, field}
 use Rattle.text.specs.Text as text
 use Rattle.text.specs.Records.{records, onto}
 use Rattle.text.specs.Place.{kindOf}
-use Rattle.command_text.specs.Form.{Record, group, variant, array, bitFlag, bitField, fieldEnum, const, bitmask, typeOf, paramFields, groupFields, groupForm, variantForm, arrayForm, namedForm, bitsForm, bitmaskForm, ofType, said, paramSaid, form}
+use Rattle.command_text.specs.Form.{Record, group, variant, array, bitFlag, bitField, fieldEnum, const, bitmask, typeOf, paramFields, groupFields, groupForm}
+use Rattle.command_text.specs.Form.{variantForm, arrayForm, namedForm, bitsForm, bitmaskForm, ofType, said, paramSaid, form}
 use Rattle.command_text.specs.Form as form
 use Rattle.command_text.specs.Rules.{begins, count}
 use Rattle.command_schema.specs.Heads.{headsOf}
@@ -59,7 +60,8 @@ module _ (fs : List (List ℕ)) where
 
   form-long : Long fs (form fs)
   form-long =
-      by-kind (eqb (kindOf fs) 81) (eqb (kindOf fs) 71) (eqb (kindOf fs) 82) (eqb (kindOf fs) 65) (eqb (kindOf fs) 84) (eqb (kindOf fs) 83) (eqb (kindOf fs) 85) (eqb (kindOf fs) 75) (eqb (kindOf fs) 77)
+      by-kind (eqb (kindOf fs) 81) (eqb (kindOf fs) 71) (eqb (kindOf fs) 82) (eqb (kindOf fs) 65) (eqb (kindOf fs) 84) (eqb (kindOf fs) 83)
+      (eqb (kindOf fs) 85) (eqb (kindOf fs) 75) (eqb (kindOf fs) 77)
     where
       by-kind : (q g r a t s u k m : Bool)
           → Long fs
@@ -88,7 +90,8 @@ lines-long [] = omega arith
 lines-long (l ∷ []) = omega arith
 lines-long (l ∷ m ∷ ms) = go (form (fields l)) (form-long (fields l)) (lines-long (m ∷ ms))
   where
-    go : (x : Option Record) → Long (fields l) x → count (records form (m ∷ ms)) * 5 ≤ total (m ∷ ms) → count (onto x (records form (m ∷ ms))) * 5 ≤ total (l ∷ m ∷ ms)
+    go : (x : Option Record) → Long (fields l) x → count (records form (m ∷ ms)) * 5 ≤ total (m ∷ ms)
+        → count (onto x (records form (m ∷ ms))) * 5 ≤ total (l ∷ m ∷ ms)
     go none long ih = omega arith
     go (some r) long ih = by (begins r) refl
       where

@@ -28,7 +28,8 @@ pub record HeadAt (t d : List ℕ) (j : ℕ) (hs : List Head) : Type 0 where
   pub rest : drop j hs ≡ head ∷ drop (j + 1) hs
   pub tells : Tells t (loadedAt d j) head
 
-told-at : (t d : List ℕ) (i : ℕ) (hs : List Head) (k : ℕ) → Told t d i hs → k < length hs → (h : Head) × (drop k hs ≡ h ∷ drop (k + 1) hs) × Tells t (loadedAt d (i + k)) h
+told-at : (t d : List ℕ) (i : ℕ) (hs : List Head) (k : ℕ) → Told t d i hs → k < length hs → (h : Head) × (drop k hs ≡ h ∷ drop (k + 1) hs)
+    × Tells t (loadedAt d (i + k)) h
 told-at t d i [] k told h = absurd (omega arith)
 told-at t d i (x ∷ xs) zero told h = (x, refl, rw add-zero (told .0))
 told-at t d i (x ∷ xs) (suc k) told h =
@@ -86,7 +87,8 @@ module _ (t : List ℕ) (l : Loaded) (hs : List Head) where
   outer-here (isQ q) w e = let k = outer-kind l e in (q, rw (← w .level, eq-eqb (l .level) 0 (k .1)) refl, record { field = w .field; stands = w .stands })
   outer-here (isG line g) w e = absurd (let a : l .kind ≡ 71 = w .kind in let b : l .kind ≡ 81 = outer-kind l e .0 in omega arith)
 
-  group-here : (h : Head) → Tells t l h → l .kind ≡ 71 → (g : Group) × (entriesOf (h ∷ hs) ≡ repeated (l .line) g (membersOf hs) ∷ entriesOf hs) × TellsG l (l .line) g
+  group-here : (h : Head) → Tells t l h → l .kind ≡ 71 → (g : Group)
+      × (entriesOf (h ∷ hs) ≡ repeated (l .line) g (membersOf hs) ∷ entriesOf hs) × TellsG l (l .line) g
   unfolding entriesOf
   group-here (isQ q) w e = absurd (let a : l .kind ≡ 81 = w .kind in omega arith)
   group-here (isG line g) w e = (g, rw (w .line-is) refl, record { kind = w .kind; line-is = refl; offset = w .offset; mask = w .mask; shift = w .shift })

@@ -35,7 +35,13 @@ gatheredNone =
 abbrev pub withVariant : Gathered → ℕ → ℕ → ℕ → Bool → Gathered
 withVariant g offset mask shift ascii =
     cond (eqb (g .variant .paramoffs) 256)
-    (record { bitmask = g .bitmask; array = g .array; variant = record { paramoffs = offset; sizemask = mask; sizeoffs = shift; ascii = ascii }; bits = g .bits })
+    (record {
+      bitmask = g .bitmask;
+      array = g .array;
+      variant = record { paramoffs = offset; sizemask = mask; sizeoffs = shift; ascii = ascii };
+      bits =
+          g .bits;
+    })
     g
 
 abbrev pub withArray : Gathered → ℕ → Bool → Gathered

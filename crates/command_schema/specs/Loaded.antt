@@ -39,7 +39,8 @@ SmallHeads (h ∷ hs) = SmallHead h × SmallHeads hs
 -- its numbers, in the order of the table
 abbrev pub numbers : Loaded → List ℕ
 numbers l =
-    l .kind ∷ l .level ∷ l .line ∷ l .at ∷ l .optionaloffs ∷ l .optionalmask ∷ l .length ∷ l .paramoffs ∷ l .sizemask ∷ l .sizeoffs ∷ l .bits ∷ l .named ∷ []
+    l .kind ∷ l .level ∷ l .line ∷ l .at ∷ l .optionaloffs ∷ l .optionalmask ∷ l .length ∷ l .paramoffs ∷ l .sizemask ∷ l .sizeoffs ∷ l
+    .bits ∷ l .named ∷ []
 
 -- row i of a table
 unfoldable pub loadedAt : List ℕ → ℕ → Loaded

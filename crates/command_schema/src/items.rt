@@ -9,7 +9,8 @@ ghost use lib.ListN.{length};
 ghost use Rattle.text.specs.Records.{Readable};
 ghost use Rattle.command_text.specs.Rules.{rules};
 ghost use Rattle.command_rules.specs.Field.{arrayAscii, variantAscii, variantRule, variableRule, ruleOf, isConst, isNamed};
-ghost use Rattle.command_schema.specs.Gathered.{gatheredNone, withVariant, withArray, withBitmask, withBits, notedRow, Gathers, bitmaskIn, arraySaid, arrayIn, variantSaid, variantIn, lengthNumber};
+ghost use Rattle.command_schema.specs.Gathered.{gatheredNone, withVariant, withArray, withBitmask, withBits, notedRow, Gathers, bitmaskIn, arraySaid};
+ghost use Rattle.command_schema.specs.Gathered.{arrayIn, variantSaid, variantIn, lengthNumber};
 
 // The first A under a Q; 256 for its length where there is none.
 pub struct ArrayAttrib {

@@ -14,7 +14,8 @@ use Rattle.text.specs.declared.Place.{Place}
 use Rattle.text.specs.declared.Line.{Line}
 use Rattle.text.specs.declared.Verdict.the-variants.{Accepted, Refused}
 use Rattle.text.proofs.Tests.{alike}
-use Rattle.text.proofs.Judging.{Brief, Outcome, on, passed, astray, wrong, Meets, Checked, checked-long, checked-start, checked-end, checked-on, checked-passed, checked-lost, checked-wrong}
+use Rattle.text.proofs.Judging.{Brief, Outcome, on, passed, astray, wrong, Meets, Checked, checked-long, checked-start, checked-end, checked-on}
+use Rattle.text.proofs.Judging.{checked-passed, checked-lost, checked-wrong}
 use Rattle.command_kept.specs.Kept.{nothing, judged, judgedItem}
 use Rattle.command_kept.specs.declared.Form.{Form}
 use Rattle.command_kept.specs.declared.Kept.{Kept}
@@ -50,7 +51,8 @@ module _ (before : List Record) (k : Kept) (tells : Tells before k) where
   meets-item : (r : Record) → IsItem r → Meets rules Tells before (some r) (outcome (judgedItem k (shift r)))
   meets-item r is = go (k .owned) (leb 32 (k .items)) (ltb 7 (shift r)) refl (sym (tells .owns)) (rw (tells .holds)) refl
     where
-      go : (a b c : Bool) → k .owned ≡ a → owned before ≡ a → leb 32 (items before) ≡ b → ltb 7 (shift r) ≡ c → Meets rules Tells before (some r) (outcome (cond a (cond b Passed (cond c Lost
+      go : (a b c : Bool) → k .owned ≡ a → owned before ≡ a → leb 32 (items before) ≡ b → ltb 7 (shift r) ≡ c
+          → Meets rules Tells before (some r) (outcome (cond a (cond b Passed (cond c Lost
           (On (record { count = k .count; owned = k .owned; grouped = k .grouped; items = k .items + 1 })))) Lost))
       go false b c o p q s = (r, refl, rw (is .item, p), rw (is .item, p))
       go true true c o p q s = (r, refl, rw (is .item, p, q))
@@ -71,7 +73,8 @@ module _ (before : List Record) (k : Kept) (tells : Tells before k) where
   meets-group : (g : Group) → Meets rules Tells before (some (group g)) (outcome (judged k (shape (some (group g)))))
   meets-group g = go (leb 256 (k .count)) (ltb 7 (g .shift)) (rw (tells .counted)) refl
     where
-      go : (a b : Bool) → leb 256 (count before) ≡ a → ltb 7 (g .shift) ≡ b → Meets rules Tells before (some (group g)) (outcome (cond a Passed (cond b Lost
+      go : (a b : Bool) → leb 256 (count before) ≡ a → ltb 7 (g .shift) ≡ b
+          → Meets rules Tells before (some (group g)) (outcome (cond a Passed (cond b Lost
           (On (record { count = k .count + 1; owned = false; grouped = true; items = 0 })))))
       go true b p q = (group g, refl, p)
       go false true p q = (group g, refl, p, q)
@@ -83,7 +86,8 @@ module _ (before : List Record) (k : Kept) (tells : Tells before k) where
       counted : k .count + 1 ≡ suc (count before)
       counted = omega (arith, tells .counted)
 
-      go : (a b c : Bool) → leb 256 (count before) ≡ a → eqb (q .level) 1 ≡ b → grouped before ≡ c → Meets rules Tells before (some (param q)) (outcome (cond a Passed (cond b
+      go : (a b c : Bool) → leb 256 (count before) ≡ a → eqb (q .level) 1 ≡ b → grouped before ≡ c
+          → Meets rules Tells before (some (param q)) (outcome (cond a Passed (cond b
           (cond c (On (record { count = k .count + 1; owned = true; grouped = true; items = 0 })) Lost)
           (On (record { count = k .count + 1; owned = true; grouped = false; items = 0 })))))
       go true b c p s g = (param q, refl, p)
@@ -127,7 +131,8 @@ check-start t p k e f = checked-start rules Tells t p k (tells-nothing k f) e
 pub check-end : (t : List ℕ) (p : Place) (k : Kept) → Checked rules Tells t p k → length t ≤ 60000 → length t ≤ p .at → Accepted ≡ verdict t
 check-end t p k c short h = checked-end rules Tells t p k c short h
 
-module _ (t : List ℕ) (p : Place) (k : Kept) (l : Line) (f : Form) (j : Judged) (c : Checked rules Tells t p k) (inside : p .at < length t) (step : Steps t p l)
+module _ (t : List ℕ) (p : Place) (k : Kept) (l : Line) (f : Form) (j : Judged) (c : Checked rules Tells t p k) (inside : p .at < length t)
+    (step : Steps t p l)
     (form-is : f ≡ shape (form (cells t l))) (judgement : j ≡ judged k f) where
   met : Meets rules Tells (c .before) (form (cells t l)) (outcome j)
   met = rw (judgement, form-is) (meets (c .before) k (c .tells) (form (cells t l)))

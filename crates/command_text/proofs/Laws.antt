@@ -16,7 +16,9 @@ use Rattle.text.proofs.Laws.{cells-length}
 use Rattle.text.proofs.Tests.{and-left, and-right, count-of, value-of, optional-value-of}
 use Rattle.command_kept.specs.declared.Form.{Form}
 use Rattle.command_kept.specs.declared.Form.the-variants.{Param, Group, Item, Bad}
-use Rattle.command_text.specs.Form.{Record, group, variant, bitField, fieldEnum, either, typeOf, known, paramWords, paramCondition, paramFields, groupFields, groupForm, variantFields, variantForm, arrayForm, namedForm, bitsFields, bitsForm, bitmaskForm, groupOf, sizeOf, bitsOf, ofType, said, paramSaid, form}
+use Rattle.command_text.specs.Form.{Record, group, variant, bitField, fieldEnum, either, typeOf, known, paramWords, paramCondition, paramFields}
+use Rattle.command_text.specs.Form.{groupFields, groupForm, variantFields, variantForm, arrayForm, namedForm, bitsFields, bitsForm, bitmaskForm}
+use Rattle.command_text.specs.Form.{groupOf, sizeOf, bitsOf, ofType, said, paramSaid, form}
 use Rattle.command_text.specs.Shape.{tagged, shape}
 use Rattle.command_text.specs.declared.ParamType.{ParamType}
 use Rattle.command_text.specs.declared.Typed.{Typed}
@@ -78,21 +80,25 @@ module _ (t : List ℕ) (l : Line) (b : Bool) (v : ℕ) where
       → Group v ≡ shape (said (groupForm (cells t l)) (some (group (groupOf (cells t l)))))
   group-is good h e at-v =
       let u : upTo 255 (field 4 (cells t l)) ≡ true = group-shift (cells t l) (sym good ∙ e) in
-      fields-good t l 5 (groupFields (cells t l)) (some (group (groupOf (cells t l)))) b good h e (Group v) (ap Group (at-v ∙ value-of 255 (field 4 (cells t l)) u))
+      fields-good t l 5 (groupFields (cells t l)) (some (group (groupOf (cells t l)))) b good h e (Group v)
+      (ap Group (at-v ∙ value-of 255 (field 4 (cells t l)) u))
 
   pub variant-is : b ≡ variantFields (cells t l) → l .fields ≡ 5 → b ≡ true → v ≡ optionalValue 255 (field 3 (cells t l))
       → Item v ≡ shape (said (variantForm (cells t l)) (some (variant (sizeOf (cells t l)))))
   variant-is good h e at-v =
       let u : optionalUpTo 255 (field 3 (cells t l)) ≡ true = variant-shift (cells t l) (sym good ∙ e) in
-      fields-good t l 5 (variantFields (cells t l)) (some (variant (sizeOf (cells t l)))) b good h e (Item v) (ap Item (at-v ∙ optional-value-of 255 (field 3 (cells t l)) u))
+      fields-good t l 5 (variantFields (cells t l)) (some (variant (sizeOf (cells t l)))) b good h e (Item v)
+      (ap Item (at-v ∙ optional-value-of 255 (field 3 (cells t l)) u))
 
   pub bits-is : b ≡ bitsFields (cells t l) → l .fields ≡ 4 → b ≡ true → v ≡ optionalValue 255 (field 2 (cells t l))
       → Item v ≡ shape (said (bitsForm (cells t l)) (some (bitField (bitsOf (cells t l)))))
   bits-is good h e at-v =
       let u : optionalUpTo 255 (field 2 (cells t l)) ≡ true = bits-shift (cells t l) (sym good ∙ e) in
-      fields-good t l 4 (bitsFields (cells t l)) (some (bitField (bitsOf (cells t l)))) b good h e (Item v) (ap Item (at-v ∙ optional-value-of 255 (field 2 (cells t l)) u))
+      fields-good t l 4 (bitsFields (cells t l)) (some (bitField (bitsOf (cells t l)))) b good h e (Item v)
+      (ap Item (at-v ∙ optional-value-of 255 (field 2 (cells t l)) u))
 
-  pub param-is : b ≡ paramFields (cells t l) → l .fields ≡ 6 → b ≡ true → v ≡ text.value 1 (field 1 (cells t l)) → Param v ≡ shape (paramSaid (cells t l))
+  pub param-is : b ≡ paramFields (cells t l) → l .fields ≡ 6 → b ≡ true → v ≡ text.value 1 (field 1 (cells t l))
+      → Param v ≡ shape (paramSaid (cells t l))
   param-is good h e at-v =
       let u : upTo 1 (field 1 (cells t l)) ≡ true = param-level (cells t l) (sym good ∙ e) in
       let k : known (typeOf (field 2 (cells t l))) ≡ true = param-type (cells t l) (sym good ∙ e) in
@@ -144,7 +150,8 @@ module _ (fs : List (List ℕ)) (k : ℕ) (kind : k ≡ kindOf fs) where
       pub kind-bitmask : k ≡ 77 → b ≡ bitmaskForm fs → r ≡ shape (form fs)
       kind-bitmask q e = rw (← kind, q, ← e) (item-shape b r _ refl item)
 
-  pub kind-none : (k ≡ 81 → ⊥) → (k ≡ 71 → ⊥) → (k ≡ 82 → ⊥) → (k ≡ 65 → ⊥) → (k ≡ 84 → ⊥) → (k ≡ 83 → ⊥) → (k ≡ 85 → ⊥) → (k ≡ 75 → ⊥) → (k ≡ 77 → ⊥) → Bad ≡ shape (form fs)
+  pub kind-none : (k ≡ 81 → ⊥) → (k ≡ 71 → ⊥) → (k ≡ 82 → ⊥) → (k ≡ 65 → ⊥) → (k ≡ 84 → ⊥) → (k ≡ 83 → ⊥)
+      → (k ≡ 85 → ⊥) → (k ≡ 75 → ⊥) → (k ≡ 77 → ⊥) → Bad ≡ shape (form fs)
   kind-none q g r a t s u c m =
       rw (← kind, ne-eqb _ _ q, ne-eqb _ _ g, ne-eqb _ _ r, ne-eqb _ _ a, ne-eqb _ _ t, ne-eqb _ _ s, ne-eqb _ _ u, ne-eqb _ _ c, ne-eqb _ _ m)
 

@@ -10,19 +10,24 @@ nothing : verdict [] ≡ Accepted
 nothing = refl
 
 -- a BYTE, and a VARIANT with an R: `Q|0|BYTE|n|-|-/Q|0|VARIANT|v|-|-/R|0|7|0|0/`
-example : verdict (81 ∷ 9 ∷ 48 ∷ 9 ∷ 66 ∷ 89 ∷ 84 ∷ 69 ∷ 9 ∷ 110 ∷ 9 ∷ 45 ∷ 9 ∷ 45 ∷ 10 ∷ 81 ∷ 9 ∷ 48 ∷ 9 ∷ 86 ∷ 65 ∷ 82 ∷ 73 ∷ 65 ∷ 78 ∷ 84 ∷ 9 ∷ 118 ∷ 9 ∷ 45 ∷ 9 ∷ 45 ∷ 10 ∷ 82 ∷ 9 ∷ 48 ∷ 9 ∷ 55 ∷ 9 ∷ 48 ∷ 9 ∷ 48 ∷ 10 ∷ []) ≡ Accepted
+example : verdict (81 ∷ 9 ∷ 48 ∷ 9 ∷ 66 ∷ 89 ∷ 84 ∷ 69 ∷ 9 ∷ 110 ∷ 9 ∷ 45 ∷ 9 ∷ 45 ∷ 10 ∷ 81 ∷ 9 ∷ 48 ∷ 9 ∷ 86 ∷ 65
+    ∷ 82 ∷ 73 ∷ 65 ∷ 78 ∷ 84 ∷ 9 ∷ 118 ∷ 9 ∷ 45 ∷ 9 ∷ 45 ∷ 10 ∷ 82 ∷ 9 ∷ 48 ∷ 9 ∷ 55 ∷ 9 ∷ 48 ∷ 9 ∷ 48 ∷ 10
+    ∷ []) ≡ Accepted
 example = refl
 
 -- a missing shift: `Q|0|VARIANT|v|-|-/R|0|7|-|0/`
-shift-missing : verdict (81 ∷ 9 ∷ 48 ∷ 9 ∷ 86 ∷ 65 ∷ 82 ∷ 73 ∷ 65 ∷ 78 ∷ 84 ∷ 9 ∷ 118 ∷ 9 ∷ 45 ∷ 9 ∷ 45 ∷ 10 ∷ 82 ∷ 9 ∷ 48 ∷ 9 ∷ 55 ∷ 9 ∷ 45 ∷ 9 ∷ 48 ∷ 10 ∷ []) ≡ Accepted
+shift-missing : verdict (81 ∷ 9 ∷ 48 ∷ 9 ∷ 86 ∷ 65 ∷ 82 ∷ 73 ∷ 65 ∷ 78 ∷ 84 ∷ 9 ∷ 118 ∷ 9 ∷ 45 ∷ 9 ∷ 45 ∷ 10 ∷ 82 ∷ 9
+    ∷ 48 ∷ 9 ∷ 55 ∷ 9 ∷ 45 ∷ 9 ∷ 48 ∷ 10 ∷ []) ≡ Accepted
 shift-missing = refl
 
 -- `Q|0|VARIANT|v|-|-/R|0|7|8|0/`
-shift-8 : verdict (81 ∷ 9 ∷ 48 ∷ 9 ∷ 86 ∷ 65 ∷ 82 ∷ 73 ∷ 65 ∷ 78 ∷ 84 ∷ 9 ∷ 118 ∷ 9 ∷ 45 ∷ 9 ∷ 45 ∷ 10 ∷ 82 ∷ 9 ∷ 48 ∷ 9 ∷ 55 ∷ 9 ∷ 56 ∷ 9 ∷ 48 ∷ 10 ∷ []) ≡ Refused (Owner 2)
+shift-8 : verdict (81 ∷ 9 ∷ 48 ∷ 9 ∷ 86 ∷ 65 ∷ 82 ∷ 73 ∷ 65 ∷ 78 ∷ 84 ∷ 9 ∷ 118 ∷ 9 ∷ 45 ∷ 9 ∷ 45 ∷ 10 ∷ 82 ∷ 9 ∷ 48
+    ∷ 9 ∷ 55 ∷ 9 ∷ 56 ∷ 9 ∷ 48 ∷ 10 ∷ []) ≡ Refused (Owner 2)
 shift-8 = refl
 
 -- `Q|0|VARIANT|v|-|-/R|0|7|256|0/`
-shift-256 : verdict (81 ∷ 9 ∷ 48 ∷ 9 ∷ 86 ∷ 65 ∷ 82 ∷ 73 ∷ 65 ∷ 78 ∷ 84 ∷ 9 ∷ 118 ∷ 9 ∷ 45 ∷ 9 ∷ 45 ∷ 10 ∷ 82 ∷ 9 ∷ 48 ∷ 9 ∷ 55 ∷ 9 ∷ 50 ∷ 53 ∷ 54 ∷ 9 ∷ 48 ∷ 10 ∷ []) ≡ Refused (Form 2)
+shift-256 : verdict (81 ∷ 9 ∷ 48 ∷ 9 ∷ 86 ∷ 65 ∷ 82 ∷ 73 ∷ 65 ∷ 78 ∷ 84 ∷ 9 ∷ 118 ∷ 9 ∷ 45 ∷ 9 ∷ 45 ∷ 10 ∷ 82 ∷ 9 ∷ 48
+    ∷ 9 ∷ 55 ∷ 9 ∷ 50 ∷ 53 ∷ 54 ∷ 9 ∷ 48 ∷ 10 ∷ []) ≡ Refused (Form 2)
 shift-256 = refl
 
 -- `G|g|0|7|-/`
@@ -34,7 +39,8 @@ group-shift-8 : verdict (71 ∷ 9 ∷ 103 ∷ 9 ∷ 48 ∷ 9 ∷ 55 ∷ 9 ∷ 56
 group-shift-8 = refl
 
 -- a member of a group: `G|g|0|7|0/Q|1|BYTE|m|-|-/`
-member : verdict (71 ∷ 9 ∷ 103 ∷ 9 ∷ 48 ∷ 9 ∷ 55 ∷ 9 ∷ 48 ∷ 10 ∷ 81 ∷ 9 ∷ 49 ∷ 9 ∷ 66 ∷ 89 ∷ 84 ∷ 69 ∷ 9 ∷ 109 ∷ 9 ∷ 45 ∷ 9 ∷ 45 ∷ 10 ∷ []) ≡ Accepted
+member : verdict (71 ∷ 9 ∷ 103 ∷ 9 ∷ 48 ∷ 9 ∷ 55 ∷ 9 ∷ 48 ∷ 10 ∷ 81 ∷ 9 ∷ 49 ∷ 9 ∷ 66 ∷ 89 ∷ 84 ∷ 69 ∷ 9 ∷ 109 ∷ 9
+    ∷ 45 ∷ 9 ∷ 45 ∷ 10 ∷ []) ≡ Accepted
 member = refl
 
 -- a level 1 Q without a G: `Q|1|BYTE|m|-|-/`
@@ -42,7 +48,9 @@ no-group : verdict (81 ∷ 9 ∷ 49 ∷ 9 ∷ 66 ∷ 89 ∷ 84 ∷ 69 ∷ 9 ∷ 
 no-group = refl
 
 -- a level 0 Q ends a group: `G|g|0|7|0/Q|0|BYTE|m|-|-/Q|1|BYTE|m|-|-/`
-group-ended : verdict (71 ∷ 9 ∷ 103 ∷ 9 ∷ 48 ∷ 9 ∷ 55 ∷ 9 ∷ 48 ∷ 10 ∷ 81 ∷ 9 ∷ 48 ∷ 9 ∷ 66 ∷ 89 ∷ 84 ∷ 69 ∷ 9 ∷ 109 ∷ 9 ∷ 45 ∷ 9 ∷ 45 ∷ 10 ∷ 81 ∷ 9 ∷ 49 ∷ 9 ∷ 66 ∷ 89 ∷ 84 ∷ 69 ∷ 9 ∷ 109 ∷ 9 ∷ 45 ∷ 9 ∷ 45 ∷ 10 ∷ []) ≡ Refused (Owner 3)
+group-ended : verdict (71 ∷ 9 ∷ 103 ∷ 9 ∷ 48 ∷ 9 ∷ 55 ∷ 9 ∷ 48 ∷ 10 ∷ 81 ∷ 9 ∷ 48 ∷ 9 ∷ 66 ∷ 89 ∷ 84 ∷ 69 ∷ 9 ∷ 109
+    ∷ 9 ∷ 45 ∷ 9 ∷ 45 ∷ 10 ∷ 81 ∷ 9 ∷ 49 ∷ 9 ∷ 66 ∷ 89 ∷ 84 ∷ 69 ∷ 9 ∷ 109 ∷ 9 ∷ 45 ∷ 9 ∷ 45 ∷ 10 ∷ [])
+    ≡ Refused (Owner 3)
 group-ended = refl
 
 -- a G owns no item line: `G|g|0|7|0/K|1|x/`
@@ -54,7 +62,8 @@ level-2 : verdict (81 ∷ 9 ∷ 50 ∷ 9 ∷ 66 ∷ 89 ∷ 84 ∷ 69 ∷ 9 ∷ 1
 level-2 = refl
 
 -- an M with no length: `Q|0|BITMASK|m|-|-/M|-/`
-no-length : verdict (81 ∷ 9 ∷ 48 ∷ 9 ∷ 66 ∷ 73 ∷ 84 ∷ 77 ∷ 65 ∷ 83 ∷ 75 ∷ 9 ∷ 109 ∷ 9 ∷ 45 ∷ 9 ∷ 45 ∷ 10 ∷ 77 ∷ 9 ∷ 45 ∷ 10 ∷ []) ≡ Accepted
+no-length : verdict (81 ∷ 9 ∷ 48 ∷ 9 ∷ 66 ∷ 73 ∷ 84 ∷ 77 ∷ 65 ∷ 83 ∷ 75 ∷ 9 ∷ 109 ∷ 9 ∷ 45 ∷ 9 ∷ 45 ∷ 10 ∷ 77 ∷ 9 ∷ 45
+    ∷ 10 ∷ []) ≡ Accepted
 no-length = refl
 
 -- the last line is not ended: `Q|0|BYTE|m|-|-`

@@ -62,7 +62,8 @@ byte-is r b h l =
     let e : r ≡ r / 256 * 2 ^ 8 + r % 256 = omega arith in
     let d : b * 2 ^ 8 ≡ b * 2 ^ 8 + 0 = omega arith in
     let s : plus r (b * 2 ^ 8) ≡ plus (plus (r / 256) b * 2 ^ 8) (r % 256) =
-    ap₂ plus e d ∙ plus-block 8 (r / 256) b (r % 256) 0 (omega arith) (omega arith) ∙ (rw (plus-zero (r % 256))) ∙ sym (plus-join (plus (r / 256) b) 8 (r % 256) (omega arith)) in
+    ap₂ plus e d ∙ plus-block 8 (r / 256) b (r % 256) 0 (omega arith) (omega arith) ∙ (rw (plus-zero (r % 256)))
+    ∙ sym (plus-join (plus (r / 256) b) 8 (r % 256) (omega arith)) in
     ap (turns 8) s ∙ turns-plus 8 (plus (r / 256) b * 2 ^ 8) (r % 256) ∙ (rw (turns-low (r % 256) (omega arith)))
 
 -- ---- crc_byte

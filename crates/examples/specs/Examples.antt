@@ -35,7 +35,15 @@ pub record Starred : Type 0 where
   pub never-right : (speed : ℕ) → right (0x1D ∷ 0x0F ∷ []) speed ≡ false
   -- E9, E10
   pub header : decoded text (0xA5 ∷ 0xC3 ∷ []) 0 0 30
-      ≡ Header (record { number = 0; key = 0; flags = record { ack = false; routed = false; multicast = false; error = false }; payload = 2; right = false; rows = 4 })
+      ≡ Header (record {
+        number = 0;
+        key = 0;
+        flags = record { ack = false; routed = false; multicast = false; error = false };
+        payload = 2;
+        right =
+            false;
+        rows = 4;
+      })
   pub header-rows : tableAfter table (toldOf text (0xA5 ∷ 0xC3 ∷ []) 0 0 30) (decoded text (0xA5 ∷ 0xC3 ∷ []) 0 0 30)
       ≡ 0 ∷ 0 ∷ 0 ∷ 8 ∷ 1 ∷ 0xA5 ∷ 0
       ∷ 1 ∷ 0 ∷ 8 ∷ 8 ∷ 1 ∷ 0xC3 ∷ 0

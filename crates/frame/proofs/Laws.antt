@@ -24,7 +24,8 @@ use Rattle.frame.specs.declared.Split.{Split}
 use Rattle.frame.specs.declared.Split.the-variants.{Into, Nothing as NoSplit}
 use Rattle.laws.proofs.Bools.{and-left, and-right}
 use Rattle.laws.proofs.Lists.{tail}
-use Rattle.frame.specs.Frame.{headerOf, trailerOf, directionOf, successOf, fieldsOf, header, start, trailer, between, middle, fields, holds, isFrame, mpduOf, beamsIn, framed, frameOf, parsedOf}
+use Rattle.frame.specs.Frame.{headerOf, trailerOf, directionOf, successOf, fieldsOf, header, start, trailer, between, middle, fields, holds, isFrame}
+use Rattle.frame.specs.Frame.{mpduOf, beamsIn, framed, frameOf, parsedOf}
 use Rattle.frame.specs.Steps.{layoutOf, partsOf, splitOf, PartsIn}
 use Rattle.refusal.specs.declared.Refusal.the-variants.{TooLong, NotAFrame}
 use Rattle.frame.specs.declared.PtiFrame.{PtiFrame}
@@ -66,7 +67,8 @@ module _ (d : Direction) (first : ℕ) (t : Trailer) where
   pub holds-beam : t .protocol ≡ 6 → first ≡ 0x55 → true ≡ holds d (eqb first 0x55) t
   holds-beam h e = rw (eq-eqb (t .protocol) 6 h, eq-eqb first 0x55 e) refl
 
-  pub holds-tag : (tag : ℕ) (r : Bool) → t .protocol ≡ 6 → (first ≡ 0x55 → ⊥) → tag ≡ successOf d → r ≡ eqb (t .tag) tag → r ≡ holds d (eqb first 0x55) t
+  pub holds-tag : (tag : ℕ) (r : Bool) → t .protocol ≡ 6 → (first ≡ 0x55 → ⊥) → tag ≡ successOf d → r ≡ eqb (t .tag) tag
+      → r ≡ holds d (eqb first 0x55) t
   holds-tag tag r h e is-tag is-r = rw (eq-eqb (t .protocol) 6 h, ne-eqb first 0x55 e, ← is-tag) is-r
 
 -- ---- where the middle bytes lie
@@ -149,7 +151,8 @@ module _ (b : List ℕ) (l : Layout) (m e : BodyOffset) (is-l : l ≡ layoutOf b
   pub trailer-room : 5 ≤ length (take (length b - e .0) (drop (e .0) b))
   trailer-room = rw (tail b (e .0), length-drop) (omega (arith, is-e, room .0, room .1))
 
-  module _ (d : Direction) (t : Trailer) (w : Bool) (is-d : d ≡ directionOf (getD b (m .0 - 1) 0)) (is-t : t ≡ fieldsOf d (take (length b - e .0) (drop (e .0) b)))
+  module _ (d : Direction) (t : Trailer) (w : Bool) (is-d : d ≡ directionOf (getD b (m .0 - 1) 0))
+      (is-t : t ≡ fieldsOf d (take (length b - e .0) (drop (e .0) b)))
       (is-w : w ≡ holds d (eqb (getD b (m .0) 0) 0x55) t) where
     the-d : d ≡ directionOf (start b)
     the-d = rw (← is-m) at is-d
@@ -162,7 +165,8 @@ module _ (b : List ℕ) (l : Layout) (m e : BodyOffset) (is-l : l ≡ layoutOf b
     first-byte : getD b (m .0) 0 ≡ getD (middle b) 0 0
     first-byte =
         let n : 0 < length b - trailer b - header b = omega (arith, room .1) in
-        sym (getD-take (length b - trailer b - header b) (drop (header b) b) 0 0 n ∙ getD-drop (header b) b 0 0 ∙ ap (λ (k : ℕ). getD b k 0) (omega (arith, is-m)))
+        sym (getD-take (length b - trailer b - header b) (drop (header b) b) 0 0 n ∙ getD-drop (header b) b 0 0
+        ∙ ap (λ (k : ℕ). getD b k 0) (omega (arith, is-m)))
 
     the-w : w ≡ isFrame b
     the-w = rw (known .0) (is-w ∙ rw (first-byte, the-t, the-d) refl)
@@ -205,8 +209,19 @@ module _ (b : List ℕ) (p : Parts) (inside : PartsIn b p) where
   pub middle-bytes : 0 < length mid
   middle-bytes = rw length-take (rw length-drop (omega (arith, inside .some, inside .inside)))
 
-  pub frame-is : (rate l : ℕ) (rssi : ℤ) (beams : Beams) → rate ≡ rateOf (p .trailer .channel) (p .trailer .region) → rssi ≡ toZ w8 (p .trailer .rssi) → mag rssi < 2 ^ hbits w8 → beams ≡ beamsIn rate mid → l ≡ mpduOf mid
-      → record { direction = p .direction; region = p .trailer .region; channel = p .trailer .channel; rate = rate; rssi = toZ w8 (ofZ w8 rssi); beams = beams; start = p .middle; length = l } ≡ frameOf b
+  pub frame-is : (rate l : ℕ) (rssi : ℤ) (beams : Beams) → rate ≡ rateOf (p .trailer .channel) (p .trailer .region)
+      → rssi ≡ toZ w8 (p .trailer .rssi) → mag rssi < 2 ^ hbits w8 → beams ≡ beamsIn rate mid → l ≡ mpduOf mid
+      → record {
+        direction = p .direction;
+        region = p .trailer .region;
+        channel = p .trailer .channel;
+        rate = rate;
+        rssi = toZ w8 (ofZ w8 rssi);
+        beams =
+            beams;
+        start = p .middle;
+        length = l;
+      } ≡ frameOf b
   frame-is rate l rssi beams is-rate is-rssi ok is-beams is-l =
       let read-back : toZ w8 (ofZ w8 rssi) ≡ toZ w8 (p .trailer .rssi) = toZ-ofZ {w = w8} {z = rssi} (record { sfits = ok }) ∙ is-rssi in
       let whole : framed (p .direction) (p .trailer) (p .middle .0) mid ≡ frameOf b = rw (inside .parts) refl in
@@ -250,4 +265,40 @@ module _ (b : List ℕ) (s : Split) (is-s : s ≡ splitOf b) where
     pub parsed-frame : (f : PtiFrame) → length b ≤ 2048 → f ≡ frameOf b → Frame f ≡ parsedOf b
     parsed-frame f short is-f = rw (le-leb (length b) 2048 short, the-parts .0) (ap Frame is-f)
 
-pub ruleset laws = (pick-first, pick-rest, pick-second, pick-none, fields-rx, fields-tx, other-protocol, holds-beam, holds-tag, laid-none, laid-version, laid-cut, laid-start, laid-short, laid-out, split-nothing, middle-some, middle-inside, start-inside, end-inside, trailer-room, split-not, split-into, mpdu-few, mpdu-beam, mpdu-declared, mpdu-all, beams-some, beams-none, middle-bytes, frame-is, parsed-long, parsed-not, parts-in, parsed-frame)
+pub ruleset laws = (
+  pick-first,
+  pick-rest,
+  pick-second,
+  pick-none,
+  fields-rx,
+  fields-tx,
+  other-protocol,
+  holds-beam,
+  holds-tag,
+  laid-none,
+  laid-version,
+  laid-cut,
+  laid-start,
+  laid-short,
+  laid-out,
+  split-nothing,
+  middle-some,
+  middle-inside,
+  start-inside,
+  end-inside,
+  trailer-room,
+  split-not,
+  split-into,
+  mpdu-few,
+  mpdu-beam,
+  mpdu-declared,
+  mpdu-all,
+  beams-some,
+  beams-none,
+  middle-bytes,
+  frame-is,
+  parsed-long,
+  parsed-not,
+  parts-in,
+  parsed-frame,
+)

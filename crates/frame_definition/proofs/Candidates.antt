@@ -32,7 +32,8 @@ use Rattle.frame_definition.specs.Find.{from, Good, oneMore, ofKind, Nex
 use Rattle.frame_definition.specs.declared.Candidate.{Candidate}
 use Rattle.frame_definition.specs.declared.NextCandidate.the-variants as nextCandidate
 use Rattle.frame_definition.proofs.Views.{View}
-use Rattle.frame_definition.proofs.Finding.{Lined, lined, good-line, Over, over-line, kind-at, over-less, said-good, counted, more-bound, stands, validations-of}
+use Rattle.frame_definition.proofs.Finding.{Lined, lined, good-line, Over, over-line, kind-at, over-less, said-good, counted, more-bound, stands}
+use Rattle.frame_definition.proofs.Finding.{validations-of}
 
 -- ---- an H line
 module _ (t : List ℕ) (l : Line) (good : Good t l) (is : l .kind ≡ 72) where
@@ -56,25 +57,34 @@ module _ (t : List ℕ) (l : Line) (good : Good t l) (is : l .kind ≡ 72) where
 
   pub header-flags : (s : List ℕ) → s ≡ field 3 h-fields → length s ≡ 4
   header-flags s e =
-      let f : flags (field 3 h-fields) ≡ true = and-left (flags (field 3 h-fields)) (name (field 4 h-fields)) (and-right (optionalUpTo 255 (field 2 h-fields)) _ (and-right (upTo 255 (field 1 h-fields)) _ header-tests)) in
+      let f : flags (field 3 h-fields) ≡ true = and-left (flags (field 3 h-fields)) (name (field 4 h-fields))
+      (and-right (optionalUpTo 255 (field 2 h-fields)) _ (and-right (upTo 255 (field 1 h-fields)) _ header-tests)) in
       ap length e ∙ eqb-true _ _ (and-left (eqb (length (field 3 h-fields)) 4) (within 48 49 (field 3 h-fields)) f)
 
   pub flags-inside : (s : List ℕ) (k : ℕ) → s ≡ field 3 h-fields → k < 4 → k < length s
   flags-inside s k e h = omega (arith, header-flags s e)
 
   pub flags-are : (s : List ℕ) → s ≡ field 3 h-fields
-      → HasFlags (field 3 h-fields) (record { ack = eqb (getD s 0 0) 49; routed = eqb (getD s 1 0) 49; multicast = eqb (getD s 2 0) 49; error = eqb (getD s 3 0) 49 })
+      → HasFlags (field 3 h-fields) (record {
+        ack = eqb (getD s 0 0) 49;
+        routed = eqb (getD s 1 0) 49;
+        multicast = eqb (getD s 2 0) 49;
+        error =
+            eqb (getD s 3 0) 49;
+      })
   flags-are s e = rw e (record { ack = refl; routed = refl; multicast = refl; error = refl })
 
 -- ---- a base key that may be missing
 module _ (l : List ℕ) (key : ℕ) where
-  based-given : (m d u : Bool) (n : ℕ) → cond m Missing (text.given (cond d (cond u (Is (worth 0 l)) TooHigh) Not)) ≡ Given n → eqb n key ≡ isKey key (cond m none (some (worth 0 l)))
+  based-given : (m d u : Bool) (n : ℕ) → cond m Missing (text.given (cond d (cond u (Is (worth 0 l)) TooHigh) Not)) ≡ Given n
+      → eqb n key ≡ isKey key (cond m none (some (worth 0 l)))
   based-given true d u n e = absurd (let z : _≡_ {A = ℕ} 0 1 = cc in omega arith)
   based-given false true true n e = let z : worth 0 l ≡ n = cc in rw z
   based-given false true false n e = absurd (let z : _≡_ {A = ℕ} 0 1 = cc in omega arith)
   based-given false false u n e = absurd (let z : _≡_ {A = ℕ} 0 1 = cc in omega arith)
 
-  based-missing : (m d u : Bool) → cond m Missing (text.given (cond d (cond u (Is (worth 0 l)) TooHigh) Not)) ≡ Missing → false ≡ isKey key (cond m none (some (worth 0 l)))
+  based-missing : (m d u : Bool) → cond m Missing (text.given (cond d (cond u (Is (worth 0 l)) TooHigh) Not)) ≡ Missing
+      → false ≡ isKey key (cond m none (some (worth 0 l)))
   based-missing true d u e = refl
   based-missing false true true e = absurd (let z : _≡_ {A = ℕ} 0 1 = cc in omega arith)
   based-missing false true false e = absurd (let z : _≡_ {A = ℕ} 0 1 = cc in omega arith)
@@ -97,7 +107,8 @@ module _ (t : List ℕ) (l : Line) (key : ℕ) (r : Optional) (good : Good t l) 
   base-missing e = based-missing base-field key (missing base-field) (text.decimal base-field) (leb (worth 0 base-field) 255) (sym says ∙ e)
 
   pub base-wrong : r ≡ Wrong → false ≡ isKey key (given (worth 0) base-field)
-  base-wrong e = absurd (based-wrong base-field key (missing base-field) (text.decimal base-field) (leb (worth 0 base-field) 255) (sym says ∙ e) (header-base t l good is))
+  base-wrong e = absurd (based-wrong base-field key (missing base-field) (text.decimal base-field) (leb (worth 0 base-field) 255) (sym says ∙ e)
+      (header-base t l good is))
 
 pub ruleset header-laws = (header-has, flags-inside, flags-are, base-given, base-missing, base-wrong)
 
@@ -116,17 +127,20 @@ module _ (t : List ℕ) (p : Place) (r : Under) (finds : NextOf t p 86 r) where
   pub some-validation : (q : Place) → r ≡ stand.At q → true ≡ some? (validations (below (from t p)))
   some-validation q e =
       let s : Stands owns (ofKind 86) rules from t p q = stands t p q r 86 finds e in
-      let same : validations (below (from t p)) ≡ validations (below (from t q)) = validations-of (from t p) ∙ ap validations (s .alike) ∙ sym (validations-of (from t q)) in
+      let same : validations (below (from t p)) ≡ validations (below (from t q)) =
+      validations-of (from t p) ∙ ap validations (s .alike) ∙ sym (validations-of (from t q)) in
       rw same (sym (first-validation (from t q) (s .there)))
 
   pub no-validation : r ≡ stand.Nothing → false ≡ some? (validations (below (from t p)))
-  no-validation e = let h : listed owns (ofKind 86) (from t p) ≡ [] = rw e at finds in let none : validations (below (from t p)) ≡ [] = validations-of (from t p) ∙ ap validations h in rw none
+  no-validation e = let h : listed owns (ofKind 86) (from t p) ≡ [] = rw e at finds in let none : validations (below (from t p)) ≡ [] =
+      validations-of (from t p) ∙ ap validations h in rw none
 
 pub ruleset some-laws = (some-validation, no-validation)
 
 -- ---- a candidate
 module _ (t : List ℕ) (l : Line) (key : ℕ) (good : Good t l) where
-  pub candidate-rest : (rs : List Record) (y : Bool) → l .kind ≡ 72 → y ≡ (isKey key (given (worth 0) (field 2 (cells t l))) && some? (validations (below rs))) → y ≡ candidate key (cells t l) rs
+  pub candidate-rest : (rs : List Record) (y : Bool) → l .kind ≡ 72
+      → y ≡ (isKey key (given (worth 0) (field 2 (cells t l))) && some? (validations (below rs))) → y ≡ candidate key (cells t l) rs
   candidate-rest rs y h e = rw (← good .kind-is, eq-eqb (l .kind) 72 h) e
 
   pub candidate-next : Readable rules t (l .next)
@@ -159,16 +173,20 @@ pub record Looking (t : List ℕ) (p₀ : Place) (key h₀ n₀ : ℕ) (p : Plac
 pub look-start : (t : List ℕ) (p : Place) (key h n : ℕ) → Counted t p h n → Looking t p key h n p h n
 look-start t p key h n c = record { counts = c; after = omega arith; so = refl }
 
-pub look-end : (t : List ℕ) (p₀ : Place) (key h₀ n₀ : ℕ) (p : Place) (h n : ℕ) → Looking t p₀ key h₀ n₀ p h n → length t ≤ p .at → FindsCandidate t p₀ key h₀ n₀ nextCandidate.Nothing
+pub look-end : (t : List ℕ) (p₀ : Place) (key h₀ n₀ : ℕ) (p : Place) (h n : ℕ) → Looking t p₀ key h₀ n₀ p h n → length t ≤ p .at
+    → FindsCandidate t p₀ key h₀ n₀ nextCandidate.Nothing
 look-end t p₀ key h₀ n₀ p h n k e = let q : from t p ≡ [] = rest-end rules t p e in k .so ∙ rw q
 
-pub look-few : (t : List ℕ) (p₀ : Place) (key h₀ n₀ : ℕ) (p : Place) (h n : ℕ) → Looking t p₀ key h₀ n₀ p h n → p .at < length t → n < 65536
+pub look-few : (t : List ℕ) (p₀ : Place) (key h₀ n₀ : ℕ) (p : Place) (h n : ℕ) → Looking t p₀ key h₀ n₀ p h n → p .at < length t
+    → n < 65536
 look-few t p₀ key h₀ n₀ p h n k inside = omega (arith, k .counts .params-few, k .counts .short)
 
-pub look-fits : (t : List ℕ) (p₀ : Place) (key h₀ n₀ : ℕ) (p : Place) (h n : ℕ) → Looking t p₀ key h₀ n₀ p h n → p .at < length t → Fits w64 (h + 1)
+pub look-fits : (t : List ℕ) (p₀ : Place) (key h₀ n₀ : ℕ) (p : Place) (h n : ℕ) → Looking t p₀ key h₀ n₀ p h n → p .at < length t
+    → Fits w64 (h + 1)
 look-fits t p₀ key h₀ n₀ p h n k inside = omega (arith, k .counts .headers-few, k .counts .short)
 
-pub look-over : (t : List ℕ) (p₀ : Place) (key h₀ n₀ : ℕ) (p : Place) (h n m : ℕ) (q : Place) → Looking t p₀ key h₀ n₀ p h n → p .at < length t → (getD t (p .at) 0 ≡ 72 → ⊥)
+pub look-over : (t : List ℕ) (p₀ : Place) (key h₀ n₀ : ℕ) (p : Place) (h n m : ℕ) (q : Place) → Looking t p₀ key h₀ n₀ p h n
+    → p .at < length t → (getD t (p .at) 0 ≡ 72 → ⊥)
     → m ≡ oneMore (getD t (p .at) 0) 80 n → Passes t p q → Looking t p₀ key h₀ n₀ q h m
 look-over t p₀ key h₀ n₀ p h n m q k inside other is-m pass =
     let o : Over t p q = over-line t p q (k .counts .readable) inside pass in
@@ -184,10 +202,12 @@ look-over t p₀ key h₀ n₀ p h n m q k inside other is-m pass =
         params-few = rw is-m (more-bound (getD t (p .at) 0) 80 n (p .at) (q .at) (k .counts .params-few) (pass .on));
       };
       after = omega (arith, k .after, pass .on);
-      so = k .so ∙ ap (λ (rs : List Record). candidates key (frames h n rs)) (o .rest-is) ∙ (rw (same-h, ← c) at (candidates-step (o .fields) (o .said) (from t q) key h n (o .view) none));
+      so = k .so ∙ ap (λ (rs : List Record). candidates key (frames h n rs)) (o .rest-is)
+          ∙ (rw (same-h, ← c) at (candidates-step (o .fields) (o .said) (from t q) key h n (o .view) none));
     }
 
-module _ (t : List ℕ) (p₀ : Place) (key h₀ n₀ : ℕ) (p : Place) (h n : ℕ) (l : Line) (k : Looking t p₀ key h₀ n₀ p h n) (inside : p .at < length t) (step : Steps t p l) where
+module _ (t : List ℕ) (p₀ : Place) (key h₀ n₀ : ℕ) (p : Place) (h n : ℕ) (l : Line) (k : Looking t p₀ key h₀ n₀ p h n)
+    (inside : p .at < length t) (step : Steps t p l) where
   abbrev line-here : Lined t p l
   line-here = lined t p l (k .counts .readable) inside step
 
@@ -218,7 +238,8 @@ module _ (t : List ℕ) (p₀ : Place) (key h₀ n₀ : ℕ) (p : Place) (h n : 
 
     pub look-hit : (c : Candidate) → b ≡ true → IsRead t l h n c → FindsCandidate t p₀ key h₀ n₀ (nextCandidate.At c)
     look-hit c e r = record {
-      first = k .so ∙ ap (λ (rs : List Record). candidates key (frames h n rs)) (line-here .rest-is ∙ ap (λ (x : Record). x ∷ from t (l .next)) is-header) ∙ is-first ∙ same-frame;
+      first = k .so ∙ ap (λ (rs : List Record). candidates key (frames h n rs))
+          (line-here .rest-is ∙ ap (λ (x : Record). x ∷ from t (l .next)) is-header) ∙ is-first ∙ same-frame;
       counted = rw (r .place-is, r .number-is, r .params-is) (record {
         readable = line-here .next;
         short = k .counts .short;
@@ -241,13 +262,34 @@ module _ (t : List ℕ) (p₀ : Place) (key h₀ n₀ : ℕ) (p : Place) (h n : 
         base-is = the-key key _ (and-left (isKey key (given (worth 0) (field 2 (cells t l)))) _ tests)
 
         frame : Frame
-        frame = record { number = h; says = headerOf (cells t l); params = params n (below (from t (l .next))); validations = validations (below (from t (l .next))) }
+        frame = record {
+          number = h;
+          says = headerOf (cells t l);
+          params = params n (below (from t (l .next)));
+          validations =
+              validations (below (from t (l .next)));
+        }
 
-        is-first : candidates key (frames h n (header (headerOf (cells t l)) ∷ from t (l .next))) ≡ frame ∷ candidates key (frames (suc h) n (from t (l .next)))
+        is-first : candidates key (frames h n (header (headerOf (cells t l)) ∷ from t (l .next)))
+            ≡ frame ∷ candidates key (frames (suc h) n (from t (l .next)))
         is-first = rw tests
 
-        same-frame : frame ∷ candidates key (frames (suc h) n (from t (l .next))) ≡ frameOf t key c ∷ candidates key (frames (suc (c .number)) (c .params) (from t (c .place)))
+        same-frame : frame ∷ candidates key (frames (suc h) n (from t (l .next)))
+            ≡ frameOf t key c ∷ candidates key (frames (suc (c .number)) (c .params) (from t (c .place)))
         same-frame =
-            rw (r .number-is, r .params-is, r .place-is, r .key-is, header-key t l look-good kind-is, r .flags-are .ack, r .flags-are .routed, r .flags-are .multicast, r .flags-are .error, r .name-is .says, base-is)
+            rw (
+              r .number-is,
+              r .params-is,
+              r .place-is,
+              r .key-is,
+              header-key t l look-good kind-is,
+              r .flags-are .ack,
+              r .flags-are .routed,
+              r .flags-are
+                  .multicast,
+              r .flags-are .error,
+              r .name-is .says,
+              base-is,
+            )
 
 pub ruleset look-laws = (look-start, look-end, look-few, look-fits, look-over, over-less, look-good, look-kind, look-less, look-next, look-hit)

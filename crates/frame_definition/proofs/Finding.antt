@@ -20,10 +20,13 @@ use Rattle.text.proofs.Laws.{cells-length}
 use Rattle.text.proofs.Tests.{and-left, and-right, value-of}
 use Rattle.text.proofs.Reading.{Said, said-step, readable-start, rest-end, accepted-short}
 use Rattle.text.proofs.Passing.{kind-byte, Passed, passed, passing}
-use Rattle.frame_text.specs.Form.{Param, Record, frequency, base, header, param, validation, set, entry, names, given, known, typeOf, paramNumbers, paramWords, paramPaths, paramForm, paramOf, validationForm, said, form}
+use Rattle.frame_text.specs.Form.{Param, Record, frequency, base, header, param, validation, set, entry, names, given, known, typeOf, paramNumbers}
+use Rattle.frame_text.specs.Form.{paramWords, paramPaths, paramForm, paramOf, validationForm, said, form}
 use Rattle.frame_text.specs.Rules.{letter, count, owns, under, holdsParams, over, rules, verdict}
-use Rattle.frame_definition.specs.Definition.{Numbered, Validation, below, params, validations, frequencies, bases, definition, keyFor, baseKey, firstBase}
-use Rattle.frame_definition.specs.Find.{from, fits, Good, keyed, oneMore, FindsBase, ofKind, ownerKind, NextOf, HasNumbers, HasPaths, heard, meant, FindsParam, FindsValidation}
+use Rattle.frame_definition.specs.Definition.{Numbered, Validation, below, params, validations, frequencies, bases, definition, keyFor, baseKey}
+use Rattle.frame_definition.specs.Definition.{firstBase}
+use Rattle.frame_definition.specs.Find.{from, fits, Good, keyed, oneMore, FindsBase, ofKind, ownerKind, NextOf, HasNumbers, HasPaths, heard, meant}
+use Rattle.frame_definition.specs.Find.{FindsParam, FindsValidation}
 use Rattle.text.specs.Listing.{listed, Stands}
 use Rattle.text.proofs.Listing.{Seeking, seek-start, seek-end}
 use Rattle.text.proofs.Listing as listing
@@ -151,7 +154,8 @@ keyed-not fs kind limit key h = rw (ne-eqb (kindOf fs) kind h)
 
 -- ---- one line more, of what is looked for
 module _ (fs : List (List ℕ)) (rs : List Record) where
-  frequencies-step : (x : Record) → View fs x → (region : ℕ) → keyFor region (frequencies (x ∷ rs)) ≡ cond (keyed 70 255 region fs) (value 255 (field 2 fs)) (keyFor region (frequencies rs))
+  frequencies-step : (x : Record) → View fs x → (region : ℕ)
+      → keyFor region (frequencies (x ∷ rs)) ≡ cond (keyed 70 255 region fs) (value 255 (field 2 fs)) (keyFor region (frequencies rs))
   frequencies-step (frequency code key) v region =
       let both : (upTo 255 (field 1 fs) && upTo 255 (field 2 fs)) ≡ true = and-right (eqb (length fs) 3) _ (v .has) in
       let one : value 255 (field 1 fs) ≡ worth 0 (field 1 fs) = value-of 255 (field 1 fs) (and-left (upTo 255 (field 1 fs)) (upTo 255 (field 2 fs)) both) in
@@ -171,7 +175,8 @@ module _ (fs : List (List ℕ)) (rs : List Record) where
       let one : value 255 (field 1 fs) ≡ worth 0 (field 1 fs) = value-of 255 (field 1 fs) (and-right (eqb (length fs) 2) (upTo 255 (field 1 fs)) (v .has)) in
       rw (v .kind, one, ← v .says) (go (eqb k key) refl)
     where
-      go : (b : Bool) → eqb k key ≡ b → cond b (some (record { key = k; params = params n (below rs) })) (firstBase key (bases n rs)) ≡ cond b (some (record { key = key; params = params n (below rs) })) (firstBase key (bases n rs))
+      go : (b : Bool) → eqb k key ≡ b → cond b (some (record { key = k; params = params n (below rs) })) (firstBase key (bases n rs))
+          ≡ cond b (some (record { key = key; params = params n (below rs) })) (firstBase key (bases n rs))
       go true q = rw (eqb-true k key q)
       go false q = refl
   bases-step (header h) v key n = rw (v .kind)
@@ -194,14 +199,17 @@ key-start t region p a e = rw e (record { readable = readable-start rules t _ a 
 by-region : (t : List ℕ) (region speed : ℕ) → (speed ≡ 3 → ⊥) → baseKey region speed (definition t) ≡ keyFor region (definition t .frequencies)
 by-region t region speed h = rw (ne-eqb speed 3 h)
 
-pub key-end : (t : List ℕ) (region speed : ℕ) (p : Place) → Keying t region p → (speed ≡ 3 → ⊥) → length t ≤ p .at → 0 ≡ baseKey region speed (definition t)
+pub key-end : (t : List ℕ) (region speed : ℕ) (p : Place) → Keying t region p → (speed ≡ 3 → ⊥) → length t ≤ p .at
+    → 0 ≡ baseKey region speed (definition t)
 key-end t region speed p k h e = let q : from t p ≡ [] = rest-end rules t p e in rw (by-region t region speed h, ← k .so, q)
 
-pub key-over : (t : List ℕ) (region : ℕ) (p q : Place) → Keying t region p → p .at < length t → (getD t (p .at) 0 ≡ 70 → ⊥) → Passes t p q → Keying t region q
+pub key-over : (t : List ℕ) (region : ℕ) (p q : Place) → Keying t region p → p .at < length t → (getD t (p .at) 0 ≡ 70 → ⊥) → Passes t p q
+    → Keying t region q
 key-over t region p q k inside other pass =
     let o : Over t p q = over-line t p q (k .readable) inside pass in
     let e : keyed 70 255 region (o .fields) ≡ false = keyed-not (o .fields) 70 255 region (λ z. other (o .byte ∙ z)) in
-    let step : keyFor region (frequencies (o .said ∷ from t q)) ≡ keyFor region (frequencies (from t q)) = rw e at (frequencies-step (o .fields) (from t q) (o .said) (o .view) region) in
+    let step : keyFor region (frequencies (o .said ∷ from t q)) ≡ keyFor region (frequencies (from t q)) =
+    rw e at (frequencies-step (o .fields) (from t q) (o .said) (o .view) region) in
     record { readable = o .next; so = sym step ∙ ap (λ (rs : List Record). keyFor region (frequencies rs)) (sym (o .rest-is)) ∙ k .so }
 
 pub over-less : (t : List ℕ) (p q : Place) → p .at < length t → Passes t p q → length t - q .at < length t - p .at
@@ -224,16 +232,22 @@ module _ (t : List ℕ) (region : ℕ) (p : Place) (l : Line) (k : Keying t regi
     told : cond b (value 255 (field 2 (cells t l))) (keyFor region (frequencies (from t (l .next)))) ≡ keyFor region (definition t .frequencies)
     told =
         rw (test, ← keyed-is (cells t l) 70 255 region f-kind)
-        (sym (frequencies-step (cells t l) (from t (l .next)) (found .said) (found .view) region) ∙ ap (λ (rs : List Record). keyFor region (frequencies rs)) (sym (found .rest-is)) ∙ k .so)
+        (sym (frequencies-step (cells t l) (from t (l .next)) (found .said) (found .view) region)
+        ∙ ap (λ (rs : List Record). keyFor region (frequencies rs)) (sym (found .rest-is)) ∙ k .so)
 
     pub key-next : b ≡ false → Keying t region (l .next)
     key-next e = record { readable = found .next; so = rw e at told }
 
-    pub key-hit : (speed v : ℕ) → b ≡ true → (speed ≡ 3 → ⊥) → v ≡ value 255 (field 2 (cells t l)) → v ≡ baseKey region speed (definition t)
+    pub key-hit : (speed v : ℕ) → b ≡ true → (speed ≡ 3 → ⊥) → v ≡ value 255 (field 2 (cells t l))
+        → v ≡ baseKey region speed (definition t)
     key-hit speed v e h q = q ∙ (rw e at told) ∙ sym (by-region t region speed h)
 
   pub key-second : getD t (p .at) 0 ≡ 70 → Has t l 2
-  key-second byte = record { marked = step .marked; there = go (found .said) (found .view) (found .count) (sym (step .kind-is) ∙ kind-at t p l (k .readable) inside step ∙ byte) }
+  key-second byte = record {
+    marked = step .marked;
+    there =
+        go (found .said) (found .view) (found .count) (sym (step .kind-is) ∙ kind-at t p l (k .readable) inside step ∙ byte);
+  }
     where
       go : (x : Record) → View (cells t l) x → l .fields ≡ fieldsOf x → kindOf (cells t l) ≡ 70 → 2 < l .fields
       go (frequency code key) v n q = omega arith
@@ -268,12 +282,14 @@ more-bound kind is n at next h e = go (eqb kind is)
 pub base-few : (t : List ℕ) (key n : ℕ) (p : Place) → Basing t key p n → p .at < length t → verdict t ≡ Accepted → n < 65536
 base-few t key n p k inside a = omega (arith, k .few, accepted-short rules t a)
 
-pub base-over : (t : List ℕ) (key n m : ℕ) (p q : Place) → Basing t key p n → p .at < length t → (getD t (p .at) 0 ≡ 66 → ⊥) → m ≡ oneMore (getD t (p .at) 0) 80 n → Passes t p q → Basing t key q m
+pub base-over : (t : List ℕ) (key n m : ℕ) (p q : Place) → Basing t key p n → p .at < length t → (getD t (p .at) 0 ≡ 66 → ⊥)
+    → m ≡ oneMore (getD t (p .at) 0) 80 n → Passes t p q → Basing t key q m
 base-over t key n m p q k inside other is-m pass =
     let o : Over t p q = over-line t p q (k .readable) inside pass in
     let e : keyed 66 255 key (o .fields) ≡ false = keyed-not (o .fields) 66 255 key (λ z. other (o .byte ∙ z)) in
     let c : m ≡ oneMore (kindOf (o .fields)) 80 n = is-m ∙ ap (λ (x : ℕ). oneMore x 80 n) (o .byte) in
-    let step : firstBase key (bases n (o .said ∷ from t q)) ≡ firstBase key (bases m (from t q)) = rw (e, ← c) at (bases-step (o .fields) (from t q) (o .said) (o .view) key n) in
+    let step : firstBase key (bases n (o .said ∷ from t q)) ≡ firstBase key (bases m (from t q)) =
+    rw (e, ← c) at (bases-step (o .fields) (from t q) (o .said) (o .view) key n) in
     record {
       readable = o .next;
       few = rw is-m (more-bound (getD t (p .at) 0) 80 n (p .at) (q .at) (k .few) (pass .on));
@@ -294,7 +310,8 @@ module _ (t : List ℕ) (key n : ℕ) (p : Place) (l : Line) (k : Basing t key p
     b-kind : kindOf (cells t l) ≡ 66
     b-kind = sym (step .kind-is) ∙ kind-at t p l (k .readable) inside step ∙ byte
 
-    told-base : cond b (some (record { key = key; params = params n (below (from t (l .next))) })) (firstBase key (bases n (from t (l .next)))) ≡ firstBase key (definition t .bases)
+    told-base : cond b (some (record { key = key; params = params n (below (from t (l .next))) })) (firstBase key (bases n (from t (l .next))))
+        ≡ firstBase key (definition t .bases)
     told-base =
         let same-n : oneMore (kindOf (cells t l)) 80 n ≡ n = rw b-kind refl in
         let step-on = bases-step (cells t l) (from t (l .next)) (found-base .said) (found-base .view) key n in
@@ -322,7 +339,8 @@ owner-kind (entry key text) = refl
 pub under-start : (t : List ℕ) (p : Place) (kind : ℕ) → Readable rules t p → Seeking owns (ofKind kind) rules from t p p
 under-start t p kind r = seek-start owns (ofKind kind) rules from t p r
 
-pub under-end : (t : List ℕ) (p q : Place) (kind : ℕ) → Seeking owns (ofKind kind) rules from t p q → length t ≤ q .at → NextOf t p kind stand.Nothing
+pub under-end : (t : List ℕ) (p q : Place) (kind : ℕ) → Seeking owns (ofKind kind) rules from t p q → length t ≤ q .at
+    → NextOf t p kind stand.Nothing
 under-end t p q kind k h = seek-end owns (ofKind kind) rules from t p q k (rest-end rules t q h)
 
 module _ (t : List ℕ) (p q : Place) (kind : ℕ) (k : Seeking owns (ofKind kind) rules from t p q) (inside : q .at < length t) where
@@ -358,7 +376,8 @@ module _ (t : List ℕ) (p q : Place) (kind : ℕ) (k : Seeking owns (ofKind kin
     under-stop e = rw e at (one-on (after .0) (after .1))
 
     pub under-next : (r : Place) → b ≡ false → Passes t q r → Seeking owns (ofKind kind) rules from t p r
-    under-next r e pass = record { readable = over-line t q r (k .readable) inside pass .next; after = omega (arith, k .after, pass .on); alike = rw e at (one-on r pass) }
+    under-next r e pass =
+        record { readable = over-line t q r (k .readable) inside pass .next; after = omega (arith, k .after, pass .on); alike = rw e at (one-on r pass) }
 
 pub ruleset under-laws = (under-start, under-end, under-hit, under-stop, under-next, over-less)
 
@@ -379,7 +398,8 @@ module _ (k : ℕ) where
 pub ruleset owner-laws = (owner-f, owner-b, owner-h, owner-d)
 
 -- ---- what may be missing
-heard-given : {A : Type 0} (f : List ℕ → A) (t l : List ℕ) (r : Part) → IsOptionalPart t l r → (missing l ≡ false → 1 ≤ length l) → heard f t r ≡ given f l
+heard-given : {A : Type 0} (f : List ℕ → A) (t l : List ℕ) (r : Part) → IsOptionalPart t l r → (missing l ≡ false → 1 ≤ length l)
+    → heard f t r ≡ given f l
 heard-given f t l r h some-bytes = go (missing l) refl (h .says) (h .long)
   where
     go : (m : Bool) → missing l ≡ m → partOf t r ≡ cond m [] l → r .len ≡ cond m 0 (length l) → heard f t r ≡ cond m none (some (f l))
@@ -442,11 +462,13 @@ module _ (t : List ℕ) (l : Line) (good : Good t l) (is : l .kind ≡ 80) where
   pub param-has : (k : ℕ) → k < 9 → Has t l k
   param-has k h = record { marked = good .marked; there = omega (arith, param-line .count) }
 
-  pub kind-says : (s : List ℕ) (r : Typed) (type : ParamType) → s ≡ field 4 (cells t l) → r ≡ typeOf s → r ≡ Is type → typeOf (field 4 (cells t l)) ≡ Is type
+  pub kind-says : (s : List ℕ) (r : Typed) (type : ParamType) → s ≡ field 4 (cells t l) → r ≡ typeOf s → r ≡ Is type
+      → typeOf (field 4 (cells t l)) ≡ Is type
   kind-says s r type part e q = rw (← part, ← e) q
 
   pub kind-never : (s : List ℕ) (r : Typed) → s ≡ field 4 (cells t l) → r ≡ typeOf s → r ≡ Not → typeOf (field 4 (cells t l)) ≡ Is Hex
-  kind-never s r part e q = absurd (let z : Is (param-line .type) ≡ Not = sym (param-line .type-is) ∙ (rw (part) at (sym e ∙ q)) in let w : _≡_ {A = ℕ} 0 1 = cc in omega arith)
+  kind-never s r part e q = absurd (let z : Is (param-line .type) ≡ Not =
+      sym (param-line .type-is) ∙ (rw (part) at (sym e ∙ q)) in let w : _≡_ {A = ℕ} 0 1 = cc in omega arith)
 
   abbrev fs : List (List ℕ)
   fs = cells t l
@@ -488,9 +510,11 @@ module _ (t : List ℕ) (l : Line) (good : Good t l) (is : l .kind ≡ 80) where
       let set : heard (λ x. x) t (q .set) ≡ given (λ x. x) (field 6 fs) =
       heard-given (λ x. x) t (field 6 fs) (q .set) (hq .set) (name-given (field 6 fs) (and-left (optionalName (field 6 fs)) _ paths-good)) in
       let optional : heard names t (q .optional) ≡ given names (field 7 fs) =
-      heard-given names t (field 7 fs) (q .optional) (hq .optional) (path-given (field 7 fs) (and-left (optionalPath (field 7 fs)) (optionalPath (field 8 fs)) (and-right (optionalName (field 6 fs)) _ paths-good))) in
+      heard-given names t (field 7 fs) (q .optional) (hq .optional)
+      (path-given (field 7 fs) (and-left (optionalPath (field 7 fs)) (optionalPath (field 8 fs)) (and-right (optionalName (field 6 fs)) _ paths-good))) in
       let size : heard names t (q .size) ≡ given names (field 8 fs) =
-      heard-given names t (field 8 fs) (q .size) (hq .size) (path-given (field 8 fs) (and-right (optionalPath (field 7 fs)) (optionalPath (field 8 fs)) (and-right (optionalName (field 6 fs)) _ paths-good))) in
+      heard-given names t (field 8 fs) (q .size) (hq .size)
+      (path-given (field 8 fs) (and-right (optionalPath (field 7 fs)) (optionalPath (field 8 fs)) (and-right (optionalName (field 6 fs)) _ paths-good))) in
       param-line .form-is ∙ ap (λ (x : Param). some (param x)) (param-line .says-is
       ∙ rw (← type, set, optional, size, hq .name .says, hn .level, hn .order, hn .bits, level-good, order-good, bits-good))
 
@@ -549,7 +573,8 @@ param-next t p q n r l f found-at e step says =
     let h : Said rules t q l = said-step rules brief t q l (s .readable) (s .inside) step in
     let is : h .said ≡ param (meant t f) = let z : some (h .said) ≡ some (param (meant t f)) = sym (h .form-is) ∙ says in cc in
     record {
-      first = params-of n (from t p) ∙ ap (params n) (s .alike) ∙ sym (params-of n (from t q)) ∙ ap (λ (rs : List Record). params n (below rs)) (h .rest-is ∙ ap (λ (x : Record). x ∷ from t (l .next)) is);
+      first = params-of n (from t p) ∙ ap (params n) (s .alike) ∙ sym (params-of n (from t q))
+          ∙ ap (λ (rs : List Record). params n (below rs)) (h .rest-is ∙ ap (λ (x : Record). x ∷ from t (l .next)) is);
       readable = h .next;
       on = omega (arith, s .after, step .on);
     }
@@ -558,7 +583,8 @@ pub validation-none : (t : List ℕ) (p : Place) (r : Under) → NextOf t p 86 r
 validation-none t p r f e = validations-of (from t p) ∙ ap validations (rw e at f)
 
 -- ---- a line of a kind
-pub said-good : (fs : List (List ℕ)) (b : Bool) (y : Record) → form fs ≡ said b (some y) → fits (form fs) ≡ true → (b ≡ true) × (form fs ≡ some y)
+pub said-good : (fs : List (List ℕ)) (b : Bool) (y : Record) → form fs ≡ said b (some y) → fits (form fs) ≡ true → (b ≡ true)
+    × (form fs ≡ some y)
 said-good fs true y e f = (refl, e)
 said-good fs false y e f = absurd (let z : _≡_ {A = Bool} false true = rw e at f in let w : _≡_ {A = ℕ} 0 1 = cc in omega arith)
 
@@ -567,11 +593,13 @@ pub counted : (t : List ℕ) (l : Line) (n : ℕ) (b : Bool) → (eqb (length (c
 counted t l n b e = sym (cells-length t (l .marks) (l .fields) 0) ∙ eqb-true _ _ (and-left (eqb (length (cells t l)) n) b e)
 
 module _ (t : List ℕ) (l : Line) (good : Good t l) (is : l .kind ≡ 86) where
-  abbrev v-said : (validationForm (cells t l) ≡ true) × (form (cells t l) ≡ some (validation (names (field 1 (cells t l))) (worth 0 (field 2 (cells t l)))))
+  abbrev v-said : (validationForm (cells t l) ≡ true)
+      × (form (cells t l) ≡ some (validation (names (field 1 (cells t l))) (worth 0 (field 2 (cells t l)))))
   v-said = said-good (cells t l) (validationForm (cells t l)) _ (rw (sym (good .kind-is) ∙ is)) (good .allowed)
 
   pub validation-has : (k : ℕ) → k < 3 → Has t l k
-  validation-has k h = record { marked = good .marked; there = omega (arith, counted t l 3 (path (field 1 (cells t l)) && upTo 65535 (field 2 (cells t l))) (v-said .0)) }
+  validation-has k h =
+      record { marked = good .marked; there = omega (arith, counted t l 3 (path (field 1 (cells t l)) && upTo 65535 (field 2 (cells t l))) (v-said .0)) }
 
   validation-value : value 65535 (field 2 (cells t l)) ≡ worth 0 (field 2 (cells t l))
   validation-value = value-of 65535 (field 2 (cells t l)) (and-right (path (field 1 (cells t l))) _ (and-right (eqb (length (cells t l)) 3) _ (v-said .0)))
@@ -588,7 +616,8 @@ validation-next t p q r l part v found-at e step says at-v =
     let y : h .said ≡ validation (names (field 1 (cells t l))) (worth 0 (field 2 (cells t l))) = cc in
     rw (at-v, validation-value t l g k, says .says) y in
     record {
-      first = validations-of (from t p) ∙ ap validations (s .alike) ∙ sym (validations-of (from t q)) ∙ ap (λ (rs : List Record). validations (below rs)) (h .rest-is ∙ ap (λ (x : Record). x ∷ from t (l .next)) is);
+      first = validations-of (from t p) ∙ ap validations (s .alike) ∙ sym (validations-of (from t q))
+          ∙ ap (λ (rs : List Record). validations (below rs)) (h .rest-is ∙ ap (λ (x : Record). x ∷ from t (l .next)) is);
       readable = h .next;
       on = omega (arith, s .after, step .on);
     }

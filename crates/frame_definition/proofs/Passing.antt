@@ -65,14 +65,22 @@ module _ (fs : List (List ℕ)) where
       let paths : paramPaths fs ≡ true = and-right (plain (field 5 fs)) _ named in
       let last : optionalPath (field 7 fs) && optionalPath (field 8 fs) ≡ true = and-right (optionalName (field 6 fs)) _ paths in
       let n0 : 2 + size (drop 1 fs) ≤ size fs = size-at 0 (omega arith) (first-byte kind) in
-      let n1 : 2 + size (drop 2 fs) ≤ size (drop 1 fs) = size-at 1 (omega arith) (some-byte decimal refl (field 1 fs) (and-left (decimal (field 1 fs)) _ numbers)) in
-      let n2 : 2 + size (drop 3 fs) ≤ size (drop 2 fs) = size-at 2 (omega arith) (some-byte (upTo 65535) refl (field 2 fs) (and-left (upTo 65535 (field 2 fs)) _ two)) in
-      let n3 : 2 + size (drop 4 fs) ≤ size (drop 3 fs) = size-at 3 (omega arith) (some-byte (upTo 255) refl (field 3 fs) (and-right (upTo 65535 (field 2 fs)) _ two)) in
-      let n4 : 2 + size (drop 5 fs) ≤ size (drop 4 fs) = size-at 4 (omega arith) (some-byte (λ (l : List ℕ). known (typeOf l)) refl (field 4 fs) (and-left (known (typeOf (field 4 fs))) _ words)) in
-      let n5 : 2 + size (drop 6 fs) ≤ size (drop 5 fs) = size-at 5 (omega arith) (some-byte plain refl (field 5 fs) (and-left (plain (field 5 fs)) _ named)) in
-      let n6 : 2 + size (drop 7 fs) ≤ size (drop 6 fs) = size-at 6 (omega arith) (some-byte optionalName refl (field 6 fs) (and-left (optionalName (field 6 fs)) _ paths)) in
-      let n7 : 2 + size (drop 8 fs) ≤ size (drop 7 fs) = size-at 7 (omega arith) (some-byte optionalPath refl (field 7 fs) (and-left (optionalPath (field 7 fs)) _ last)) in
-      let n8 : 2 + size (drop 9 fs) ≤ size (drop 8 fs) = size-at 8 (omega arith) (some-byte optionalPath refl (field 8 fs) (and-right (optionalPath (field 7 fs)) _ last)) in
+      let n1 : 2 + size (drop 2 fs) ≤ size (drop 1 fs) =
+      size-at 1 (omega arith) (some-byte decimal refl (field 1 fs) (and-left (decimal (field 1 fs)) _ numbers)) in
+      let n2 : 2 + size (drop 3 fs) ≤ size (drop 2 fs) =
+      size-at 2 (omega arith) (some-byte (upTo 65535) refl (field 2 fs) (and-left (upTo 65535 (field 2 fs)) _ two)) in
+      let n3 : 2 + size (drop 4 fs) ≤ size (drop 3 fs) =
+      size-at 3 (omega arith) (some-byte (upTo 255) refl (field 3 fs) (and-right (upTo 65535 (field 2 fs)) _ two)) in
+      let n4 : 2 + size (drop 5 fs) ≤ size (drop 4 fs) =
+      size-at 4 (omega arith) (some-byte (λ (l : List ℕ). known (typeOf l)) refl (field 4 fs) (and-left (known (typeOf (field 4 fs))) _ words)) in
+      let n5 : 2 + size (drop 6 fs) ≤ size (drop 5 fs) =
+      size-at 5 (omega arith) (some-byte plain refl (field 5 fs) (and-left (plain (field 5 fs)) _ named)) in
+      let n6 : 2 + size (drop 7 fs) ≤ size (drop 6 fs) =
+      size-at 6 (omega arith) (some-byte optionalName refl (field 6 fs) (and-left (optionalName (field 6 fs)) _ paths)) in
+      let n7 : 2 + size (drop 8 fs) ≤ size (drop 7 fs) =
+      size-at 7 (omega arith) (some-byte optionalPath refl (field 7 fs) (and-left (optionalPath (field 7 fs)) _ last)) in
+      let n8 : 2 + size (drop 9 fs) ≤ size (drop 8 fs) =
+      size-at 8 (omega arith) (some-byte optionalPath refl (field 8 fs) (and-right (optionalPath (field 7 fs)) _ last)) in
       omega arith
 
 -- ---- the functions
@@ -95,11 +103,13 @@ long-line : (t : List ℕ) (p q : Place) → Passed rules t p q → getD t (p .a
 long-line t p q line byte =
     let fs : List (List ℕ) = split 9 (line .line) in
     let seen : View fs (line .said) = view fs (line .said) (line .form-is) in
-    let k : (getD (line .line) 0 0 ≡ letter (line .said)) × (0 < length (line .line)) = kind-byte (line .line) (letter (line .said)) (seen .kind) (some-letter (line .said)) in
+    let k : (getD (line .line) 0 0 ≡ letter (line .said)) × (0 < length (line .line)) =
+    kind-byte (line .line) (letter (line .said)) (seen .kind) (some-letter (line .said)) in
     let n : 18 ≤ size fs = by-record fs (line .said) seen (sym (k .0) ∙ sym (line .first (k .1)) ∙ byte) in
     omega (arith, n, size-split 9 (line .line), line .long)
 
-pub least-sure : (t : List ℕ) (p : Place) (r : ℕ) → Readable rules t p → p .at < length t → r ≡ least (getD t (p .at) 0) → r ≤ cut 0x0a (left t p)
+pub least-sure : (t : List ℕ) (p : Place) (r : ℕ) → Readable rules t p → p .at < length t → r ≡ least (getD t (p .at) 0)
+    → r ≤ cut 0x0a (left t p)
 least-sure t p r readable inside is = go (eqb (getD t (p .at) 0) 0x50) refl
   where
     go : (b : Bool) → eqb (getD t (p .at) 0) 0x50 ≡ b → r ≤ cut 0x0a (left t p)

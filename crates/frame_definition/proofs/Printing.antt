@@ -14,7 +14,8 @@ use Rattle.text.specs.Honest.{Keeps}
 use Rattle.text.specs.Print.{shown, orDash, Every, Optionally, Clean, Prints}
 use Rattle.text.specs.declared.Verdict.the-variants.{Accepted}
 use Rattle.text.proofs.Tests.{and-left, and-right}
-use Rattle.text.proofs.Printing.{shown-shows, letter-clean, dash-clean, number-test, number-clean, clean-within, clean-shown, clean-name, shown-up-to, shown-worth, shown-given, name-given, split-joined, path-given, clean-joined, printed-accepted}
+use Rattle.text.proofs.Printing.{shown-shows, letter-clean, dash-clean, number-test, number-clean, clean-within, clean-shown, clean-name, shown-up-to}
+use Rattle.text.proofs.Printing.{shown-worth, shown-given, name-given, split-joined, path-given, clean-joined, printed-accepted}
 use Rattle.frame_text.specs.Form.{Path, Header, Param, Record, frequency, base, header, param, validation, set, entry, given, typeOf, flags, form}
 use Rattle.frame_text.specs.Form as form
 use Rattle.frame_text.specs.Rules.{rules, verdict}
@@ -119,7 +120,8 @@ flags-test : (a b c d : Bool) → flags (digit a ∷ digit b ∷ digit c ∷ dig
 flags-test a b c d = rw (digit-low a, digit-high a, digit-low b, digit-high b, digit-low c, digit-high c, digit-low d, digit-high d)
 
 flags-clean : (a b c d : Bool) → Clean (digit a ∷ digit b ∷ digit c ∷ digit d ∷ [])
-flags-clean a b c d = clean-within 48 49 (digit a ∷ digit b ∷ digit c ∷ digit d ∷ []) (omega arith) (rw (digit-low a, digit-high a, digit-low b, digit-high b, digit-low c, digit-high c, digit-low d, digit-high d))
+flags-clean a b c d = clean-within 48 49 (digit a ∷ digit b ∷ digit c ∷ digit d ∷ []) (omega arith)
+    (rw (digit-low a, digit-high a, digit-low b, digit-high b, digit-low c, digit-high c, digit-low d, digit-high d))
 
 -- ---- each record
 prints-header : (h : Header) → HeaderFits h → Prints rules print (header h)
@@ -138,7 +140,19 @@ prints-header h f = record {
         digit-back (h .error),
       );
   some-field = omega arith;
-  clean = (letter-clean 72 (omega arith) (omega arith), (clean-shown (h .key), (number-clean (h .base), (flags-clean (h .ack) (h .routed) (h .multicast) (h .error), (clean-name (h .name) (f .named), tt)))));
+  clean = (
+    letter-clean 72 (omega arith) (omega arith),
+    (
+      clean-shown (h .key),
+      (
+        number-clean (h .base),
+        (
+          flags-clean (h .ack) (h .routed) (h .multicast) (h .error),
+          (clean-name (h .name) (f .named), tt),
+        ),
+      ),
+    ),
+  );
 }
 
 prints-param : (p : Param) → ParamFits p → Prints rules print (param p)
@@ -161,7 +175,25 @@ prints-param p f = record {
         path-back (p .size) (f .size),
       );
   some-field = omega arith;
-  clean = (letter-clean 80 (omega arith) (omega arith), (clean-shown (p .level), (clean-shown (p .order), (clean-shown (p .bits), (type-clean (p .type), (clean-name (p .name) (and-left (name (p .name)) (without 46 (p .name)) (f .named)), (set-clean (p .set) (f .set), (optional-clean (p .optional) (f .optional), (optional-clean (p .size) (f .size), tt)))))))));
+  clean = (
+    letter-clean 80 (omega arith) (omega arith),
+    (
+      clean-shown (p .level),
+      (
+        clean-shown (p .order),
+        (
+          clean-shown (p .bits),
+          (
+            type-clean (p .type),
+            (
+              clean-name (p .name) (and-left (name (p .name)) (without 46 (p .name)) (f .named)),
+              (set-clean (p .set) (f .set), (optional-clean (p .optional) (f .optional), (optional-clean (p .size) (f .size), tt))),
+            ),
+          ),
+        ),
+      ),
+    ),
+  );
 }
 
 prints : (r : Record) → Fits r → Prints rules print r

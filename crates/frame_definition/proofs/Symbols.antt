@@ -27,7 +27,8 @@ use Rattle.text.specs.Listing.{listed, Stands}
 use Rattle.text.specs.declared.Under.{Under}
 use Rattle.text.specs.declared.Under.the-variants as stand
 use Rattle.frame_definition.proofs.Views.{View}
-use Rattle.frame_definition.proofs.Finding.{Lined, lined, good-line, Over, over-line, kind-at, over-less, good-has, said-good, stands, at-good, at-kind, at-in, at-inside}
+use Rattle.frame_definition.proofs.Finding.{Lined, lined, good-line, Over, over-line, kind-at, over-less, good-has, said-good, stands, at-good}
+use Rattle.frame_definition.proofs.Finding.{at-kind, at-in, at-inside}
 
 -- ---- the first D of a name
 same-lists : (a b : List ℕ) → same a b ≡ true → a ≡ b
@@ -48,12 +49,14 @@ sets-step fs rs (param p) v wanted = rw (v .kind)
 sets-step fs rs (validation path x) v wanted = rw (v .kind)
 sets-step fs rs (set given) v wanted = rw (v .kind, ← v .says) (go (same given wanted) refl)
   where
-    go : (b : Bool) → same given wanted ≡ b → cond b (some (record { name = given; entries = entries (below rs) })) (firstSet wanted (sets rs)) ≡ cond b (some (record { name = wanted; entries = entries (below rs) })) (firstSet wanted (sets rs))
+    go : (b : Bool) → same given wanted ≡ b → cond b (some (record { name = given; entries = entries (below rs) })) (firstSet wanted (sets rs))
+        ≡ cond b (some (record { name = wanted; entries = entries (below rs) })) (firstSet wanted (sets rs))
     go true q = rw (same-lists given wanted q)
     go false q = refl
 sets-step fs rs (entry k text) v wanted = rw (v .kind)
 
-pub named-same : (t : List ℕ) (l : Line) (wanted s : List ℕ) (r : Bool) → s ≡ field 1 (cells t l) → r ≡ same s wanted → r ≡ same (field 1 (cells t l)) wanted
+pub named-same : (t : List ℕ) (l : Line) (wanted s : List ℕ) (r : Bool) → s ≡ field 1 (cells t l) → r ≡ same s wanted
+    → r ≡ same (field 1 (cells t l)) wanted
 named-same t l wanted s r part e = rw (← part) e
 
 pub ruleset named-laws = (good-has, named-same)
@@ -68,11 +71,13 @@ set-start t wanted p a e = rw e (record { readable = readable-start rules t _ a 
 pub set-end : (t wanted : List ℕ) (p : Place) → Setting t wanted p → length t ≤ p .at → FindsSet t wanted stand.Nothing
 set-end t wanted p k e = let q : from t p ≡ [] = rest-end rules t p e in sym (k .so) ∙ rw q
 
-pub set-over : (t wanted : List ℕ) (p q : Place) → Setting t wanted p → p .at < length t → (getD t (p .at) 0 ≡ 68 → ⊥) → Passes t p q → Setting t wanted q
+pub set-over : (t wanted : List ℕ) (p q : Place) → Setting t wanted p → p .at < length t → (getD t (p .at) 0 ≡ 68 → ⊥) → Passes t p q
+    → Setting t wanted q
 set-over t wanted p q k inside other pass =
     let o : Over t p q = over-line t p q (k .readable) inside pass in
     let none : named wanted (o .fields) ≡ false = rw (ne-eqb (kindOf (o .fields)) 68 (λ z. other (o .byte ∙ z))) refl in
-    let step : firstSet wanted (sets (o .said ∷ from t q)) ≡ firstSet wanted (sets (from t q)) = rw none at (sets-step (o .fields) (from t q) (o .said) (o .view) wanted) in
+    let step : firstSet wanted (sets (o .said ∷ from t q)) ≡ firstSet wanted (sets (from t q)) =
+    rw none at (sets-step (o .fields) (from t q) (o .said) (o .view) wanted) in
     record { readable = o .next; so = sym step ∙ ap (λ (rs : List Record). firstSet wanted (sets rs)) (sym (o .rest-is)) ∙ k .so }
 
 module _ (t wanted : List ℕ) (p : Place) (l : Line) (k : Setting t wanted p) (inside : p .at < length t) (step : Steps t p l) where
@@ -87,10 +92,13 @@ module _ (t wanted : List ℕ) (p : Place) (l : Line) (k : Setting t wanted p) (
 
   module _ (b : Bool) (byte : getD t (p .at) 0 ≡ 68) (test : b ≡ same (field 1 (cells t l)) wanted) where
     is : b ≡ named wanted (cells t l)
-    is = let kind : kindOf (cells t l) ≡ 68 = sym (step .kind-is) ∙ kind-at t p l (k .readable) inside step ∙ byte in rw (eq-eqb (kindOf (cells t l)) 68 kind) test
+    is = let kind : kindOf (cells t l) ≡ 68 =
+        sym (step .kind-is) ∙ kind-at t p l (k .readable) inside step ∙ byte in rw (eq-eqb (kindOf (cells t l)) 68 kind) test
 
-    told-set : cond b (some (record { name = wanted; entries = entries (below (from t (l .next))) })) (firstSet wanted (sets (from t (l .next)))) ≡ firstSet wanted (definition t .sets)
-    told-set = rw is (sym (sets-step (cells t l) (from t (l .next)) (set-here .said) (set-here .view) wanted) ∙ ap (λ (rs : List Record). firstSet wanted (sets rs)) (sym (set-here .rest-is)) ∙ k .so)
+    told-set : cond b (some (record { name = wanted; entries = entries (below (from t (l .next))) })) (firstSet wanted (sets (from t (l .next))))
+        ≡ firstSet wanted (definition t .sets)
+    told-set = rw is (sym (sets-step (cells t l) (from t (l .next)) (set-here .said) (set-here .view) wanted)
+        ∙ ap (λ (rs : List Record). firstSet wanted (sets rs)) (sym (set-here .rest-is)) ∙ k .so)
 
     pub set-hit : b ≡ true → FindsSet t wanted (stand.At (l .next))
     set-hit e = (sym (rw e at told-set), set-here .next)
@@ -116,7 +124,8 @@ module _ (t : List ℕ) (l : Line) (good : Good t l) (is : l .kind ≡ 69) where
   e-said = said-good (cells t l) (entryForm (cells t l)) _ (rw (sym (good .kind-is) ∙ is)) (good .allowed)
 
   entry-key : value 65535 (field 1 (cells t l)) ≡ worth 0 (field 1 (cells t l))
-  entry-key = value-of 65535 (field 1 (cells t l)) (and-left (upTo 65535 (field 1 (cells t l))) (name (field 2 (cells t l))) (and-right (eqb (length (cells t l)) 3) _ (e-said .0)))
+  entry-key = value-of 65535 (field 1 (cells t l)) (and-left (upTo 65535 (field 1 (cells t l))) (name (field 2 (cells t l)))
+      (and-right (eqb (length (cells t l)) 3) _ (e-said .0)))
 
 pub record Entering (t : List ℕ) (p₀ : Place) (key : ℕ) (p : Place) (n : ℕ) : Type 0 where
   pub readable : Readable rules t p
@@ -150,12 +159,15 @@ module _ (t : List ℕ) (p₀ : Place) (key : ℕ) (p : Place) (n : ℕ) (r : Un
     entry-has = good-has t l g
 
     is-entry : entry-here .said ≡ entry (worth 0 (field 1 (cells t l))) (field 2 (cells t l))
-    is-entry = let z : some (entry-here .said) ≡ some (entry (worth 0 (field 1 (cells t l))) (field 2 (cells t l))) = sym (entry-here .form-is) ∙ e-said t l g is-e .1 in cc
+    is-entry = let z : some (entry-here .said) ≡ some (entry (worth 0 (field 1 (cells t l))) (field 2 (cells t l))) =
+        sym (entry-here .form-is) ∙ e-said t l g is-e .1 in cc
 
-    told-entry : firstEntry key 0 (entries (below (from t p₀))) ≡ cond (eqb (value 65535 (field 1 (cells t l))) key) (suc n) (firstEntry key (suc n) (entries (below (from t (l .next)))))
+    told-entry : firstEntry key 0 (entries (below (from t p₀)))
+        ≡ cond (eqb (value 65535 (field 1 (cells t l))) key) (suc n) (firstEntry key (suc n) (entries (below (from t (l .next)))))
     told-entry =
         k .so ∙ ap (firstEntry key n) (entries-of (from t p) ∙ ap entries (s .alike) ∙ sym (entries-of (from t q))
-        ∙ ap (λ (rs : List Record). entries (below rs)) (entry-here .rest-is ∙ ap (λ (x : Record). x ∷ from t (l .next)) is-entry)) ∙ rw (entry-key t l g is-e)
+        ∙ ap (λ (rs : List Record). entries (below rs)) (entry-here .rest-is ∙ ap (λ (x : Record). x ∷ from t (l .next)) is-entry))
+        ∙ rw (entry-key t l g is-e)
 
     module _ (v : ℕ) (says : v ≡ value 65535 (field 1 (cells t l))) where
       pub entry-hit : v ≡ key → n + 1 ≡ firstEntry key 0 (entries (below (from t p₀)))

@@ -18,7 +18,8 @@ use Rattle.text.specs.Listing.{Next}
 use Rattle.frame_text.specs.Form.{Param, Record, frequency, base, header, param, validation, set, entry, names, given, flag, form}
 use Rattle.frame_text.specs.Form as form
 use Rattle.frame_text.specs.Rules.{letter, owns, rules}
-use Rattle.frame_definition.specs.Definition.{Frame, below, params, validations, entries, frames, sets, definition, firstBase, isKey, some?, candidates, firstSet}
+use Rattle.frame_definition.specs.Definition.{Frame, below, params, validations, entries, frames, sets, definition, firstBase, isKey, some?}
+use Rattle.frame_definition.specs.Definition.{candidates, firstSet}
 use Rattle.frame_definition.specs.declared.Found.{Found}
 use Rattle.frame_definition.specs.declared.Found.the-variants as found
 use Rattle.frame_definition.specs.declared.Numbers.{Numbers}
@@ -69,7 +70,8 @@ least kind = cond (eqb kind 0x50) 17 0
 
 -- the first B with this key: its P lines begin at the place, after n P lines
 abbrev pub FindsBase : List ℕ → ℕ → Found → Type 0
-FindsBase t key (found.At place n) = (firstBase key (definition t .bases) ≡ some (record { key = key; params = params n (below (from t place)) })) × Readable rules t place × (n ≤ length t)
+FindsBase t key (found.At place n) = (firstBase key (definition t .bases) ≡ some (record { key = key; params = params n (below (from t place)) }))
+    × Readable rules t place × (n ≤ length t)
 FindsBase t key found.Nothing = firstBase key (definition t .bases) ≡ none
 
 -- ---- the lines under an owner
@@ -200,5 +202,6 @@ named name fs = eqb (kindOf fs) 0x44 && same (field 1 fs) name
 
 -- the first D of this name: its E lines begin at the place
 abbrev pub FindsSet : List ℕ → List ℕ → Under → Type 0
-FindsSet t name (under.At place) = (firstSet name (definition t .sets) ≡ some (record { name = name; entries = entries (below (from t place)) })) × Readable rules t place
+FindsSet t name (under.At place) =
+    (firstSet name (definition t .sets) ≡ some (record { name = name; entries = entries (below (from t place)) })) × Readable rules t place
 FindsSet t name under.Nothing = firstSet name (definition t .sets) ≡ none

@@ -31,9 +31,11 @@ dotted path = joined 0x2e path
 abbrev pub print : Record → List (List ℕ)
 print (frequency code key) = (0x46 ∷ []) ∷ shown code ∷ shown key ∷ []
 print (base key) = (0x42 ∷ []) ∷ shown key ∷ []
-print (header h) = (0x48 ∷ []) ∷ shown (h .key) ∷ orDash shown (h .base) ∷ (digit (h .ack) ∷ digit (h .routed) ∷ digit (h .multicast) ∷ digit (h .error) ∷ []) ∷ h .name ∷ []
+print (header h) = (0x48 ∷ []) ∷ shown (h .key) ∷ orDash shown
+    (h .base) ∷ (digit (h .ack) ∷ digit (h .routed) ∷ digit (h .multicast) ∷ digit (h .error) ∷ []) ∷ h .name ∷ []
 print (param p) =
-    (0x50 ∷ []) ∷ shown (p .level) ∷ shown (p .order) ∷ shown (p .bits) ∷ typeName (p .type) ∷ p .name ∷ orDash (λ l. l) (p .set) ∷ orDash dotted (p .optional) ∷ orDash dotted (p .size) ∷ []
+    (0x50 ∷ []) ∷ shown (p .level) ∷ shown (p .order) ∷ shown (p .bits) ∷ typeName (p .type) ∷ p .name ∷ orDash (λ l. l)
+    (p .set) ∷ orDash dotted (p .optional) ∷ orDash dotted (p .size) ∷ []
 print (validation path value) = (0x56 ∷ []) ∷ dotted path ∷ shown value ∷ []
 print (set name) = (0x44 ∷ []) ∷ name ∷ []
 print (entry key text) = (0x45 ∷ []) ∷ shown key ∷ text ∷ []

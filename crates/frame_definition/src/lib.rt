@@ -21,7 +21,8 @@ ghost use Rattle.text.specs.declared.Verdict.the-variants.{Accepted};
 ghost use Rattle.frame_text.specs.Form.{given, value, param, typeOf, form};
 ghost use Rattle.frame_text.specs.Rules.{rules, verdict};
 ghost use Rattle.frame_definition.specs.Definition.{below, validations, definition, baseKey, isKey, some?};
-ghost use Rattle.frame_definition.specs.Find.{Good, oneMore, least, FindsBase, ownerKind, NextOf, HasNumbers, HasPaths, meant, FindsParam, FindsValidation, from, HasFlags, candidate, IsRead, Counted, FindsCandidate};
+ghost use Rattle.frame_definition.specs.Find.{Good, oneMore, least, FindsBase, ownerKind, NextOf, HasNumbers, HasPaths, meant, FindsParam};
+ghost use Rattle.frame_definition.specs.Find.{FindsValidation, from, HasFlags, candidate, IsRead, Counted, FindsCandidate};
 pub use sets::find_entry;
 pub use sets::find_set;
 

@@ -14,7 +14,8 @@ use Rattle.text.specs.declared.Place.{Place}
 use Rattle.text.specs.declared.Line.{Line}
 use Rattle.text.specs.declared.Verdict.the-variants.{Accepted, Refused}
 use Rattle.text.proofs.Tests.{alike}
-use Rattle.text.proofs.Judging.{Brief, Outcome, on, passed, astray, wrong, Meets, Checked, checked-long, checked-start, checked-end, checked-on, checked-passed, checked-lost, checked-wrong}
+use Rattle.text.proofs.Judging.{Brief, Outcome, on, passed, astray, wrong, Meets, Checked, checked-long, checked-start, checked-end, checked-on}
+use Rattle.text.proofs.Judging.{checked-passed, checked-lost, checked-wrong}
 use Rattle.frame_kept.specs.Kept.{opened, nothing, holds, deepSize, judgedParam, judged}
 use Rattle.frame_kept.specs.declared.Form.{Form}
 use Rattle.frame_kept.specs.declared.Counts.{Counts}
@@ -69,7 +70,8 @@ owner-parts n (entry key text) before h = absurd (let z : _≡_ {A = ℕ} 0 1 = 
 module _ (before : List Record) (k : Kept) (tells : Tells before k) where
   -- an F, B, H or D line
   opens : (r : Record) (c : Counts) (t : Bool) → over before r ≡ t → lost before r ≡ false → owns r ≡ true
-      → c .frequencies ≡ count 0x46 (r ∷ before) → c .bases ≡ count 0x42 (r ∷ before) → c .headers ≡ count 0x48 (r ∷ before) → c .sets ≡ count 0x44 (r ∷ before)
+      → c .frequencies ≡ count 0x46 (r ∷ before) → c .bases ≡ count 0x42 (r ∷ before) → c .headers ≡ count 0x48 (r ∷ before)
+      → c .sets ≡ count 0x44 (r ∷ before)
       → Meets rules Tells before (some r) (outcome (cond t Passed (On (opened c (letter r)))))
   opens r c true o l w f b h d = (r, refl, o)
   opens r c false o l w f b h d = (
@@ -110,11 +112,21 @@ module _ (before : List Record) (k : Kept) (tells : Tells before k) where
       opens (set name) _ (leb 16 (k .counts .sets)) (rw (tells .sets)) refl refl
       (tells .frequencies) (tells .bases) (tells .headers) (omega (arith, tells .sets))
 
-  meets-validation : (path : Path) (value : ℕ) → Meets rules Tells before (some (validation path value)) (outcome (judged k (shape (some (validation path value)))))
+  meets-validation : (path : Path) (value : ℕ) → Meets rules Tells before (some (validation path value))
+      (outcome (judged k (shape (some (validation path value)))))
   meets-validation path value = go (eqb (k .owner) 0x48) (leb 16 (k .validations)) (rw (tells .owned)) (rw (tells .validations))
     where
-      go : (a b : Bool) → eqb (owner before) 0x48 ≡ a → leb 16 (count 0x56 (under before)) ≡ b → Meets rules Tells before (some (validation path value)) (outcome (cond a (cond b Passed
-          (On (record { counts = k .counts; owner = k .owner; params = k .params; validations = k .validations + 1; entries = k .entries; levels = k .levels }))) Lost))
+      go : (a b : Bool) → eqb (owner before) 0x48 ≡ a → leb 16 (count 0x56 (under before)) ≡ b
+          → Meets rules Tells before (some (validation path value)) (outcome (cond a (cond b Passed
+          (On (record {
+            counts = k .counts;
+            owner = k .owner;
+            params = k .params;
+            validations = k .validations + 1;
+            entries = k .entries;
+            levels =
+                k .levels;
+          }))) Lost))
       go true true p q = (validation path value, refl, rw (p, q))
       go true false p q = (
         validation path value,
@@ -138,8 +150,17 @@ module _ (before : List Record) (k : Kept) (tells : Tells before k) where
   meets-entry : (key : ℕ) (text : List ℕ) → Meets rules Tells before (some (entry key text)) (outcome (judged k (shape (some (entry key text)))))
   meets-entry key text = go (eqb (k .owner) 0x44) (leb 64 (k .entries)) (rw (tells .owned)) (rw (tells .entries))
     where
-      go : (a b : Bool) → eqb (owner before) 0x44 ≡ a → leb 64 (count 0x45 (under before)) ≡ b → Meets rules Tells before (some (entry key text)) (outcome (cond a (cond b Passed
-          (On (record { counts = k .counts; owner = k .owner; params = k .params; validations = k .validations; entries = k .entries + 1; levels = k .levels }))) Lost))
+      go : (a b : Bool) → eqb (owner before) 0x44 ≡ a → leb 64 (count 0x45 (under before)) ≡ b
+          → Meets rules Tells before (some (entry key text)) (outcome (cond a (cond b Passed
+          (On (record {
+            counts = k .counts;
+            owner = k .owner;
+            params = k .params;
+            validations = k .validations;
+            entries = k .entries + 1;
+            levels =
+                k .levels;
+          }))) Lost))
       go true true p q = (entry key text, refl, rw (p, q))
       go true false p q = (
         entry key text,
@@ -184,9 +205,18 @@ module _ (before : List Record) (k : Kept) (tells : Tells before k) where
   unfolding deepSize
   meets-param p = by-level (leb (p .level) 7) refl
     where
-      fits : p .level ≤ 7 → (a b c d : Bool) → holdsParams before ≡ a → leb 64 (count 0x50 (under before)) ≡ b → ltb (k .levels) (p .level) ≡ c → (leb 1 (p .level) && isGiven (p .size)) ≡ d
+      fits : p .level ≤ 7 → (a b c d : Bool) → holdsParams before ≡ a → leb 64 (count 0x50 (under before)) ≡ b
+          → ltb (k .levels) (p .level) ≡ c → (leb 1 (p .level) && isGiven (p .size)) ≡ d
           → Meets rules Tells before (some (param p)) (outcome (cond a (cond b Passed (cond c Lost (cond d Lost
-          (On (record { counts = k .counts; owner = k .owner; params = k .params + 1; validations = k .validations; entries = k .entries; levels = p .level + 1 }))))) Lost))
+          (On (record {
+            counts = k .counts;
+            owner = k .owner;
+            params = k .params + 1;
+            validations = k .validations;
+            entries = k .entries;
+            levels =
+                p .level + 1;
+          }))))) Lost))
       fits h false b c d e f g i = (param p, refl, rw (le-ltb 7 (p .level) h, e), rw e)
       fits h true true c d e f g i = (param p, refl, rw (le-ltb 7 (p .level) h, e, f))
       fits h true false true d e f g i =
@@ -211,10 +241,12 @@ module _ (before : List Record) (k : Kept) (tells : Tells before k) where
         },
       )
 
-      by-level : (t : Bool) → leb (p .level) 7 ≡ t → Meets rules Tells before (some (param p)) (outcome (judgedParam k (cond t (p .level) 8) (isGiven (p .size))))
+      by-level : (t : Bool) → leb (p .level) 7 ≡ t → Meets rules Tells before (some (param p))
+          (outcome (judgedParam k (cond t (p .level) 8) (isGiven (p .size))))
       by-level true e =
           let h : p .level ≤ 7 = leb-true _ _ e in
-          rw (le-ltb 7 (p .level) h) (fits h (holds k) (leb 64 (k .params)) (ltb (k .levels) (p .level)) (leb 1 (p .level) && isGiven (p .size)) (sym holds-params) (rw (tells .params)) refl refl)
+          rw (le-ltb 7 (p .level) h) (fits h (holds k) (leb 64 (k .params)) (ltb (k .levels) (p .level)) (leb 1 (p .level) && isGiven (p .size))
+          (sym holds-params) (rw (tells .params)) refl refl)
       by-level false e = (param p, refl, rw (lt-ltb 7 (p .level) (leb-false _ _ e)))
 
   -- the code's judgement is that of the rules
@@ -250,7 +282,8 @@ check-start t p k e f = checked-start rules Tells t p k (tells-nothing k f) e
 pub check-end : (t : List ℕ) (p : Place) (k : Kept) → Checked rules Tells t p k → length t ≤ 60000 → length t ≤ p .at → Accepted ≡ verdict t
 check-end t p k c short h = checked-end rules Tells t p k c short h
 
-module _ (t : List ℕ) (p : Place) (k : Kept) (l : Line) (f : Form) (j : Judged) (c : Checked rules Tells t p k) (inside : p .at < length t) (step : Steps t p l)
+module _ (t : List ℕ) (p : Place) (k : Kept) (l : Line) (f : Form) (j : Judged) (c : Checked rules Tells t p k) (inside : p .at < length t)
+    (step : Steps t p l)
     (form-is : f ≡ shape (form (cells t l))) (judgement : j ≡ judged k f) where
   met : Meets rules Tells (c .before) (form (cells t l)) (outcome j)
   met = rw (judgement, form-is) (meets (c .before) k (c .tells) (form (cells t l)))

@@ -18,7 +18,8 @@ use Rattle.text.proofs.Laws.{cells-length, number-most}
 use Rattle.text.proofs.Tests.{and-left, and-right, count-of}
 use Rattle.frame_kept.specs.declared.Form.{Form}
 use Rattle.frame_kept.specs.declared.Form.the-variants.{Frequency, Base, Header, Param, Validation, Set, Entry, Bad}
-use Rattle.frame_text.specs.Form.{Record, either, known, typeOf, flags, names, value, frequencyForm, baseForm, headerForm, paramNumbers, paramWords, paramForm, validationForm, setForm, entryForm, ofType, said, paramSaid, form}
+use Rattle.frame_text.specs.Form.{Record, either, known, typeOf, flags, names, value, frequencyForm, baseForm, headerForm, paramNumbers, paramWords}
+use Rattle.frame_text.specs.Form.{paramForm, validationForm, setForm, entryForm, ofType, said, paramSaid, form}
 use Rattle.frame_text.specs.Rules.{isGiven}
 use Rattle.frame_text.specs.Shape.{least, levelOf, tagged, shape}
 use Rattle.frame_text.specs.declared.ParamType.{ParamType}
@@ -100,7 +101,8 @@ module _ (t : List ℕ) (l : Line) where
     pub param-not : b ≡ false → Bad ≡ shape (paramSaid (cells t l))
     param-not e = ap (λ (x : Bool). shape (said x (ofType (cells t l) (typeOf (field 4 (cells t l)))))) (sym (decides ∙ e))
 
-    pub param-is : b ≡ true → (v : ℕ) (g : Bool) → v ≡ levelOf (number 7 (field 1 (cells t l))) → g ≡ not (missing (field 8 (cells t l))) → Param v g ≡ shape (paramSaid (cells t l))
+    pub param-is : b ≡ true → (v : ℕ) (g : Bool) → v ≡ levelOf (number 7 (field 1 (cells t l))) → g ≡ not (missing (field 8 (cells t l)))
+        → Param v g ≡ shape (paramSaid (cells t l))
     param-is e v g at-v at-g =
         let both : (paramNumbers (cells t l) && paramWords (cells t l)) ≡ true = sym good ∙ e in
         let d : decimal (field 1 (cells t l)) ≡ true = and-left _ _ (and-left (paramNumbers (cells t l)) _ both) in
@@ -138,7 +140,8 @@ module _ (fs : List (List ℕ)) (k : ℕ) (kind : k ≡ kindOf fs) where
   pub kind-param : (r : Form) → k ≡ 80 → r ≡ shape (paramSaid fs) → r ≡ shape (form fs)
   kind-param r q h = rw (← kind, q) h
 
-  pub kind-none : (k ≡ 70 → ⊥) → (k ≡ 66 → ⊥) → (k ≡ 72 → ⊥) → (k ≡ 80 → ⊥) → (k ≡ 86 → ⊥) → (k ≡ 68 → ⊥) → (k ≡ 69 → ⊥) → Bad ≡ shape (form fs)
+  pub kind-none : (k ≡ 70 → ⊥) → (k ≡ 66 → ⊥) → (k ≡ 72 → ⊥) → (k ≡ 80 → ⊥) → (k ≡ 86 → ⊥) → (k ≡ 68 → ⊥)
+      → (k ≡ 69 → ⊥) → Bad ≡ shape (form fs)
   kind-none f b h p v d e = rw (← kind, ne-eqb _ _ f, ne-eqb _ _ b, ne-eqb _ _ h, ne-eqb _ _ p, ne-eqb _ _ v, ne-eqb _ _ d, ne-eqb _ _ e)
 
 pub ruleset kind-laws = (kind-frequency, kind-base, kind-header, kind-param, kind-validation, kind-set, kind-entry, kind-none)

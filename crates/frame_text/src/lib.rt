@@ -11,7 +11,8 @@ ghost use mathlib.Core.Path.{_≡_};
 ghost use mathlib.Core.Bool.{_&&_};
 ghost use Rattle.text.specs.Text.{field, number};
 ghost use Rattle.text.specs.Place.{kindOf, cells, Marked, Has};
-ghost use Rattle.frame_text.specs.Form.{numberType, otherType, typeOf, known, flags, frequencyForm, baseForm, headerForm, paramNumbers, paramPaths, paramWords, paramSaid, validationForm, setForm, entryForm, form};
+ghost use Rattle.frame_text.specs.Form.{numberType, otherType, typeOf, known, flags, frequencyForm, baseForm, headerForm, paramNumbers, paramPaths};
+ghost use Rattle.frame_text.specs.Form.{paramWords, paramSaid, validationForm, setForm, entryForm, form};
 ghost use Rattle.frame_text.specs.Rules.{verdict};
 ghost use Rattle.frame_text.specs.Shape.{levelOf, shape, tagged};
 

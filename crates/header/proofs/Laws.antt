@@ -52,14 +52,18 @@ module _ (t d : List ℕ) (speed : ℕ) (fields scratch : List ℕ) (c : Candida
 
   pub show-more : length table / 7 < read .rows → Shows t d speed fields scratch c read table (Refused (MoreRows (read .rows))) table
   show-more h =
-      let e : fitted (length table / 7) (headingRead t fields scratch c read) ≡ more-rows (read .rows) = rw (rows-read, lt-leb (read .rows) (length table / 7) h) refl in
+      let e : fitted (length table / 7) (headingRead t fields scratch c read) ≡ more-rows (read .rows) =
+      rw (rows-read, lt-leb (read .rows) (length table / 7) h) refl in
       rw e (record { answer = refl; rows = refl })
 
-  pub show-all : (offset : ℕ) (ok : Bool) (table′ : List ℕ) → read .rows ≤ length table / 7 → offset ≡ offsetOf (read .bit .0) → ok ≡ right d speed
+  pub show-all : (offset : ℕ) (ok : Bool) (table′ : List ℕ) → read .rows ≤ length table / 7 → offset ≡ offsetOf (read .bit .0)
+      → ok ≡ right d speed
       → table′ ≡ laid table (map (shown (fieldsIn t fields (read .count)) (definition t .sets)) (rowsIn scratch (read .rows)))
-      → Shows t d speed fields scratch c read table (Header (record { number = c .number; key = c .key; flags = c .flags; payload = offset; right = ok; rows = read .rows })) table′
+      → Shows t d speed fields scratch c read table (Header
+      (record { number = c .number; key = c .key; flags = c .flags; payload = offset; right = ok; rows = read .rows })) table′
   show-all offset ok table′ h is-offset is-ok is-table =
-      let e : fitted (length table / 7) (headingRead t fields scratch c read) ≡ header (headingRead t fields scratch c read) = rw (rows-read, le-leb (read .rows) (length table / 7) h) refl in
+      let e : fitted (length table / 7) (headingRead t fields scratch c read) ≡ header (headingRead t fields scratch c read) =
+      rw (rows-read, le-leb (read .rows) (length table / 7) h) refl in
       rw e (record { answer = rw (is-offset, is-ok, rows-read) refl; rows = is-table })
 
   pub rows-fit : read .rows ≤ length table / 7 → read .rows * 7 ≤ length table
@@ -72,18 +76,22 @@ base-readable t key p n f = f .1
 pub base-number : (t : List ℕ) (key : ℕ) (p : Place) (n : ℕ) → FindsBase t key (found.At p n) → n ≤ length t
 base-number t key p n f = f .2
 
-pub base-few : (t : List ℕ) (key : ℕ) (p : Place) (n : ℕ) → FindsBase t key (found.At p n) → verdict t ≡ text.Accepted → length (linesAt t p n) ≤ 64
+pub base-few : (t : List ℕ) (key : ℕ) (p : Place) (n : ℕ) → FindsBase t key (found.At p n) → verdict t ≡ text.Accepted
+    → length (linesAt t p n) ≤ 64
 base-few t key p n f accepted = base-leveled t key (record { key = key; params = linesAt t p n }) accepted (f .0) .few
 
-pub base-holds : (t d : List ℕ) (ps : List Numbered) (fields scratch : List ℕ) (base : Read) → ReadsBase t d ps fields scratch base → HoldsBase t d fields scratch base
+pub base-holds : (t d : List ℕ) (ps : List Numbered) (fields scratch : List ℕ) (base : Read) → ReadsBase t d ps fields scratch base
+    → HoldsBase t d fields scratch base
 base-holds t d ps fields scratch base r = r .holds
 
 -- ---- the choice
-module _ (t d : List ℕ) (key : ℕ) (bs : List Numbered) (fields scratch : List ℕ) (r : Choice) (c : Candidate) (read : Read) (chooses : Chooses t d key bs fields scratch r) (e : r ≡ choice.At c read) where
+module _ (t d : List ℕ) (key : ℕ) (bs : List Numbered) (fields scratch : List ℕ) (r : Choice) (c : Candidate) (read : Read)
+    (chooses : Chooses t d key bs fields scratch r) (e : r ≡ choice.At c read) where
   chosen : IsChosen t d key bs fields scratch c read
   chosen = rw e at chooses
 
-  pub chosen-ready : (fields₀ scratch₀ : List ℕ) → Roomy d fields₀ scratch₀ → length fields ≡ length fields₀ → length scratch ≡ length scratch₀ → Ready fields scratch read
+  pub chosen-ready : (fields₀ scratch₀ : List ℕ) → Roomy d fields₀ scratch₀ → length fields ≡ length fields₀
+      → length scratch ≡ length scratch₀ → Ready fields scratch read
   chosen-ready fields₀ scratch₀ roomy same-fields same-scratch =
       record {
         lines = omega (arith, chosen .own .few, roomy .lines);
@@ -100,21 +108,28 @@ module _ (t d : List ℕ) (key : ℕ) (bs : List Numbered) (fields scratch : Lis
   the-bit : read .bit .0 ≡ total (reading 7 d (trees bs) (trees own))
   the-bit = chosen .own .bit-is ∙ flat-bit bs (map untyped own) d ∙ ap (λ (fs : List (Field 7)). total fs) the-reading
 
-  the-rows : map (shown (fieldsIn t fields (read .count)) (definition t .sets)) (rowsIn scratch (read .rows)) ≡ tableOf 7 d (definition t .sets) (reading 7 d (trees bs) (trees own))
-  the-rows = rw (chosen .own .lines, chosen .own .rows) (flat-rows bs (map untyped own) d (definition t .sets)) ∙ ap (tableOf 7 d (definition t .sets)) the-reading
+  the-rows : map (shown (fieldsIn t fields (read .count)) (definition t .sets)) (rowsIn scratch (read .rows))
+      ≡ tableOf 7 d (definition t .sets) (reading 7 d (trees bs) (trees own))
+  the-rows =
+      rw (chosen .own .lines, chosen .own .rows) (flat-rows bs (map untyped own) d (definition t .sets))
+      ∙ ap (tableOf 7 d (definition t .sets)) the-reading
 
-  pub picks-one : (speed : ℕ) (table : List ℕ) (x : Decoded) (table′ : List ℕ) → Shows t d speed fields scratch c read table x table′ → Picks t d speed key bs table x table′
+  pub picks-one : (speed : ℕ) (table : List ℕ) (x : Decoded) (table′ : List ℕ) → Shows t d speed fields scratch c read table x table′
+      → Picks t d speed key bs table x table′
   picks-one speed table x table′ shows = rw (chosen .answer-is, ← the-bit, ← the-rows) shows
 
-pub picks-none : (t d : List ℕ) (speed key : ℕ) (bs : List Numbered) (fields scratch : List ℕ) (r : Choice) (table : List ℕ) → Chooses t d key bs fields scratch r → r ≡ choice.Nothing
+pub picks-none : (t d : List ℕ) (speed key : ℕ) (bs : List Numbered) (fields scratch : List ℕ) (r : Choice) (table : List ℕ)
+    → Chooses t d key bs fields scratch r → r ≡ choice.Nothing
     → Picks t d speed key bs table (Refused NoCandidate) table
 picks-none t d speed key bs fields scratch r table chooses e =
     let none-is : answer 7 d (trees bs) (candidatesOf key (definition t)) ≡ refused 7 = rw e at chooses in
     rw none-is (record { answer = refl; rows = refl })
 
 -- ---- what is told by it
-pub reads-picked : (t d : List ℕ) (speed key : ℕ) (p : Place) (n : ℕ) (fields scratch : List ℕ) (base : Read) (table : List ℕ) (x : Decoded) (table′ : List ℕ)
-    → ReadsBase t d (linesAt t p n) fields scratch base → FindsBase t key (found.At p n) → Picks t d speed key (baseOf t fields base) table x table′ → Reads t d speed key table x table′
+pub reads-picked : (t d : List ℕ) (speed key : ℕ) (p : Place) (n : ℕ) (fields scratch : List ℕ) (base : Read) (table : List ℕ) (x : Decoded)
+    (table′ : List ℕ)
+    → ReadsBase t d (linesAt t p n) fields scratch base → FindsBase t key (found.At p n) → Picks t d speed key (baseOf t fields base) table x table′
+    → Reads t d speed key table x table′
 unfolding told
 reads-picked t d speed key p n fields scratch base table x table′ r f picks =
     let same-trees : trees (baseOf t fields base) ≡ trees (linesAt t p n) = ap trees (r .lines) ∙ trees-untyped (linesAt t p n) in
@@ -137,7 +152,8 @@ module _ (t d : List ℕ) (region speed : ℕ) (table : List ℕ) (accepted : ve
 
     pub decodes-read : (r : Decoded) (table′ : List ℕ) → Reads t d speed key table r table′ → Decodes t d region speed table r table′
     decodes-read r table′ reads =
-        decodes t d region speed table r table′ (rw (accepted, le-ltb 2048 (length d) s, le-ltb (length d) 2 l, ← is-key) (reads .answer)) (rw (← is-key) (reads .rows))
+        decodes t d region speed table r table′ (rw (accepted, le-ltb 2048 (length d) s, le-ltb (length d) 2 l, ← is-key) (reads .answer))
+        (rw (← is-key) (reads .rows))
 
     pub base-at : (r : Found) (p : Place) (n : ℕ) → FindsBase t key r → r ≡ found.At p n → FindsBase t key (found.At p n)
     base-at r p n finds e = rw e at finds
@@ -146,7 +162,27 @@ module _ (t d : List ℕ) (region speed : ℕ) (table : List ℕ) (accepted : ve
 pub accepted-text : (t : List ℕ) (v : Verdict) → v ≡ verdict t → v ≡ text.Accepted → verdict t ≡ text.Accepted
 accepted-text t v e q = sym e ∙ q
 
-pub decodes-refused : (t d : List ℕ) (region speed : ℕ) (table : List ℕ) (v : Verdict) (x : Refusal) → v ≡ verdict t → v ≡ text.Refused x → Decodes t d region speed table (Refused x) table
+pub decodes-refused : (t d : List ℕ) (region speed : ℕ) (table : List ℕ) (v : Verdict) (x : Refusal) → v ≡ verdict t → v ≡ text.Refused x
+    → Decodes t d region speed table (Refused x) table
 decodes-refused t d region speed table v x e q = decodes t d region speed table _ _ (rw (sym e ∙ q) refl) refl
 
-pub ruleset laws = (show-more, show-all, rows-fit, base-readable, base-number, base-few, base-holds, chosen-ready, picks-one, picks-none, reads-picked, decodes-long, decodes-short, decodes-no-base, decodes-read, base-at, accepted-text, decodes-refused)
+pub ruleset laws = (
+  show-more,
+  show-all,
+  rows-fit,
+  base-readable,
+  base-number,
+  base-few,
+  base-holds,
+  chosen-ready,
+  picks-one,
+  picks-none,
+  reads-picked,
+  decodes-long,
+  decodes-short,
+  decodes-no-base,
+  decodes-read,
+  base-at,
+  accepted-text,
+  decodes-refused,
+)

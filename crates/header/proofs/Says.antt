@@ -57,7 +57,8 @@ module _ (t d : List ℕ) (region speed : ℕ) (table : List ℕ) where
   within-is : Within t d → decoded t d region speed (length table) ≡ ofTold (right d speed) (toldOf t d region speed (length table))
   within-is w = rw (w .accepted, le-ltb 2048 (length d) (w .short), le-ltb (length d) 2 (w .long)) refl
 
-  pub decodes : (r : Decoded) (table′ : List ℕ) → r ≡ decoded t d region speed (length table) → table′ ≡ tableAfter table (toldOf t d region speed (length table)) r → Decodes t d region speed table r table′
+  pub decodes : (r : Decoded) (table′ : List ℕ) → r ≡ decoded t d region speed (length table)
+      → table′ ≡ tableAfter table (toldOf t d region speed (length table)) r → Decodes t d region speed table r table′
   decodes r table′ e rows =
       record {
         answer = e;

@@ -106,13 +106,15 @@ Says def d most key ok (Refused NotAFrame) = ⊥
 
 -- rows enough, whichever candidate holds
 abbrev pub Enough : Definition → List ℕ → ℕ → ℕ → Base → Type 0
-Enough def d most key b = (c : Candidate 7) (fs : List (Field 7)) → First 7 d (trees (b .params)) (candidatesOf key def) c fs → length (tableOf 7 d (def .sets) fs) ≤ most
+Enough def d most key b =
+    (c : Candidate 7) (fs : List (Field 7)) → First 7 d (trees (b .params)) (candidatesOf key def) c fs → length (tableOf 7 d (def .sets) fs) ≤ most
 
 -- H15, demand 3: there is an answer exactly if some candidate holds; it is the first that does; and 7 comes exactly if none does
 pub record Demand (def : Definition) (d : List ℕ) (key : ℕ) (ok : Bool) (b : Base) (r : Decoded) : Type 0 where
   pub exactly : ((h : DecodedHeader) × (r ≡ Header h)) ↔ Some 7 d (trees (b .params)) (candidatesOf key def)
   pub the-first : (h : DecodedHeader)
-      → (r ≡ Header h) ↔ ((c : Candidate 7) × (fs : List (Field 7)) × First 7 d (trees (b .params)) (candidatesOf key def) c fs × (h ≡ headerOf ok (headingOf (def .sets) d c fs)))
+      → (r ≡ Header h) ↔ ((c : Candidate 7) × (fs : List (Field 7)) × First 7 d (trees (b .params)) (candidatesOf key def) c fs
+      × (h ≡ headerOf ok (headingOf (def .sets) d c fs)))
   pub only-seven : (r ≡ Refused NoCandidate) ↔ None 7 d (trees (b .params)) (candidatesOf key def)
 
 -- ---- H20: what a call of `decode_header` answers and leaves
@@ -120,5 +122,6 @@ pub record Decodes (t d : List ℕ) (region speed : ℕ) (table : List ℕ) (r :
   pub answer : r ≡ decoded t d region speed (length table)
   pub rows : table′ ≡ tableAfter table (toldOf t d region speed (length table)) r
   pub says : Within t d → Says (definition t) d (length table / 7) (keyOf t region speed) (right d speed) r
-  pub demand : Within t d → (b : Base) → firstBase (keyOf t region speed) (definition t .bases) ≡ some b → Enough (definition t) d (length table / 7) (keyOf t region speed) b
+  pub demand : Within t d → (b : Base) → firstBase (keyOf t region speed) (definition t .bases) ≡ some b
+      → Enough (definition t) d (length table / 7) (keyOf t region speed) b
       → Demand (definition t) d (keyOf t region speed) (right d speed) b r

@@ -20,17 +20,32 @@ use Rattle.header.specs.Decode.{decoded, toldOf, tableAfter}
 -- `B|0/P|0|0|8|HEX|Home|-|-|-/P|0|1|8|HEX|Props|-|-|-/P|1|0|4|HEX|Type|-|-|-/P|1|1|4|HEX|Flags|-|-|-/H|0|0|0000|x/V|Props.Type|3/`, | a tab and / a line end
 abbrev pub text : List ℕ
 text =
-    66 ∷ 9 ∷ 48 ∷ 10 ∷ 80 ∷ 9 ∷ 48 ∷ 9 ∷ 48 ∷ 9 ∷ 56 ∷ 9 ∷ 72 ∷ 69 ∷ 88 ∷ 9 ∷ 72 ∷ 111 ∷ 109 ∷ 101 ∷ 9 ∷ 45 ∷ 9 ∷ 45 ∷ 9 ∷ 45 ∷ 10 ∷ 80 ∷ 9 ∷ 48 ∷ 9 ∷ 49 ∷ 9 ∷ 56 ∷ 9 ∷ 72 ∷ 69 ∷ 88 ∷ 9 ∷ 80 ∷ 114 ∷ 111 ∷ 112 ∷ 115 ∷ 9 ∷ 45 ∷ 9 ∷ 45 ∷ 9 ∷ 45 ∷ 10 ∷ 80 ∷ 9 ∷ 49 ∷ 9 ∷ 48 ∷ 9 ∷ 52 ∷ 9 ∷ 72 ∷ 69 ∷ 88 ∷ 9 ∷ 84 ∷ 121 ∷ 112 ∷ 101 ∷ 9 ∷ 45 ∷ 9 ∷ 45 ∷ 9 ∷ 45 ∷ 10 ∷ 80 ∷ 9 ∷ 49 ∷ 9 ∷ 49 ∷ 9 ∷ 52 ∷ 9 ∷ 72 ∷ 69 ∷ 88 ∷ 9 ∷ 70 ∷ 108 ∷ 97 ∷ 103 ∷ 115 ∷ 9 ∷ 45 ∷ 9 ∷ 45 ∷ 9 ∷ 45 ∷ 10 ∷ 72 ∷ 9 ∷ 48 ∷ 9 ∷ 48 ∷ 9 ∷ 48 ∷ 48 ∷ 48 ∷ 48 ∷ 9 ∷ 120 ∷ 10 ∷ 86 ∷ 9 ∷ 80 ∷ 114 ∷ 111 ∷ 112 ∷ 115 ∷ 46 ∷ 84 ∷ 121 ∷ 112 ∷ 101 ∷ 9 ∷ 51 ∷ 10 ∷ []
+    66 ∷ 9 ∷ 48 ∷ 10 ∷ 80 ∷ 9 ∷ 48 ∷ 9 ∷ 48 ∷ 9 ∷ 56 ∷ 9 ∷ 72 ∷ 69 ∷ 88 ∷ 9 ∷ 72 ∷ 111 ∷ 109 ∷ 101 ∷ 9 ∷ 45 ∷ 9
+    ∷ 45 ∷ 9 ∷ 45 ∷ 10 ∷ 80 ∷ 9 ∷ 48 ∷ 9 ∷ 49 ∷ 9 ∷ 56 ∷ 9 ∷ 72 ∷ 69 ∷ 88 ∷ 9 ∷ 80 ∷ 114 ∷ 111 ∷ 112 ∷ 115 ∷ 9
+    ∷ 45 ∷ 9 ∷ 45 ∷ 9 ∷ 45 ∷ 10 ∷ 80 ∷ 9 ∷ 49 ∷ 9 ∷ 48 ∷ 9 ∷ 52 ∷ 9 ∷ 72 ∷ 69 ∷ 88 ∷ 9 ∷ 84 ∷ 121 ∷ 112 ∷ 101
+    ∷ 9 ∷ 45 ∷ 9 ∷ 45 ∷ 9 ∷ 45 ∷ 10 ∷ 80 ∷ 9 ∷ 49 ∷ 9 ∷ 49 ∷ 9 ∷ 52 ∷ 9 ∷ 72 ∷ 69 ∷ 88 ∷ 9 ∷ 70 ∷ 108 ∷ 97
+    ∷ 103 ∷ 115 ∷ 9 ∷ 45 ∷ 9 ∷ 45 ∷ 9 ∷ 45 ∷ 10 ∷ 72 ∷ 9 ∷ 48 ∷ 9 ∷ 48 ∷ 9 ∷ 48 ∷ 48 ∷ 48 ∷ 48 ∷ 9 ∷ 120 ∷ 10
+    ∷ 86 ∷ 9 ∷ 80 ∷ 114 ∷ 111 ∷ 112 ∷ 115 ∷ 46 ∷ 84 ∷ 121 ∷ 112 ∷ 101 ∷ 9 ∷ 51 ∷ 10 ∷ []
 
 -- E9: A5 C3, by a table of 30 numbers
 pub a5c3 : decoded text (0xA5 ∷ 0xC3 ∷ []) 0 0 30
-    ≡ Header (record { number = 0; key = 0; flags = record { ack = false; routed = false; multicast = false; error = false }; payload = 2; right = false; rows = 4 })
-unfolding told answer reading baseRead listed exists packed innerAt ordered insert widthOf valueAt inFirst through firstNamed valueOf bitsAt trees kids ofLevel tableFrom innerTable numbersOf rowsEach right plus
+    ≡ Header (record {
+      number = 0;
+      key = 0;
+      flags = record { ack = false; routed = false; multicast = false; error = false };
+      payload = 2;
+      right =
+          false;
+      rows = 4;
+    })
+unfolding told answer reading baseRead listed exists packed innerAt ordered insert widthOf valueAt inFirst through firstNamed valueOf bitsAt trees kids
+    ofLevel tableFrom innerTable numbersOf rowsEach right plus
 a5c3 = refl
 
 -- E9: the four rows; the two numbers behind them are as they were
 abbrev pub table : List ℕ
-table = 9 ∷ 9 ∷ 9 ∷ 9 ∷ 9 ∷ 9 ∷ 9 ∷ 9 ∷ 9 ∷ 9 ∷ 9 ∷ 9 ∷ 9 ∷ 9 ∷ 9 ∷ 9 ∷ 9 ∷ 9 ∷ 9 ∷ 9 ∷ 9 ∷ 9 ∷ 9 ∷ 9 ∷ 9 ∷ 9 ∷ 9 ∷ 9 ∷ 9 ∷ 9 ∷ []
+table = 9 ∷ 9 ∷ 9 ∷ 9 ∷ 9 ∷ 9 ∷ 9 ∷ 9 ∷ 9 ∷ 9 ∷ 9 ∷ 9 ∷ 9 ∷ 9 ∷ 9 ∷ 9 ∷ 9 ∷ 9 ∷ 9 ∷ 9 ∷ 9 ∷ 9 ∷ 9 ∷ 9 ∷ 9
+    ∷ 9 ∷ 9 ∷ 9 ∷ 9 ∷ 9 ∷ []
 
 pub a5c3-rows : tableAfter table (toldOf text (0xA5 ∷ 0xC3 ∷ []) 0 0 30) (decoded text (0xA5 ∷ 0xC3 ∷ []) 0 0 30)
     ≡ 0 ∷ 0 ∷ 0 ∷ 8 ∷ 1 ∷ 0xA5 ∷ 0
@@ -38,17 +53,20 @@ pub a5c3-rows : tableAfter table (toldOf text (0xA5 ∷ 0xC3 ∷ []) 0 0 30) (de
     ∷ 2 ∷ 2 ∷ 12 ∷ 4 ∷ 1 ∷ 3 ∷ 0
     ∷ 3 ∷ 2 ∷ 8 ∷ 4 ∷ 1 ∷ 12 ∷ 0
     ∷ 9 ∷ 9 ∷ []
-unfolding told answer reading baseRead listed exists packed innerAt ordered insert widthOf valueAt inFirst through firstNamed valueOf bitsAt trees kids ofLevel tableFrom innerTable numbersOf rowsEach right plus
+unfolding told answer reading baseRead listed exists packed innerAt ordered insert widthOf valueAt inFirst through firstNamed valueOf bitsAt trees kids
+    ofLevel tableFrom innerTable numbersOf rowsEach right plus
 a5c3-rows = refl
 
 -- E10: A5 3C
 pub a53c : decoded text (0xA5 ∷ 0x3C ∷ []) 0 0 30 ≡ Refused NoCandidate
-unfolding told answer reading baseRead listed exists packed innerAt ordered insert widthOf valueAt inFirst through firstNamed valueOf bitsAt trees kids ofLevel tableFrom innerTable numbersOf rowsEach
+unfolding told answer reading baseRead listed exists packed innerAt ordered insert widthOf valueAt inFirst through firstNamed valueOf bitsAt trees kids
+    ofLevel tableFrom innerTable numbersOf rowsEach
 a53c = refl
 
 -- a table of 27 numbers: refusal 8, four rows are needed
 few-rows : decoded text (0xA5 ∷ 0xC3 ∷ []) 0 0 27 ≡ Refused (MoreRows 4)
-unfolding told answer reading baseRead listed exists packed innerAt ordered insert widthOf valueAt inFirst through firstNamed valueOf bitsAt trees kids ofLevel tableFrom innerTable numbersOf rowsEach
+unfolding told answer reading baseRead listed exists packed innerAt ordered insert widthOf valueAt inFirst through firstNamed valueOf bitsAt trees kids
+    ofLevel tableFrom innerTable numbersOf rowsEach
 few-rows = refl
 
 -- speed 3, whose base key is 2: refusal 6

@@ -46,7 +46,8 @@ Shows t d speed fields scratch c read table r table′ = Gives d speed (fitted (
 
 -- the first candidate that holds, behind the base's P lines bs
 abbrev pub Picks : List ℕ → List ℕ → ℕ → ℕ → List Numbered → List ℕ → Decoded → List ℕ → Type 0
-Picks t d speed key bs table r table′ = Gives d speed (ofAnswer (definition t .sets) d (length table / 7) (answer 7 d (trees bs) (candidatesOf key (definition t)))) table r table′
+Picks t d speed key bs table r table′ =
+    Gives d speed (ofAnswer (definition t .sets) d (length table / 7) (answer 7 d (trees bs) (candidatesOf key (definition t)))) table r table′
 
 abbrev pub Reads : List ℕ → List ℕ → ℕ → ℕ → List ℕ → Decoded → List ℕ → Type 0
 Reads t d speed key table r table′ = Gives d speed (told (definition t) d (length table / 7) key) table r table′

@@ -66,7 +66,8 @@ fn show(
     requires { ⌜ verdict (now text) ≡ Accepted ⌝ }
     requires { ⌜ Ready (now fields) (now scratch) read ⌝ }
     ensures { λ r.
-        ⌜ Shows (now (text .entry)) (now (mpdu .entry)) speed (now (fields .entry)) (now (scratch .entry)) candidate read (now (rows .entry)) r (now (rows .exit)) ⌝ }
+        ⌜ Shows (now (text .entry)) (now (mpdu .entry)) speed (now (fields .entry)) (now (scratch .entry)) candidate read (now (rows .entry)) r
+        (now (rows .exit)) ⌝ }
 {
     let n = read.rows;
     if rows.len() / COLUMNS < n {
@@ -99,7 +100,8 @@ fn pick(
     requires { ⌜ verdict (now text) ≡ Accepted ⌝ }
     requires { ⌜ (Roomy (now mpdu) (now fields) (now scratch)) × (HoldsBase (now text) (now mpdu) (now fields) (now scratch) base) ⌝ }
     ensures { λ r.
-        ⌜ Picks (now (text .entry)) (now (mpdu .entry)) speed key (baseOf (now (text .entry)) (now (fields .entry)) base) (now (rows .entry)) r (now (rows .exit)) ⌝ }
+        ⌜ Picks (now (text .entry)) (now (mpdu .entry)) speed key (baseOf (now (text .entry)) (now (fields .entry)) base) (now (rows .entry)) r
+        (now (rows .exit)) ⌝ }
 {
     let Choice::At { candidate, read } = choose(text, mpdu, key, fields, scratch, base) else {
         return Decoded::Refused(Refusal::NoCandidate);

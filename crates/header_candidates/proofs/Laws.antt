@@ -54,12 +54,14 @@ candidate-some key (g ∷ gs) f fs e = go (isKey key (g .says .base) && some? (g
   where
     go : (t : Bool) → (isKey key (g .says .base) && some? (g .validations)) ≡ t → cond t (g ∷ candidates key gs) (candidates key gs) ≡ f ∷ fs
         → (candidates key gs ≡ f ∷ fs → some? (f .validations) ≡ true) → some? (f .validations) ≡ true
-    go true h e ih = ap (λ (x : Frame). some? (x .validations)) (sym (head-eq-of-cons-eq e)) ∙ and-right (isKey key (g .says .base)) (some? (g .validations)) h
+    go true h e ih =
+        ap (λ (x : Frame). some? (x .validations)) (sym (head-eq-of-cons-eq e)) ∙ and-right (isKey key (g .says .base)) (some? (g .validations)) h
     go false h e ih = ih e
 
 -- ---- the base
 module _ (t d : List ℕ) (p : Place) (n : ℕ) (fields₀ fields scratch₀ scratch : List ℕ) (count : ℕ) (w : Walked) where
-  pub base-read : Loads t p n fields₀ 0 count fields → Walks d scratch₀ scratch 0 (count - 0) (walkedFrom (fieldsIn t fields count) d 0 0 (rowsIn scratch₀ 0)) w → length (linesAt t p n) ≤ 64
+  pub base-read : Loads t p n fields₀ 0 count fields
+      → Walks d scratch₀ scratch 0 (count - 0) (walkedFrom (fieldsIn t fields count) d 0 0 (rowsIn scratch₀ 0)) w → length (linesAt t p n) ≤ 64
       → ReadsBase t d (linesAt t p n) fields scratch (record { count = count; bit = w .bit; rows = w .rows })
   unfolding rowsIn fieldsFrom
   base-read load walk few =
@@ -78,16 +80,19 @@ module _ (t d : List ℕ) (p : Place) (n : ℕ) (fields₀ fields scratch₀ scr
 -- ---- a candidate behind it
 module _ (t d : List ℕ) (p : Place) (n : ℕ) (fields₀ fields scratch₀ scratch : List ℕ) (base : Read) (count : ℕ) (w : Walked)
     (holds : HoldsBase t d fields₀ scratch₀ base) (load : Loads t p n fields₀ (base .count) count fields)
-    (walk : Walks d scratch₀ scratch (base .rows) (count - base .count) (walkedFrom (fieldsIn t fields count) d (base .count) (base .bit .0) (rowsIn scratch₀ (base .rows))) w) where
+    (walk : Walks d scratch₀ scratch (base .rows) (count - base .count)
+    (walkedFrom (fieldsIn t fields count) d (base .count) (base .bit .0) (rowsIn scratch₀ (base .rows))) w) where
   abbrev bs : List Numbered
   bs = baseOf t fields₀ base
 
-  own-walk : walkedFrom (fieldsIn t fields count) d (base .count) (base .bit .0) (rowsIn scratch₀ (base .rows)) ≡ ownWalked bs (map untyped (linesAt t p n)) d
+  own-walk : walkedFrom (fieldsIn t fields count) d (base .count) (base .bit .0) (rowsIn scratch₀ (base .rows))
+      ≡ ownWalked bs (map untyped (linesAt t p n)) d
   own-walk =
       let size : length bs ≡ base .count = fields-length t fields₀ (base .count) 0 in
       rw (load .lines, holds .bit-is, holds .rows, size) refl
 
-  pub own-read : length (linesAt t p n) ≤ 64 → ReadsBehind t d (linesAt t p n) fields₀ base fields scratch (record { count = count; bit = w .bit; rows = w .rows })
+  pub own-read : length (linesAt t p n) ≤ 64 → ReadsBehind t d (linesAt t p n) fields₀ base fields scratch
+      (record { count = count; bit = w .bit; rows = w .rows })
   own-read few =
       let size : count ≡ base .count + length (linesAt t p n) = load .count in
       record {
@@ -119,7 +124,8 @@ module _ (t d : List ℕ) (p : Place) (n : ℕ) (fields₀ : List ℕ) (base : R
   is-held =
       test
       ∙ (rw (read .both .lines, read .both .rows) (flat-meets (baseOf t fields₀ base) (map untyped (linesAt t p n)) d (validations (below (from t p)))))
-      ∙ ap (λ (ts : List (P 7)). meetsAll 7 d (reading 7 d (trees (baseOf t fields₀ base)) ts) (validations (below (from t p)))) (trees-untyped (linesAt t p n))
+      ∙ ap (λ (ts : List (P 7)). meetsAll 7 d (reading 7 d (trees (baseOf t fields₀ base)) ts) (validations (below (from t p))))
+      (trees-untyped (linesAt t p n))
 
   pub tries-holds : b ≡ true → Tries t d p n fields₀ base fields scratch (Holds r)
   tries-holds e = record { kept = read .kept; held-by = (sym is-held ∙ e, read .both) }
@@ -129,39 +135,53 @@ module _ (t d : List ℕ) (p : Place) (n : ℕ) (fields₀ : List ℕ) (base : R
 
 -- the base alone rules it out
 pub tries-ruled : (t d : List ℕ) (p : Place) (n : ℕ) (fields scratch : List ℕ) (base : Read) (b : Bool) → HoldsBase t d fields scratch base
-    → b ≡ ruledOut (nameOf (fieldsIn t fields (base .count))) (rowsIn scratch (base .rows)) (validations (below (from t p))) → b ≡ true → Tries t d p n fields base fields scratch Fails
+    → b ≡ ruledOut (nameOf (fieldsIn t fields (base .count))) (rowsIn scratch (base .rows)) (validations (below (from t p))) → b ≡ true
+    → Tries t d p n fields base fields scratch Fails
 tries-ruled t d p n fields scratch base b holds test e =
-    let ruled : ruledOut (nameOf (baseOf t fields base)) (baseWalked (baseOf t fields base) d .rows) (validations (below (from t p))) ≡ true = rw (holds .rows) at (sym test ∙ e) in
+    let ruled : ruledOut (nameOf (baseOf t fields base)) (baseWalked (baseOf t fields base) d .rows) (validations (below (from t p))) ≡ true =
+    rw (holds .rows) at (sym test ∙ e) in
     record {
       kept = record { lines = refl; holds = holds };
       held-by =
-          ap (λ (ts : List (P 7)). meetsAll 7 d (reading 7 d (trees (baseOf t fields base)) ts) (validations (below (from t p)))) (sym (trees-untyped (linesAt t p n)))
+          ap (λ (ts : List (P 7)). meetsAll 7 d (reading 7 d (trees (baseOf t fields base)) ts) (validations (below (from t p))))
+          (sym (trees-untyped (linesAt t p n)))
           ∙ base-refutes (baseOf t fields base) (map untyped (linesAt t p n)) d (validations (below (from t p))) ruled;
     }
 
 -- what is read fits the tables
-pub own-lines : (t d : List ℕ) (own : List Numbered) (fields₀ : List ℕ) (base : Read) (fields scratch : List ℕ) (r : Read) → ReadsBehind t d own fields₀ base fields scratch r → 1536 ≤ length fields → r .count * 12 ≤ length fields
+pub own-lines : (t d : List ℕ) (own : List Numbered) (fields₀ : List ℕ) (base : Read) (fields scratch : List ℕ) (r : Read)
+    → ReadsBehind t d own fields₀ base fields scratch r → 1536 ≤ length fields → r .count * 12 ≤ length fields
 own-lines t d own fields₀ base fields scratch r read room = omega (arith, read .both .few)
 
-pub own-rows : (t d : List ℕ) (own : List Numbered) (fields₀ : List ℕ) (base : Read) (fields scratch : List ℕ) (r : Read) → ReadsBehind t d own fields₀ base fields scratch r → 768 ≤ length scratch → r .rows * 6 ≤ length scratch
+pub own-rows : (t d : List ℕ) (own : List Numbered) (fields₀ : List ℕ) (base : Read) (fields scratch : List ℕ) (r : Read)
+    → ReadsBehind t d own fields₀ base fields scratch r → 768 ≤ length scratch → r .rows * 6 ≤ length scratch
 own-rows t d own fields₀ base fields scratch r read room = omega (arith, read .both .rows-few)
 
 -- ---- candidate by candidate: what is left decides
 
-pub record Choosing (t d : List ℕ) (key : ℕ) (fields₀ scratch₀ : List ℕ) (base : Read) (fields scratch : List ℕ) (p : Place) (h n : ℕ) : Type 0 where
+pub record Choosing (t d : List ℕ) (key : ℕ) (fields₀ scratch₀ : List ℕ) (base : Read) (fields scratch : List ℕ) (p : Place)
+    (h n : ℕ) : Type 0 where
   pub counted : Counted t p h n
   pub roomy : Roomy d fields scratch
   pub same-fields : length fields ≡ length fields₀
   pub same-scratch : length scratch ≡ length scratch₀
   pub kept : Kept t d fields₀ base fields scratch
   pub leveled : Every (λ (f : Frame). Leveled (f .params)) (candidates key (frames h n (from t p)))
-  pub left : answer 7 d (trees (baseOf t fields₀ base)) (candidatesOf key (definition t)) ≡ answer 7 d (trees (baseOf t fields₀ base)) (map candidateOf (candidates key (frames h n (from t p))))
+  pub left : answer 7 d (trees (baseOf t fields₀ base)) (candidatesOf key (definition t))
+      ≡ answer 7 d (trees (baseOf t fields₀ base)) (map candidateOf (candidates key (frames h n (from t p))))
 
-pub choosing-starts : (t d : List ℕ) (key : ℕ) (base : Read) (fields scratch : List ℕ) (p : Place) → verdict t ≡ Accepted → Roomy d fields scratch → HoldsBase t d fields scratch base
+pub choosing-starts : (t d : List ℕ) (key : ℕ) (base : Read) (fields scratch : List ℕ) (p : Place) → verdict t ≡ Accepted → Roomy d fields scratch
+    → HoldsBase t d fields scratch base
     → p ≡ record { at = 0; line = 1 } → Choosing t d key fields scratch base fields scratch p 0 0
 choosing-starts t d key base fields scratch p accepted roomy holds e =
     rw e (record {
-      counted = record { readable = readable-start rules t _ accepted refl; short = accepted-short rules t accepted; headers-few = omega arith; params-few = omega arith };
+      counted = record {
+        readable = readable-start rules t _ accepted refl;
+        short = accepted-short rules t accepted;
+        headers-few = omega arith;
+        params-few =
+            omega arith;
+      };
       roomy = roomy;
       same-fields = refl;
       same-scratch = refl;
@@ -170,7 +190,8 @@ choosing-starts t d key base fields scratch p accepted roomy holds e =
       left = refl;
     })
 
-pub choosing-counted : (t d : List ℕ) (key : ℕ) (fields₀ scratch₀ : List ℕ) (base : Read) (fields scratch : List ℕ) (p : Place) (h n : ℕ) → Choosing t d key fields₀ scratch₀ base fields scratch p h n → Counted t p h n
+pub choosing-counted : (t d : List ℕ) (key : ℕ) (fields₀ scratch₀ : List ℕ) (base : Read) (fields scratch : List ℕ) (p : Place) (h n : ℕ)
+    → Choosing t d key fields₀ scratch₀ base fields scratch p h n → Counted t p h n
 choosing-counted t d key fields₀ scratch₀ base fields scratch p h n w = w .counted
 
 module _ (t d : List ℕ) (key : ℕ) (fields₀ scratch₀ : List ℕ) (base : Read) (fields scratch : List ℕ) (p : Place) (h n : ℕ) (r : NextCandidate)
@@ -220,7 +241,8 @@ module _ (t d : List ℕ) (key : ℕ) (fields₀ scratch₀ : List ℕ) (base : 
           let by = rw (q, same-base) at (tries .held-by) in
           record { answer-is = decides true (by .0); own = by .1 }
 
-      pub choosing-more : length fields′ ≡ length fields → length scratch′ ≡ length scratch → x ≡ Fails → Choosing t d key fields₀ scratch₀ base fields′ scratch′ (c .place) (c .number + 1) (c .params)
+      pub choosing-more : length fields′ ≡ length fields → length scratch′ ≡ length scratch → x ≡ Fails
+          → Choosing t d key fields₀ scratch₀ base fields′ scratch′ (c .place) (c .number + 1) (c .params)
       choosing-more same-fields same-scratch q =
           let by = rw (q, same-base) at (tries .held-by) in
           let l : Every (λ (f : Frame). Leveled (f .params)) (frameOf t key c ∷ rest) = rw (is .first) at (w .leveled) in
@@ -234,4 +256,22 @@ module _ (t d : List ℕ) (key : ℕ) (fields₀ scratch₀ : List ℕ) (base : 
             left = rw (add-one (c .number)) (decides false by);
           }
 
-pub ruleset laws = (base-read, own-read, own-lines, own-rows, tries-holds, tries-fails, tries-ruled, choosing-starts, choosing-counted, chooses-none, candidate-readable, candidate-number, candidate-few, candidate-fits, candidate-on, chooses-one, choosing-more)
+pub ruleset laws = (
+  base-read,
+  own-read,
+  own-lines,
+  own-rows,
+  tries-holds,
+  tries-fails,
+  tries-ruled,
+  choosing-starts,
+  choosing-counted,
+  chooses-none,
+  candidate-readable,
+  candidate-number,
+  candidate-few,
+  candidate-fits,
+  candidate-on,
+  chooses-one,
+  choosing-more,
+)

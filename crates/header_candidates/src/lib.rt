@@ -48,7 +48,8 @@ pub fn read_base(
 ) -> Read
     requires { ⌜ (Readable rules (now text) start) × (n ≤ length (now text)) × (length (linesAt (now text) start n) ≤ 64) ⌝ }
     requires { ⌜ Roomy (now mpdu) (now fields) (now scratch) ⌝ }
-    ensures { λ r. ⌜ ReadsBase (now (text .entry)) (now (mpdu .entry)) (linesAt (now (text .entry)) start n) (now (fields .exit)) (now (scratch .exit)) r ⌝ }
+    ensures { λ r. ⌜ ReadsBase (now (text .entry)) (now (mpdu .entry)) (linesAt (now (text .entry)) start n) (now (fields .exit))
+        (now (scratch .exit)) r ⌝ }
 {
     let count = load_params(text, start, n, fields, 0);
     let walked = walk_from(mpdu, text, &fields[..], count, 0, BitOffset(0), scratch, 0);
@@ -73,7 +74,8 @@ fn read_own(
     requires { ⌜ (Readable rules (now text) start) × (n ≤ length (now text)) × (length (linesAt (now text) start n) ≤ 64) ⌝ }
     requires { ⌜ (Roomy (now mpdu) (now fields) (now scratch)) × (HoldsBase (now text) (now mpdu) (now fields) (now scratch) base) ⌝ }
     ensures { λ r.
-        ⌜ ReadsBehind (now (text .entry)) (now (mpdu .entry)) (linesAt (now (text .entry)) start n) (now (fields .entry)) base (now (fields .exit)) (now (scratch .exit)) r ⌝ }
+        ⌜ ReadsBehind (now (text .entry)) (now (mpdu .entry)) (linesAt (now (text .entry)) start n) (now (fields .entry)) base (now (fields .exit))
+        (now (scratch .exit)) r ⌝ }
 {
     let first = base.count;
     let from = base.bit;
@@ -163,7 +165,8 @@ pub fn choose(
     requires { ⌜ verdict (now text) ≡ Accepted ⌝ }
     requires { ⌜ (Roomy (now mpdu) (now fields) (now scratch)) × (HoldsBase (now text) (now mpdu) (now fields) (now scratch) base) ⌝ }
     ensures { λ r.
-        ⌜ Chooses (now (text .entry)) (now (mpdu .entry)) key (baseOf (now (text .entry)) (now (fields .entry)) base) (now (fields .exit)) (now (scratch .exit)) r ⌝ }
+        ⌜ Chooses (now (text .entry)) (now (mpdu .entry)) key (baseOf (now (text .entry)) (now (fields .entry)) base) (now (fields .exit))
+        (now (scratch .exit)) r ⌝ }
 {
     let mut place = Place::start();
     let mut h: usize = 0;

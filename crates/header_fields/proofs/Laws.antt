@@ -44,7 +44,8 @@ same-line text t u i h =
       h (i * 12 + 11) (omega arith),
     )
 
-same-lines : (text t u : List ℕ) (n i : ℕ) → ((k : ℕ) → k < (i + n) * 12 → getD t k 0 ≡ getD u k 0) → fieldsFrom text t i n ≡ fieldsFrom text u i n
+same-lines : (text t u : List ℕ) (n i : ℕ) → ((k : ℕ) → k < (i + n) * 12 → getD t k 0 ≡ getD u k 0)
+    → fieldsFrom text t i n ≡ fieldsFrom text u i n
 unfolding fieldsFrom
 same-lines text t u zero i h = refl
 same-lines text t u (suc n) i h =
@@ -107,14 +108,17 @@ pub record Loading (text : List ℕ) (p₀ : Place) (n₀ : ℕ) (t₀ : List �
   pub readable : Readable rules text p
   pub low : n + p₀ .at ≤ n₀ + p .at
   pub left : at + length (params n (below (from text p))) ≡ at₀ + length (params n₀ (below (from text p₀)))
-  pub lines : fieldsIn text t at ++ map untyped (params n (below (from text p))) ≡ fieldsIn text t₀ at₀ ++ map untyped (params n₀ (below (from text p₀)))
+  pub lines : fieldsIn text t at ++ map untyped (params n (below (from text p))) ≡ fieldsIn text t₀ at₀
+      ++ map untyped (params n₀ (below (from text p₀)))
   pub kept : fieldsIn text t at₀ ≡ fieldsIn text t₀ at₀
   pub behind : at₀ ≤ at
   pub room : (at + length (params n (below (from text p)))) * 12 ≤ length t
   pub same : length t ≡ length t₀
 
-pub loading-starts : (text : List ℕ) (p : Place) (n : ℕ) (t : List ℕ) (at : ℕ) → Readable rules text p → (at + length (params n (below (from text p)))) * 12 ≤ length t → Loading text p n t at t p n at
-loading-starts text p n t at readable room = record { readable = readable; low = omega arith; left = refl; lines = refl; kept = refl; behind = omega arith; room = room; same = refl }
+pub loading-starts : (text : List ℕ) (p : Place) (n : ℕ) (t : List ℕ) (at : ℕ) → Readable rules text p
+    → (at + length (params n (below (from text p)))) * 12 ≤ length t → Loading text p n t at t p n at
+loading-starts text p n t at readable room =
+    record { readable = readable; low = omega arith; left = refl; lines = refl; kept = refl; behind = omega arith; room = room; same = refl }
 
 module _ (text : List ℕ) (p₀ : Place) (n₀ : ℕ) (t₀ : List ℕ) (at₀ : ℕ) (t : List ℕ) (p : Place) (n at : ℕ) (r : NextParam)
     (w : Loading text p₀ n₀ t₀ at₀ t p n at) (found : FindsParam text p n r) where
@@ -157,7 +161,8 @@ module _ (text : List ℕ) (p₀ : Place) (n₀ : ℕ) (t₀ : List ℕ) (at₀ 
       pub loading-more : Loading text p₀ n₀ t₀ at₀ t′ q (n + 1) (at + 1)
       loading-more =
           let size : length t′ ≡ length t = ap length the-table ∙ length-sets t (at * 12) (lineOf f n) in
-          let left : at + suc (length (params (suc n) (below (from text q)))) ≡ at₀ + length (params n₀ (below (from text p₀))) = rw (is .first) at (w .left) in
+          let left : at + suc (length (params (suc n) (below (from text q)))) ≡ at₀ + length (params n₀ (below (from text p₀))) =
+          rw (is .first) at (w .left) in
           let room : (at + suc (length (params (suc n) (below (from text q))))) * 12 ≤ length t = rw (is .first) at (w .room) in
           let lines : fieldsIn text t at ++ (untyped (record { number = n; says = meant text f }) ∷ map untyped (params (suc n) (below (from text q))))
           ≡ fieldsIn text t₀ at₀ ++ map untyped (params n₀ (below (from text p₀))) = rw (is .first) at (w .lines) in

@@ -124,12 +124,14 @@ module _ (ps : List Numbered) where
   every-sort Q [] a = tt
   every-sort Q (j ∷ js) a = every-insert Q j (sort js) (a .0) (every-sort Q js (a .1))
 
-  rises-insert : (j : ℕ) (xs : List ℕ) → Every (λ (y : ℕ). y < 128) xs → Every (λ (y : ℕ). j < y) xs → Rises (keyOf ps) xs → Rises (keyOf ps) (insert j xs)
+  rises-insert : (j : ℕ) (xs : List ℕ) → Every (λ (y : ℕ). y < 128) xs → Every (λ (y : ℕ). j < y) xs → Rises (keyOf ps) xs
+      → Rises (keyOf ps) (insert j xs)
   unfolding insertAt
   rises-insert j [] l a r = (tt, tt)
   rises-insert j (x ∷ xs) l a r = go (leb (saidAt ps j .order) (saidAt ps x .order)) refl (rises-insert j xs (l .1) (a .1) (r .1))
     where
-      go : (t : Bool) → leb (saidAt ps j .order) (saidAt ps x .order) ≡ t → Rises (keyOf ps) (insert j xs) → Rises (keyOf ps) (cond t (j ∷ x ∷ xs) (x ∷ insert j xs))
+      go : (t : Bool) → leb (saidAt ps j .order) (saidAt ps x .order) ≡ t → Rises (keyOf ps) (insert j xs)
+          → Rises (keyOf ps) (cond t (j ∷ x ∷ xs) (x ∷ insert j xs))
       go true h ih =
           let o : saidAt ps j .order ≤ saidAt ps x .order = leb-true (saidAt ps j .order) (saidAt ps x .order) h in
           let jx = a .0 in
@@ -183,12 +185,14 @@ places-are x t n level (suc m) k h =
     go (ltb (getD t (k * 12) 0) level) (eqb (getD t (k * 12) 0) level) refl (places-are x t n level m (k + 1) (omega arith))
   where
     go : (a b : Bool) → eqb (getD t (k * 12) 0) level ≡ b → Every (IsAt t n level) (placesOf level (k + 1) (fieldsFrom x t (k + 1) m))
-        → Every (IsAt t n level) (cond a [] (cond b (k ∷ placesOf level (k + 1) (fieldsFrom x t (k + 1) m)) (placesOf level (k + 1) (fieldsFrom x t (k + 1) m))))
+        → Every (IsAt t n level) (cond a [] (cond b (k ∷ placesOf level (k + 1) (fieldsFrom x t (k + 1) m))
+        (placesOf level (k + 1) (fieldsFrom x t (k + 1) m))))
     go true b e ih = tt
     go false true e ih = (record { within = omega arith; level-is = eqb-true (getD t (k * 12) 0) level e }, ih)
     go false false e ih = ih
 
-first-place : (x t : List ℕ) (n level f : ℕ) (js : List ℕ) → n ≤ 128 → Every (IsAt t n level) js → placed t (first (fieldsIn x t n) f js) ≡ firstOf (fieldsIn x t n) (fromKey (fieldsIn x t n) f js)
+first-place : (x t : List ℕ) (n level f : ℕ) (js : List ℕ) → n ≤ 128 → Every (IsAt t n level) js
+    → placed t (first (fieldsIn x t n) f js) ≡ firstOf (fieldsIn x t n) (fromKey (fieldsIn x t n) f js)
 unfolding first fromKey paramAt
 first-place x t n level f [] few l = refl
 first-place x t n level f (y ∷ ys) few l = go (leb f (keyOf (fieldsIn x t n) y)) (first-place x t n level f ys few (l .1))
@@ -206,7 +210,8 @@ first-place x t n level f (y ∷ ys) few l = go (leb f (keyOf (fieldsIn x t n) y
     over = let q = inside in omega arith
 
     go : (b : Bool) → placed t (first (fieldsIn x t n) f ys) ≡ firstOf (fieldsIn x t n) (fromKey (fieldsIn x t n) f ys)
-        → placed t (cond b (some (keyOf (fieldsIn x t n) y)) (first (fieldsIn x t n) f ys)) ≡ firstOf (fieldsIn x t n) (cond b (y ∷ ys) (fromKey (fieldsIn x t n) f ys))
+        → placed t (cond b (some (keyOf (fieldsIn x t n) y)) (first (fieldsIn x t n) f ys))
+        ≡ firstOf (fieldsIn x t n) (cond b (y ∷ ys) (fromKey (fieldsIn x t n) f ys))
     go true ih = rw (back, over, bits-is) refl
     go false ih = ih
 
@@ -229,10 +234,12 @@ module _ (x t : List ℕ) (n level i : ℕ) (i≤n : i ≤ n) where
     list-rises = rises-sort (fieldsIn x t n) (placesOf level i (since (fieldsIn x t n) i)) small (places-rise level (since (fieldsIn x t n) i) i)
 
     -- the least key is the next in order
-    least-next : (f : ℕ) → placed t (pick (fieldsIn x t n) f none (placesOf level i (since (fieldsIn x t n) i))) ≡ firstOf (fieldsIn x t n) (fromKey (fieldsIn x t n) f (listFrom (fieldsIn x t n) level i))
+    least-next : (f : ℕ) → placed t (pick (fieldsIn x t n) f none (placesOf level i (since (fieldsIn x t n) i)))
+        ≡ firstOf (fieldsIn x t n) (fromKey (fieldsIn x t n) f (listFrom (fieldsIn x t n) level i))
     unfolding listFrom
     least-next f =
-        ap (placed t) (sym (pick-sort (fieldsIn x t n) f none (placesOf level i (since (fieldsIn x t n) i))) ∙ pick-first (fieldsIn x t n) f (listFrom (fieldsIn x t n) level i) list-rises)
+        ap (placed t) (sym (pick-sort (fieldsIn x t n) f none (placesOf level i (since (fieldsIn x t n) i)))
+        ∙ pick-first (fieldsIn x t n) f (listFrom (fieldsIn x t n) level i) list-rises)
         ∙ first-place x t n level f (listFrom (fieldsIn x t n) level i) few list-is
 
 -- ---- tests
@@ -299,9 +306,13 @@ module _ (t : List ℕ) (n level i order place : ℕ) where
   choosing-starts = record { left = λ x. rw (eq-eqb n n refl) refl; few = omega arith; seen = λ e. absurd (e refl) }
 
   module _ (best least j : ℕ) (g : Choosing t n level i order place best least j) where
-    ended : n ≤ 128 → i ≤ n → ((x : List ℕ) → placesOf level j (since (fieldsIn x t n) j) ≡ []) → (r : Next) → r ≡ foundOf t n best least → IsNext t n level i order place r
+    ended : n ≤ 128 → i ≤ n → ((x : List ℕ) → placesOf level j (since (fieldsIn x t n) j) ≡ []) → (r : Next) → r ≡ foundOf t n best least
+        → IsNext t n level i order place r
     unfolding pick foundOf
-    ended few i≤n e r er = record { says = λ x. er ∙ go (eqb best n) refl ∙ ap (placed t) (rw (e x) at (g .left x)) ∙ least-next x t n level i i≤n few (order * 128 + place) }
+    ended few i≤n e r er = record {
+      says = λ x. er ∙ go (eqb best n) refl ∙ ap (placed t) (rw (e x) at (g .left x))
+          ∙ least-next x t n level i i≤n few (order * 128 + place);
+    }
       where
         go : (b : Bool) → eqb best n ≡ b → cond b Done (At best least (getD t (best * 12 + 2) 0)) ≡ placed t (cond b none (some (least * 128 + best)))
         go true q = refl
@@ -317,16 +328,19 @@ module _ (t : List ℕ) (n level i order place : ℕ) where
     choosing-ends few i≤n h = ended few i≤n (λ x. rw (since-done x t n j h) refl)
 
     module _ (l : j < n) where
-      pub choosing-stops : n ≤ 128 → i ≤ n → getD t (j * 12) 0 < level → (r : Next) → r ≡ foundOf t n best least → IsNext t n level i order place r
+      pub choosing-stops : n ≤ 128 → i ≤ n → getD t (j * 12) 0 < level → (r : Next) → r ≡ foundOf t n best least
+          → IsNext t n level i order place r
       unfolding placesOf paramAt
       choosing-stops few i≤n h = ended few i≤n (λ x. rw (since-next x t n j l, lt-ltb (getD t (j * 12) 0) level h) refl)
 
-      deeper : (x : List ℕ) → level < getD t (j * 12) 0 → placesOf level j (since (fieldsIn x t n) j) ≡ placesOf level (j + 1) (since (fieldsIn x t n) (j + 1))
+      deeper : (x : List ℕ) → level < getD t (j * 12) 0
+          → placesOf level j (since (fieldsIn x t n) j) ≡ placesOf level (j + 1) (since (fieldsIn x t n) (j + 1))
       unfolding placesOf paramAt
       deeper x h =
           rw (since-next x t n j l, le-ltb (getD t (j * 12) 0) level (omega arith), ne-eqb (getD t (j * 12) 0) level (λ e. absurd (omega arith))) refl
 
-      same-level : (x : List ℕ) → getD t (j * 12) 0 ≡ level → placesOf level j (since (fieldsIn x t n) j) ≡ j ∷ placesOf level (j + 1) (since (fieldsIn x t n) (j + 1))
+      same-level : (x : List ℕ) → getD t (j * 12) 0 ≡ level
+          → placesOf level j (since (fieldsIn x t n) j) ≡ j ∷ placesOf level (j + 1) (since (fieldsIn x t n) (j + 1))
       unfolding placesOf paramAt
       same-level x h =
           rw (since-next x t n j l, le-ltb (getD t (j * 12) 0) level (omega arith), eq-eqb (getD t (j * 12) 0) level h) refl
@@ -346,7 +360,8 @@ module _ (t : List ℕ) (n level i order place : ℕ) where
 -- a line of the level, with what the tests say of it
 module _ (t : List ℕ) (n level i order place best least j : ℕ) (g : Choosing t n level i order place best least j) where
   taken : (x : List ℕ) → j < n → level ≤ getD t (j * 12) 0 → getD t (j * 12) 0 ≤ level
-      → pick (fieldsIn x t n) (order * 128 + place) (step (leb (order * 128 + place) (getD t (j * 12 + 1) 0 * 128 + j)) (getD t (j * 12 + 1) 0 * 128 + j) (bestKey best least n)) (placesOf level (j + 1) (since (fieldsIn x t n) (j + 1)))
+      → pick (fieldsIn x t n) (order * 128 + place) (step (leb (order * 128 + place) (getD t (j * 12 + 1) 0 * 128 + j)) (getD t (j * 12 + 1) 0 * 128 + j)
+      (bestKey best least n)) (placesOf level (j + 1) (since (fieldsIn x t n) (j + 1)))
       ≡ pick (fieldsIn x t n) (order * 128 + place) none (placesOf level i (since (fieldsIn x t n) i))
   unfolding pick
   taken x l a b =
@@ -359,7 +374,8 @@ module _ (t : List ℕ) (n level i order place best least j : ℕ) (g : Choosing
       ∙ rw (same-level t n level i order place best least j g l x h) at (g .left x)
 
   module _ (c : Bool) (ec : c ≡ isBefore (getD t (j * 12 + 1) 0) j order place) where
-    pub choosing-early : c ≡ true → j < n → level ≤ getD t (j * 12) 0 → getD t (j * 12) 0 ≤ level → n ≤ 128 → Choosing t n level i order place best least (j + 1)
+    pub choosing-early : c ≡ true → j < n → level ≤ getD t (j * 12) 0 → getD t (j * 12) 0 ≤ level → n ≤ 128
+        → Choosing t n level i order place best least (j + 1)
     choosing-early q l a b few =
         let k = before-less (getD t (j * 12 + 1) 0) j order place (omega arith) (sym ec ∙ q) in
         record {
@@ -443,7 +459,8 @@ next-some ps f j o w [] r e = let z : _≡_ {A = ℕ} 0 1 = cc in absurd (omega 
 next-some ps f j o w (y ∷ ys) r e = go (leb f (keyOf ps y)) refl (next-some ps f j o w ys (r .1)) e
   where
     all : fromKey ps (keyOf ps y + 1) ys ≡ ys
-    all = from-all ps (keyOf ps y + 1) ys (every-map (λ (z : ℕ). keyOf ps y < keyOf ps z) (λ (z : ℕ). keyOf ps y + 1 ≤ keyOf ps z) (λ z q. omega arith) ys (r .0))
+    all = from-all ps (keyOf ps y + 1) ys (every-map (λ (z : ℕ). keyOf ps y < keyOf ps z) (λ (z : ℕ). keyOf ps y + 1 ≤ keyOf ps z)
+        (λ z q. omega arith) ys (r .0))
 
     go : (b : Bool) → leb f (keyOf ps y) ≡ b → (firstOf ps (fromKey ps f ys) ≡ At j o w → First ps f ys j o w)
         → firstOf ps (cond b (y ∷ ys) (fromKey ps f ys)) ≡ At j o w → First ps f (y ∷ ys) j o w
@@ -490,7 +507,8 @@ module _ (x t : List ℕ) (n level i order place : ℕ) (r : Next) (s : IsNext t
   chosen j o w e few i≤n =
       let js = listFrom (fieldsIn x t n) level i in
       let f = next-some (fieldsIn x t n) (order * 128 + place) j o w js (list-rises x t n level i i≤n few) (sym (s .says x) ∙ e) in
-      let a : Every (IsAt t n level) (j ∷ fromKey (fieldsIn x t n) (keyOf (fieldsIn x t n) j + 1) js) = rw (f .then) at (every-from (fieldsIn x t n) (IsAt t n level) (order * 128 + place) js (list-is x t n level i i≤n)) in
+      let a : Every (IsAt t n level) (j ∷ fromKey (fieldsIn x t n) (keyOf (fieldsIn x t n) j + 1) js) =
+      rw (f .then) at (every-from (fieldsIn x t n) (IsAt t n level) (order * 128 + place) js (list-is x t n level i i≤n)) in
       let q = f .order-is in
       let k : keyOf (fieldsIn x t n) j + 1 ≡ o * 128 + (j + 1) = omega arith in
       record { within = a .0 .within; level-is = a .0 .level-is; bits-is = f .bits-is; then = rw (← k) (f .then) }

@@ -52,7 +52,8 @@ module _ (x t : List ℕ) (n place : ℕ) (name : List ℕ) where
   pub named-past : n ≤ place → eqb (length name) 0 ≡ same (nameOf (fieldsIn x t n) place) name
   named-past h = same-none name ∙ sym (ap (λ (q : Param). same (q .name) name) (said-out x t n place h))
 
-  pub named-at : (part : List ℕ) (r : Bool) → part ≡ take (getD t (place * 12 + 3 + 1) 0) (drop (getD t (place * 12 + 3) 0) x) → r ≡ same part name → place < n
+  pub named-at : (part : List ℕ) (r : Bool) → part ≡ take (getD t (place * 12 + 3 + 1) 0) (drop (getD t (place * 12 + 3) 0) x) → r ≡ same part name
+      → place < n
       → r ≡ same (nameOf (fieldsIn x t n) place) name
   unfolding paramAt
   named-at part r e s h = rw e at s ∙ sym (ap (λ (q : Param). same (q .name) name) (said-in x t n place h))
@@ -105,7 +106,8 @@ module _ (ns : ℕ → Name) (t : List ℕ) (n : ℕ) (path : List ℕ) (parent 
   pub following-starts : Following ns t n path parent parent 0
   following-starts = record { left = refl; within = omega arith }
 
-  module _ (above at e : ℕ) (f : Following ns t n path parent above at) (ee : e ≡ cut 46 (take (length path - at) (drop at path))) (r : Found) (er : Finds ns t n above (take e (take (length path - at) (drop at path))) r) where
+  module _ (above at e : ℕ) (f : Following ns t n path parent above at) (ee : e ≡ cut 46 (take (length path - at) (drop at path))) (r : Found)
+      (er : Finds ns t n above (take e (take (length path - at) (drop at path))) r) where
     rest-cut : e ≡ cut 46 (drop at path)
     rest-cut = rw tail at ee
 
@@ -124,7 +126,8 @@ module _ (ns : ℕ → Name) (t : List ℕ) (n : ℕ) (path : List ℕ) (parent 
         let h : e < length (drop at path) = rw tail at l in
         rw rest-cut (split-more 46 (drop at path) (rw (← rest-cut) h))
 
-    pub path-none : r ≡ found.Nothing → e ≤ length (take (length path - at) (drop at path)) → Nothing ≡ valued (flatValue ns (rowsIn t n) (names path) parent)
+    pub path-none : r ≡ found.Nothing → e ≤ length (take (length path - at) (drop at path))
+        → Nothing ≡ valued (flatValue ns (rowsIn t n) (names path) parent)
     unfolding flatValue
     path-none q l = rw (f .left, go (decLt e (length (take (length path - at) (drop at path))))) refl
       where
@@ -170,4 +173,24 @@ module _ (ns : ℕ → Name) (t : List ℕ) (n : ℕ) (path : List ℕ) (parent 
           go [] h z = absurd (split-some 46 (drop (e + 1) (drop at path)) z)
           go (m ∷ ms) h z = rw (parted h, z, is-found .first) refl
 
-pub ruleset laws = (part-none, part-rest, part-whole, named-past, named-at, seeking-starts, seeking-ends, other-parent, other-name, row-found, value-is, value-not, following-starts, path-none, found-room, found-fits, path-last, path-more, front-count)
+pub ruleset laws = (
+  part-none,
+  part-rest,
+  part-whole,
+  named-past,
+  named-at,
+  seeking-starts,
+  seeking-ends,
+  other-parent,
+  other-name,
+  row-found,
+  value-is,
+  value-not,
+  following-starts,
+  path-none,
+  found-room,
+  found-fits,
+  path-last,
+  path-more,
+  front-count,
+)

@@ -33,7 +33,8 @@ firstOf ps (j ∷ js) = At j (saidAt ps j .order) (saidAt ps j .bits)
 
 -- the next field of the list, from an order and a place on; names are no part of it, so it is the same for every text
 pub record IsNext (t : List ℕ) (n level first order place : ℕ) (r : Next) : Type 0 where
-  pub says : (text : List ℕ) → r ≡ firstOf (fieldsIn text t n) (fromKey (fieldsIn text t n) (order * 128 + place) (listFrom (fieldsIn text t n) level first))
+  pub says : (text : List ℕ) → r ≡ firstOf (fieldsIn text t n)
+      (fromKey (fieldsIn text t n) (order * 128 + place) (listFrom (fieldsIn text t n) level first))
 
 -- an order and a place before another
 unfoldable pub isBefore : ℕ → ℕ → ℕ → ℕ → Bool

@@ -63,7 +63,8 @@ module _ (x t : List ℕ) (n : ℕ) (row : told.Row) where
   symbol-past h = let e : set-of ≡ none = ap (λ (p : Param). p .set) (said-out x t n (row .place) h) in rw e refl
 
   module _ (inside : row .place < n) where
-    the-set : set-of ≡ cond (eqb (getD t (row .place * 12 + 5 + 1) 0) 0) none (some (take (getD t (row .place * 12 + 5 + 1) 0) (drop (getD t (row .place * 12 + 5) 0) x)))
+    the-set : set-of ≡ cond (eqb (getD t (row .place * 12 + 5 + 1) 0) 0) none
+        (some (take (getD t (row .place * 12 + 5 + 1) 0) (drop (getD t (row .place * 12 + 5) 0) x)))
     unfolding paramAt
     the-set = ap (λ (p : Param). p .set) (said-in x t n (row .place) inside)
 
@@ -71,7 +72,8 @@ module _ (x t : List ℕ) (n : ℕ) (row : told.Row) where
     symbol-unset h = let e : set-of ≡ none = the-set ∙ rw (eq-eqb (getD t (row .place * 12 + 5 + 1) 0) 0 h) refl in rw e refl
 
     pub symbol-is : (name : List ℕ) (r : ℕ) → (getD t (row .place * 12 + 5 + 1) 0 ≡ 0 → ⊥) → row .valued ≡ 1
-        → name ≡ take (getD t (row .place * 12 + 5 + 1) 0) (drop (getD t (row .place * 12 + 5) 0) x) → r ≡ entryOf (firstSet name (definition x .sets)) (row .value)
+        → name ≡ take (getD t (row .place * 12 + 5 + 1) 0) (drop (getD t (row .place * 12 + 5) 0) x)
+        → r ≡ entryOf (firstSet name (definition x .sets)) (row .value)
         → r ≡ symbolOf (definition x .sets) set-of (rowValue (tells row))
     symbol-is name r h v part is =
         let e : set-of ≡ some name = the-set ∙ rw (ne-eqb (getD t (row .place * 12 + 5 + 1) 0) 0 h, part) refl in
@@ -101,13 +103,16 @@ number-is t n place h x = sym (rw zero-add at (number-from x t n 0 place h))
 -- ---- a row
 pub row-is : (x t : List ℕ) (n : ℕ) (row : told.Row) (k s : ℕ) → ((y : List ℕ) → k ≡ numberAt (fieldsIn y t n) (row .place))
     → s ≡ symbolOf (definition x .sets) (saidAt (fieldsIn x t n) (row .place) .set) (rowValue (tells row))
-    → (k ∷ row .parent ∷ row .start .0 ∷ row .bits ∷ row .valued ∷ row .value ∷ s ∷ []) ≡ shown (fieldsIn x t n) (definition x .sets) (tells row)
+    → (k ∷ row .parent ∷ row .start .0 ∷ row .bits ∷ row .valued ∷ row .value ∷ s ∷ [])
+    ≡ shown (fieldsIn x t n) (definition x .sets) (tells row)
 unfolding shown
 row-is x t n row k s is-k is-s = rw (is-k x, is-s) refl
 
-pub row-put : (x t : List ℕ) (n : ℕ) (s : List ℕ) (k : ℕ) (row : told.Row) (numbers rows : List ℕ) (at : ℕ) (rows′ : List ℕ) → tells row ≡ rowIn s k → numbers ≡ shown (fieldsIn x t n) (definition x .sets) (tells row)
+pub row-put : (x t : List ℕ) (n : ℕ) (s : List ℕ) (k : ℕ) (row : told.Row) (numbers rows : List ℕ) (at : ℕ) (rows′ : List ℕ)
+    → tells row ≡ rowIn s k → numbers ≡ shown (fieldsIn x t n) (definition x .sets) (tells row)
     → rows′ ≡ put rows at numbers → rows′ ≡ put rows at (shown (fieldsIn x t n) (definition x .sets) (rowIn s k))
-row-put x t n s k row numbers rows at rows′ is-row is-numbers is = is ∙ ap (put rows at) (is-numbers ∙ ap (shown (fieldsIn x t n) (definition x .sets)) is-row)
+row-put x t n s k row numbers rows at rows′ is-row is-numbers is =
+    is ∙ ap (put rows at) (is-numbers ∙ ap (shown (fieldsIn x t n) (definition x .sets)) is-row)
 
 -- ---- row by row: the table so far
 module _ (ps : List Numbered) (ss : List Set) where
@@ -118,7 +123,8 @@ module _ (ps : List Numbered) (ss : List Set) where
 
   flat-snoc : (rs : List Row) (r : Row) → flat (map (shown ps ss) (rs ++ (r ∷ []))) ≡ flat (map (shown ps ss) rs) ++ shown ps ss r
   flat-snoc [] r = append-nil (shown ps ss r)
-  flat-snoc (q ∷ rs) r = ap (λ (l : List ℕ). shown ps ss q ++ l) (flat-snoc rs r) ∙ sym (append-assoc (shown ps ss q) (flat (map (shown ps ss) rs)) (shown ps ss r))
+  flat-snoc (q ∷ rs) r =
+      ap (λ (l : List ℕ). shown ps ss q ++ l) (flat-snoc rs r) ∙ sym (append-assoc (shown ps ss q) (flat (map (shown ps ss) rs)) (shown ps ss r))
 
   pub record Writing (t₀ t s : List ℕ) (n k : ℕ) : Type 0 where
     pub so-far : t ≡ sets t₀ 0 (flat (map (shown ps ss) (rowsIn s k)))
@@ -151,4 +157,19 @@ module _ (ps : List Numbered) (ss : List Set) where
           same = ap length put-t ∙ length-sets t (k * 7) (shown ps ss (rowIn s k)) ∙ w .same;
         }
 
-pub ruleset laws = (symbol-none, set-readable, symbol-entry, symbol-unvalued, symbol-past, symbol-unset, symbol-is, number-past, number-is, row-is, row-put, writing-starts, written, writing-more)
+pub ruleset laws = (
+  symbol-none,
+  set-readable,
+  symbol-entry,
+  symbol-unvalued,
+  symbol-past,
+  symbol-unset,
+  symbol-is,
+  number-past,
+  number-is,
+  row-is,
+  row-put,
+  writing-starts,
+  written,
+  writing-more,
+)

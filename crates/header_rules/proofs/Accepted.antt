@@ -26,12 +26,15 @@ module _ (t : List ℕ) (key : ℕ) (v : verdict t ≡ Accepted) where
   pub base-all : (b : Base) → firstBase key (definition t .bases) ≡ some b → numbersIn 8 (trees (b .params)) ≡ map (λ p. p .number) (b .params)
   base-all b e = trees-all (b .params) (base-leveled t key b v e)
 
-  pub candidate-all : (f : Frame) (xs ys : List Frame) → candidates key (definition t .frames) ≡ xs ++ f ∷ ys → numbersIn 8 (trees (f .params)) ≡ map (λ p. p .number) (f .params)
+  pub candidate-all : (f : Frame) (xs ys : List Frame) → candidates key (definition t .frames) ≡ xs ++ f ∷ ys
+      → numbersIn 8 (trees (f .params)) ≡ map (λ p. p .number) (f .params)
   candidate-all f xs ys e = trees-all (f .params) (candidate-leveled f xs ys e)
 
   -- Each candidate has one lawful reading. Its outer fields make one unbroken run of bits from bit 0, none overlapping; inner fields stay inside their
   -- parent and apart from each other
-  pub accepted-one : (d : List ℕ) (b : Base) (f : Frame) (xs ys : List Frame) → firstBase key (definition t .bases) ≡ some b → candidates key (definition t .frames) ≡ xs ++ f ∷ ys
+  pub accepted-one : (d : List ℕ) (b : Base) (f : Frame) (xs ys : List Frame) → firstBase key (definition t .bases) ≡ some b
+      → candidates key (definition t .frames) ≡ xs ++ f ∷ ys
       → OneReading 7 d (trees (b .params)) (trees (f .params))
   accepted-one d b f xs ys e q =
-      one-reading 7 d (trees (b .params)) (trees (f .params)) (leveled-plain (b .params) (base-leveled t key b v e)) (leveled-plain (f .params) (candidate-leveled f xs ys q))
+      one-reading 7 d (trees (b .params)) (trees (f .params)) (leveled-plain (b .params) (base-leveled t key b v e))
+      (leveled-plain (f .params) (candidate-leveled f xs ys q))

@@ -28,7 +28,8 @@ module _ (n : ℕ) (d : List ℕ) (fs : List (Field n)) where
   meets-true [] e = λ xs v ys q. absurd (none-split xs v ys q)
   meets-true (w ∷ ws) e = at (meets-true ws (and-right (isValue (valueAt n d (w .path) fs) (w .value)) (meetsAll n d fs ws) e))
     where
-      at : Meets n d fs ws → (xs : List Validation) (v : Validation) (ys : List Validation) → w ∷ ws ≡ xs ++ v ∷ ys → valueAt n d (v .path) fs ≡ some (v .value)
+      at : Meets n d fs ws → (xs : List Validation) (v : Validation) (ys : List Validation) → w ∷ ws ≡ xs ++ v ∷ ys
+          → valueAt n d (v .path) fs ≡ some (v .value)
       at ih [] v ys q =
           let z : w ≡ v = head-eq-of-cons-eq q in
           rw (← z) (is-true (valueAt n d (w .path) fs) (w .value) (and-left (isValue (valueAt n d (w .path) fs) (w .value)) (meetsAll n d fs ws) e))
@@ -58,7 +59,8 @@ module _ (n : ℕ) (d : List ℕ) (base : List (P n)) where
       record {
         has = has-true (c .valid) (and-left (some? (c .valid)) (meetsAll n d (reading n d base (c .params)) (c .valid)) e);
         lawful = reading-lawful n d base (c .params);
-        meets = meets-true n d (reading n d base (c .params)) (c .valid) (and-right (some? (c .valid)) (meetsAll n d (reading n d base (c .params)) (c .valid)) e);
+        meets = meets-true n d (reading n d base (c .params)) (c .valid)
+            (and-right (some? (c .valid)) (meetsAll n d (reading n d base (c .params)) (c .valid)) e);
       }
 
   test-from : (c : Candidate n) (fs : List (Field n)) → Holds n d base c fs → test c ≡ true
@@ -78,14 +80,16 @@ module _ (n : ℕ) (d : List ℕ) (base : List (P n)) where
       go true e = absurd (h (reading n d base (c .params)) (test-true c e))
       go false e = refl
 
-  none-more : (c : Candidate n) (cs : List (Candidate n)) → ((fs : List (Field n)) → Holds n d base c fs → ⊥) → None n d base cs → None n d base (c ∷ cs)
+  none-more : (c : Candidate n) (cs : List (Candidate n)) → ((fs : List (Field n)) → Holds n d base c fs → ⊥) → None n d base cs
+      → None n d base (c ∷ cs)
   none-more c cs h m [] b ys e = λ fs x. h fs (subst (λ (z : Candidate n). Holds n d base z fs) (sym (head-eq-of-cons-eq e)) x)
   none-more c cs h m (x ∷ xs) b ys e = m xs b ys (tail-eq-of-cons-eq e)
 
   none-less : (c : Candidate n) (cs : List (Candidate n)) → None n d base (c ∷ cs) → None n d base cs
   none-less c cs m xs b ys e = m (c ∷ xs) b ys (ap (λ (z : List (Candidate n)). c ∷ z) e)
 
-  more : (c : Candidate n) (cs : List (Candidate n)) → ((fs : List (Field n)) → Holds n d base c fs → ⊥) → (a : Answer n) → Answers n d base cs a → Answers n d base (c ∷ cs) a
+  more : (c : Candidate n) (cs : List (Candidate n)) → ((fs : List (Field n)) → Holds n d base c fs → ⊥) → (a : Answer n) → Answers n d base cs a
+      → Answers n d base (c ∷ cs) a
   more c cs h (answered b fs) f =
       record {
         front = c ∷ f .front;
@@ -102,7 +106,8 @@ module _ (n : ℕ) (d : List ℕ) (base : List (P n)) where
   answer-says [] = (refl, λ xs c ys e fs h. none-split xs c ys e)
   answer-says (c ∷ cs) = go (test c) refl (answer-says cs)
     where
-      go : (t : Bool) → test c ≡ t → Answers n d base cs (answer n d base cs) → Answers n d base (c ∷ cs) (cond t (answered c (reading n d base (c .params))) (answer n d base cs))
+      go : (t : Bool) → test c ≡ t → Answers n d base cs (answer n d base cs)
+          → Answers n d base (c ∷ cs) (cond t (answered c (reading n d base (c .params))) (answer n d base cs))
       go true e ih =
           record {
             front = [];
@@ -118,7 +123,8 @@ module _ (n : ℕ) (d : List ℕ) (base : List (P n)) where
   refused-only [] m = refl
   refused-only (c ∷ cs) m = rw (test-not c (m [] c cs refl)) (refused-only cs (none-less c cs m))
 
-  first-only : (cs : List (Candidate n)) (c : Candidate n) (fs : List (Field n)) (front back : List (Candidate n)) → cs ≡ front ++ c ∷ back → Holds n d base c fs → None n d base front
+  first-only : (cs : List (Candidate n)) (c : Candidate n) (fs : List (Field n)) (front back : List (Candidate n)) → cs ≡ front ++ c ∷ back
+      → Holds n d base c fs → None n d base front
       → answered c fs ≡ answer n d base cs
   unfolding answer
   first-only [] c fs front back e h m = absurd (none-split front c back e)
@@ -139,7 +145,8 @@ module _ (n : ℕ) (d : List ℕ) (base : List (P n)) where
   pub demand3 : (cs : List (Candidate n)) → Demand3 n d base cs (answer n d base cs)
   demand3 cs =
       record {
-        exactly = (λ w. first-some (w .0) (w .1) (subst (Answers n d base cs) (w .2) (answer-says cs)), λ s. found (answer n d base cs) refl (answer-says cs) s);
+        exactly =
+            (λ w. first-some (w .0) (w .1) (subst (Answers n d base cs) (w .2) (answer-says cs)), λ s. found (answer n d base cs) refl (answer-says cs) s);
         the-first = λ c fs. (λ e. subst (Answers n d base cs) e (answer-says cs), λ f. sym (answer-only cs (answered c fs) f));
         only-seven = λ k. (λ e. subst (Answers n d base cs) e (answer-says cs), λ f. sym (answer-only cs (refused k) f));
       }
@@ -147,7 +154,8 @@ module _ (n : ℕ) (d : List ℕ) (base : List (P n)) where
       first-some : (c : Candidate n) (fs : List (Field n)) → First n d base cs c fs → Some n d base cs
       first-some c fs f = record { front = f .front; one = c; back = f .back; place = f .place; fields = fs; holds = f .holds }
 
-      found : (a : Answer n) → answer n d base cs ≡ a → Answers n d base cs a → Some n d base cs → (c : Candidate n) × (fs : List (Field n)) × (answer n d base cs ≡ answered c fs)
+      found : (a : Answer n) → answer n d base cs ≡ a → Answers n d base cs a → Some n d base cs → (c : Candidate n) × (fs : List (Field n))
+          × (answer n d base cs ≡ answered c fs)
       found (answered c fs) e f s = (c, fs, e)
       found (refused k) e f s = absurd (f .1 (s .front) (s .one) (s .back) (s .place) (s .fields) (s .holds))
 

@@ -45,7 +45,8 @@ places-in (q ∷ qs) b l j e = go (ltb (q .says .level) l) (eqb (q .says .level)
     step : l ≤ q .says .level → (m : ℕ) × (j ≡ b + 1 + m) × Reached qs l m → (m : ℕ) × (j ≡ b + m) × Reached (q ∷ qs) l m
     step h w = let z = w .1 in (suc (w .0), omega arith, one-on q qs l (w .0) h (w .2))
 
-    go : (t u : Bool) → ltb (q .says .level) l ≡ t → eqb (q .says .level) l ≡ u → (Member j (placesOf l (b + 1) qs) → (m : ℕ) × (j ≡ b + 1 + m) × Reached qs l m)
+    go : (t u : Bool) → ltb (q .says .level) l ≡ t → eqb (q .says .level) l ≡ u
+        → (Member j (placesOf l (b + 1) qs) → (m : ℕ) × (j ≡ b + 1 + m) × Reached qs l m)
         → Member j (cond t [] (cond u (b ∷ placesOf l (b + 1) qs) (placesOf l (b + 1) qs))) → (m : ℕ) × (j ≡ b + m) × Reached (q ∷ qs) l m
     go true u x y ih e = absurd e
     go false false x y ih e = step (ltb-false (q .says .level) l x) (ih e)
@@ -137,7 +138,8 @@ front-past l [] = refl
 front-past l (q ∷ qs) = go (ltb (q .says .level) (suc l)) refl (front-past l qs)
   where
     go : (t : Bool) → ltb (q .says .level) (suc l) ≡ t → front (suc l) qs ++ front l (past (suc l) qs) ≡ front l qs
-        → cond t [] (q .number ∷ front (suc l) qs) ++ front l (cond t (q ∷ qs) (past (suc l) qs)) ≡ cond (ltb (q .says .level) l) [] (q .number ∷ front l qs)
+        → cond t [] (q .number ∷ front (suc l) qs) ++ front l (cond t (q ∷ qs) (past (suc l) qs))
+        ≡ cond (ltb (q .says .level) l) [] (q .number ∷ front l qs)
     go true e ih = refl
     go false e ih =
         let h = ltb-false (q .says .level) (suc l) e in
@@ -159,13 +161,15 @@ front-all [] = refl
 front-all (q ∷ qs) = rw (le-ltb (q .says .level) 0 (omega arith)) (ap (λ (z : List ℕ). q .number ∷ z) (front-all qs))
 
 abbrev KidsAll : ℕ → Type 0
-KidsAll n = (l : ℕ) (qs : List Numbered) → Stepped (suc l) qs → Every (λ p. p .says .level ≤ l + n) qs → numbersIn n (kids n (suc l) qs) ≡ front (suc l) qs
+KidsAll n = (l : ℕ) (qs : List Numbered) → Stepped (suc l) qs → Every (λ p. p .says .level ≤ l + n) qs
+    → numbersIn n (kids n (suc l) qs) ≡ front (suc l) qs
 
 level-all : (n : ℕ) → KidsAll n → (l m : ℕ) (qs : List Numbered) → Stepped m qs → Every (λ p. p .says .level ≤ l + n) qs
     → numbersIn (suc n) (ofLevel (λ p rest. node p (kids n (suc l) rest)) l qs) ≡ front l (past (suc l) qs)
 unfolding numbersIn ofLevel front past
 level-all n h l m [] s a = refl
-level-all n h l m (q ∷ qs) s a = go (ltb (q .says .level) l) (eqb (q .says .level) l) (ltb (q .says .level) (suc l)) refl refl refl (level-all n h l (suc (q .says .level)) qs (s .1) (a .1))
+level-all n h l m (q ∷ qs) s a = go (ltb (q .says .level) l) (eqb (q .says .level) l) (ltb (q .says .level) (suc l)) refl refl refl
+    (level-all n h l (suc (q .says .level)) qs (s .1) (a .1))
   where
     make : Numbered → List Numbered → P n
     make p rest = node p (kids n (suc l) rest)

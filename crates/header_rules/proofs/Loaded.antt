@@ -73,7 +73,8 @@ module _ (ps : List Numbered) where
 
   -- the Ps inside the P at the place k
   abbrev KidsAt : ℕ → Type 0
-  KidsAt n = (k : ℕ) (q : Numbered) (qs : List Numbered) → since ps k ≡ q ∷ qs → kidsAt (lineOf ps) (insideOf ps) n k ≡ kids n (suc (q .says .level)) (placed (k + 1) qs)
+  KidsAt n = (k : ℕ) (q : Numbered) (qs : List Numbered) → since ps k ≡ q ∷ qs
+      → kidsAt (lineOf ps) (insideOf ps) n k ≡ kids n (suc (q .says .level)) (placed (k + 1) qs)
 
   -- the Ps of a level from the place k on
   level-trees : (n : ℕ) → KidsAt n → (l k : ℕ) (qs : List Numbered) → since ps k ≡ qs
@@ -103,7 +104,8 @@ module _ (ps : List Numbered) where
   kids-at zero k q qs e = refl
   kids-at (suc n) k q qs e =
       let l : saidAt ps k .level + 1 ≡ suc (q .says .level) = rw add-one (ap (λ (p : Param). suc (p .level)) (since-says ps k q qs e)) in
-      (λ i. map (tree n) (placesOf (l i) (k + 1) (since-next ps k q qs e i))) ∙ level-trees n (kids-at n) (suc (q .says .level)) (k + 1) qs (since-next ps k q qs e)
+      (λ i. map (tree n) (placesOf (l i) (k + 1) (since-next ps k q qs e i)))
+      ∙ level-trees n (kids-at n) (suc (q .says .level)) (k + 1) qs (since-next ps k q qs e)
 
   -- the outer Ps from a place on are the trees of the lines there, with their places for numbers
   pub outer-trees : (k : ℕ) (qs : List Numbered) → since ps k ≡ qs → map (tree 7) (placesOf 0 k qs) ≡ trees (placed k qs)

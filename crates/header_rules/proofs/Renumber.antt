@@ -53,7 +53,8 @@ module _ (g : ℕ → ℕ) where
   insert-renode n p (q ∷ qs) = go (leb (p .order) (q .order)) (insert-renode n p qs)
     where
       go : (t : Bool) → insert (renode n p) (map (renode n) qs) ≡ map (renode n) (insert p qs)
-          → cond t (renode n p ∷ renode n q ∷ map (renode n) qs) (renode n q ∷ insert (renode n p) (map (renode n) qs)) ≡ map (renode n) (cond t (p ∷ q ∷ qs) (q ∷ insert p qs))
+          → cond t (renode n p ∷ renode n q ∷ map (renode n) qs) (renode n q ∷ insert (renode n p) (map (renode n) qs))
+          ≡ map (renode n) (cond t (p ∷ q ∷ qs) (q ∷ insert p qs))
       go true ih = refl
       go false ih = ap (λ (z : List (P n)). renode n q ∷ z) ih
 
@@ -78,14 +79,16 @@ module _ (g : ℕ → ℕ) where
       go false ih = ih
 
   module _ (d : List ℕ) where
-    through-same : (n : ℕ) (deeper : Path → List (Inner n) → Option ℕ) → ((path : Path) (fs : List (Inner n)) → deeper path (reinner n fs) ≡ deeper path fs)
+    through-same : (n : ℕ) (deeper : Path → List (Inner n) → Option ℕ)
+        → ((path : Path) (fs : List (Inner n)) → deeper path (reinner n fs) ≡ deeper path fs)
         → (path : Path) (o : Option (Field n)) → through d deeper path (onSome (refield n) o) ≡ through d deeper path o
     unfolding through valueOf
     through-same n deeper h path none = refl
     through-same n deeper h [] (some f) = refl
     through-same n deeper h (y ∷ path) (some f) = h (y ∷ path) (f .inner)
 
-    in-first-same : (n : ℕ) (deeper : Path → List (Inner n) → Option ℕ) → ((path : Path) (fs : List (Inner n)) → deeper path (reinner n fs) ≡ deeper path fs)
+    in-first-same : (n : ℕ) (deeper : Path → List (Inner n) → Option ℕ)
+        → ((path : Path) (fs : List (Inner n)) → deeper path (reinner n fs) ≡ deeper path fs)
         → (path : Path) (fs : List (Field n)) → inFirst d deeper path (map (refield n) fs) ≡ inFirst d deeper path fs
     unfolding inFirst
     in-first-same n deeper h [] fs = refl
@@ -117,7 +120,8 @@ module _ (g : ℕ → ℕ) where
     Refields n = (p : P n) (s : ℕ) (before : List (Field n)) → fieldAt n d (renode n p) s (map (refield n) before) ≡ refield n (fieldAt n d p s before)
 
     one-more : (n : ℕ) → Refields n → (p : P n) (s : ℕ) (before : List (Field n))
-        → map (refield n) before ++ (fieldAt n d (renode n p) s (map (refield n) before) ∷ []) ≡ map (refield n) (before ++ (fieldAt n d p s before ∷ []))
+        → map (refield n) before ++ (fieldAt n d (renode n p) s (map (refield n) before) ∷ [])
+        ≡ map (refield n) (before ++ (fieldAt n d p s before ∷ []))
     one-more n h p s before =
         ap (λ (f : Field n). map (refield n) before ++ (f ∷ [])) (h p s before) ∙ sym (map-append (refield n) before (fieldAt n d p s before ∷ []))
 
@@ -126,8 +130,10 @@ module _ (g : ℕ → ℕ) where
     unfolding packed
     packed-same n h [] end room before = refl
     packed-same n h (k ∷ ks) end room before =
-        ap (λ (u : Bool). cond (leb (k .bits) room) (cond u (f′ ∷ rest′ (map (refield n) before ++ (f′ ∷ []))) (rest′ (map (refield n) before))) []) (exists-same n k before e)
-        ∙ go (leb (k .bits) room) (exists n d k e before) (packed-same n h ks e (room - k .bits) before) (packed-same n h ks e (room - k .bits) (before ++ (f ∷ [])))
+        ap (λ (u : Bool). cond (leb (k .bits) room) (cond u (f′ ∷ rest′ (map (refield n) before ++ (f′ ∷ []))) (rest′ (map (refield n) before)))
+        []) (exists-same n k before e)
+        ∙ go (leb (k .bits) room) (exists n d k e before) (packed-same n h ks e (room - k .bits) before)
+        (packed-same n h ks e (room - k .bits) (before ++ (f ∷ [])))
       where
         e : ℕ
         e = end - k .bits
@@ -144,13 +150,16 @@ module _ (g : ℕ → ℕ) where
         rest′ : List (Field n) → List (Field n)
         rest′ fs = packed n d (fieldAt n d) (map (renode n) ks) e (room - k .bits) fs
 
-        go : (t u : Bool) → rest′ (map (refield n) before) ≡ map (refield n) (rest before) → rest′ (map (refield n) (before ++ (f ∷ []))) ≡ map (refield n) (rest (before ++ (f ∷ [])))
-            → cond t (cond u (f′ ∷ rest′ (map (refield n) before ++ (f′ ∷ []))) (rest′ (map (refield n) before))) [] ≡ map (refield n) (cond t (cond u (f ∷ rest (before ++ (f ∷ []))) (rest before)) [])
+        go : (t u : Bool) → rest′ (map (refield n) before) ≡ map (refield n) (rest before)
+            → rest′ (map (refield n) (before ++ (f ∷ []))) ≡ map (refield n) (rest (before ++ (f ∷ [])))
+            → cond t (cond u (f′ ∷ rest′ (map (refield n) before ++ (f′ ∷ []))) (rest′ (map (refield n) before))) []
+            ≡ map (refield n) (cond t (cond u (f ∷ rest (before ++ (f ∷ []))) (rest before)) [])
         go false u a b = refl
         go true false a b = a
         go true true a b = λ i. h k e before i ∷ (ap rest′ (one-more n h k e before) ∙ b) i
 
-    made-same : (n : ℕ) (p : P n) (s : ℕ) (before : List (Field n)) → ((end wide : ℕ) → innerAt n d (renode n p) end wide ≡ reinner n (innerAt n d p end wide))
+    made-same : (n : ℕ) (p : P n) (s : ℕ) (before : List (Field n))
+        → ((end wide : ℕ) → innerAt n d (renode n p) end wide ≡ reinner n (innerAt n d p end wide))
         → fieldAt n d (renode n p) s (map (refield n) before) ≡ refield n (fieldAt n d p s before)
     made-same n p s before h =
         (λ i. made n (renode n p) s (width-same n p before i) (innerAt n d (renode n p) (s + width-same n p before i) (width-same n p before i)))
@@ -166,7 +175,8 @@ module _ (g : ℕ → ℕ) where
     field-same : (n : ℕ) → Refields n
     field-same n p s before = made-same n p s before (inner-same n p)
 
-    listed-same : (n : ℕ) (ps : List (P n)) (s : ℕ) (before : List (Field n)) → listed n d (map (renode n) ps) s (map (refield n) before) ≡ map (refield n) (listed n d ps s before)
+    listed-same : (n : ℕ) (ps : List (P n)) (s : ℕ) (before : List (Field n))
+        → listed n d (map (renode n) ps) s (map (refield n) before) ≡ map (refield n) (listed n d ps s before)
     unfolding listed
     listed-same n [] s before = refl
     listed-same n (p ∷ ps) s before =
@@ -186,7 +196,8 @@ module _ (g : ℕ → ℕ) where
         rest′ b fs = listed n d (map (renode n) ps) b fs
 
         go : (t : Bool) → rest′ w (map (refield n) (before ++ (f ∷ []))) ≡ map (refield n) (listed n d ps w (before ++ (f ∷ [])))
-            → cond t (f′ ∷ rest′ w (map (refield n) before ++ (f′ ∷ []))) [] ≡ map (refield n) (cond t (f ∷ listed n d ps w (before ++ (f ∷ []))) [])
+            → cond t (f′ ∷ rest′ w (map (refield n) before ++ (f′ ∷ []))) []
+            ≡ map (refield n) (cond t (f ∷ listed n d ps w (before ++ (f ∷ []))) [])
         go false a = refl
         go true a = λ i. field-same n p s before i ∷ (ap (rest′ w) (one-more n (field-same n) p s before) ∙ a) i
 

@@ -40,7 +40,8 @@ module _ (ps : List Numbered) where
   unfolding placesOf extentsOf extentOf spanOf
   places-span l k [] e = omega arith
   places-span l k (q ∷ qs) e =
-      go (ltb v l) (eqb v l) (ltb v (l + 1)) refl refl refl (ap (λ (p : Param). p .level) (since-says ps k q qs e)) (places-span l (k + 1) qs (since-next ps k q qs e))
+      go (ltb v l) (eqb v l) (ltb v (l + 1)) refl refl refl (ap (λ (p : Param). p .level) (since-says ps k q qs e))
+      (places-span l (k + 1) qs (since-next ps k q qs e))
     where
       v : ℕ
       v = q .says .level
@@ -48,7 +49,8 @@ module _ (ps : List Numbered) where
       rest : List ℕ
       rest = placesOf l (k + 1) qs
 
-      go : (t u w : Bool) → ltb v l ≡ t → eqb v l ≡ u → ltb v (l + 1) ≡ w → saidAt ps k .level ≡ v → extentsOf ps rest + spanOf (l + 1) qs ≤ spanOf l qs
+      go : (t u w : Bool) → ltb v l ≡ t → eqb v l ≡ u → ltb v (l + 1) ≡ w → saidAt ps k .level ≡ v
+          → extentsOf ps rest + spanOf (l + 1) qs ≤ spanOf l qs
           → extentsOf ps (cond t [] (cond u (k ∷ rest) rest)) + cond w 0 (suc (spanOf (l + 1) qs)) ≤ cond t 0 (suc (spanOf l qs))
       go true u true a b c n ih = omega arith
       go true u false a b c n ih = let x = ltb-true v l a in let y = ltb-false v (l + 1) c in absurd (omega arith)
@@ -127,7 +129,8 @@ grow-then p k m before rows after g h =
     }
 
 -- a row with the parent p, and rows below it
-grow-row : (p k : ℕ) (before : List Row) (r : Row) (rows : List Row) → r .parent ≡ p → p ≤ length before → Grows (length before + 1) k (before ++ (r ∷ [])) rows → Grows p (suc k) before rows
+grow-row : (p k : ℕ) (before : List Row) (r : Row) (rows : List Row) → r .parent ≡ p → p ≤ length before
+    → Grows (length before + 1) k (before ++ (r ∷ [])) rows → Grows p (suc k) before rows
 grow-row p k before r rows e l g =
     let f = g .few in
     record {
@@ -136,7 +139,8 @@ grow-row p k before r rows e l g =
       few = omega arith;
       parents = (
         (omega arith, λ x. absurd (omega arith)),
-        every-map (Beyond (length before + 1) (length (before ++ (r ∷ [])))) (Beyond p (length before)) (λ q b. let b₀ = b .0 in (omega arith, λ x. omega arith)) (g .more) (g .parents),
+        every-map (Beyond (length before + 1) (length (before ++ (r ∷ [])))) (Beyond p (length before))
+            (λ q b. let b₀ = b .0 in (omega arith, λ x. omega arith)) (g .more) (g .parents),
       );
     }
 
@@ -184,10 +188,12 @@ module _ (ps : List Numbered) (d : List ℕ) where
       go true =
           let x = inside-extents ps i in
           grow-le p 1 (extentOf ps i) done (done ++ (r ∷ [])) (omega arith)
-          (grow-row p 0 done r (done ++ (r ∷ [])) (parent-at i p s (flatWidth (lineOf ps) (insideOf ps) (nameOf ps) d i p done)) l (grow-none (length done + 1) 0 (done ++ (r ∷ []))))
+          (grow-row p 0 done r (done ++ (r ∷ [])) (parent-at i p s (flatWidth (lineOf ps) (insideOf ps) (nameOf ps) d i p done)) l
+          (grow-none (length done + 1) 0 (done ++ (r ∷ []))))
   field-grows (suc n) i s p done l =
       go (flatExists (lineOf ps) (insideOf ps) (nameOf ps) d i s p done)
-      (packed-grows n (length done + 1) (field-grows n) (byOrder (lineOf ps) (insideOf ps) (insideOf ps i)) (s + w) w (done ++ (r ∷ [])) (let y = length-append done (r ∷ []) in omega arith))
+      (packed-grows n (length done + 1) (field-grows n) (byOrder (lineOf ps) (insideOf ps) (insideOf ps i)) (s + w) w (done ++ (r ∷ []))
+      (let y = length-append done (r ∷ []) in omega arith))
     where
       w : ℕ
       w = flatWidth (lineOf ps) (insideOf ps) (nameOf ps) d i p done
@@ -196,20 +202,24 @@ module _ (ps : List Numbered) (d : List ℕ) where
       r = rowAt d i p s w
 
       rows : List Row
-      rows = flatPacked (lineOf ps) (insideOf ps) (nameOf ps) d (λ j s′ rs. after n (length done + 1) j s′ rs) (byOrder (lineOf ps) (insideOf ps) (insideOf ps i)) (s + w) w (done ++ (r ∷ []))
+      rows = flatPacked (lineOf ps) (insideOf ps) (nameOf ps) d (λ j s′ rs. after n (length done + 1) j s′ rs)
+          (byOrder (lineOf ps) (insideOf ps) (insideOf ps i)) (s + w) w (done ++ (r ∷ []))
 
-      go : (t : Bool) → Grows (length done + 1) (extentsOf ps (byOrder (lineOf ps) (insideOf ps) (insideOf ps i))) (done ++ (r ∷ [])) rows → Grows p (extentOf ps i) done (cond t rows done)
+      go : (t : Bool) → Grows (length done + 1) (extentsOf ps (byOrder (lineOf ps) (insideOf ps) (insideOf ps i))) (done ++ (r ∷ [])) rows
+          → Grows p (extentOf ps i) done (cond t rows done)
       go false g = grow-none p (extentOf ps i) done
       go true g =
           grow-le p (suc (extentsOf ps (byOrder (lineOf ps) (insideOf ps) (insideOf ps i)))) (extentOf ps i) done rows (inside-extents ps i)
           (grow-row p (extentsOf ps (byOrder (lineOf ps) (insideOf ps) (insideOf ps i))) done r rows (parent-at i p s w) l g)
 
   -- outer fields
-  pub listed-grows : (n : ℕ) (js : List ℕ) (s : ℕ) (done : List Row) → Grows 0 (extentsOf ps js) done (flatListed (lineOf ps) (insideOf ps) (nameOf ps) d n js s done .rows)
+  pub listed-grows : (n : ℕ) (js : List ℕ) (s : ℕ) (done : List Row)
+      → Grows 0 (extentsOf ps js) done (flatListed (lineOf ps) (insideOf ps) (nameOf ps) d n js s done .rows)
   unfolding flatListed extentsOf
   listed-grows n [] s done = grow-none 0 0 done
   listed-grows n (j ∷ js) s done =
-      go (flatExists (lineOf ps) (insideOf ps) (nameOf ps) d j s 0 done) (field-grows n j s 0 done (omega arith)) (listed-grows n js (s + w) (after n 0 j s done))
+      go (flatExists (lineOf ps) (insideOf ps) (nameOf ps) d j s 0 done) (field-grows n j s 0 done (omega arith))
+      (listed-grows n js (s + w) (after n 0 j s done))
     where
       w : ℕ
       w = flatWidth (lineOf ps) (insideOf ps) (nameOf ps) d j 0 done
@@ -226,7 +236,8 @@ module _ (ps : List Numbered) (d : List ℕ) where
   pub walked-grows : (i s : ℕ) (done : List Row) → Grows 0 (length ps - i) done (walkedFrom ps d i s done .rows)
   unfolding walkedFrom
   walked-grows i s done =
-      grow-le 0 (extentsOf ps (outerFrom ps i)) (length ps - i) done (flatListed (lineOf ps) (insideOf ps) (nameOf ps) d 7 (outerFrom ps i) s done .rows) (outer-extents ps i)
+      grow-le 0 (extentsOf ps (outerFrom ps i)) (length ps - i) done (flatListed (lineOf ps) (insideOf ps) (nameOf ps) d 7 (outerFrom ps i) s done .rows)
+      (outer-extents ps i)
       (listed-grows 7 (outerFrom ps i) s done)
 
   -- at most one row a P

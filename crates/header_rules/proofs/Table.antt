@@ -24,10 +24,12 @@ module _ (ps : List Numbered) (sets : List Set) (d : List ℕ) where
   abbrev again : (n : ℕ) → Field n → Field n
   again n f = refield (numberAt ps) n f
 
-  row-shown : (n parent : ℕ) (f : Field n) → saidAt ps (f .param .number) .set ≡ f .param .set → numbersOf d sets parent (again n f) ≡ shown ps sets (rowOf d parent f)
+  row-shown : (n parent : ℕ) (f : Field n) → saidAt ps (f .param .number) .set ≡ f .param .set
+      → numbersOf d sets parent (again n f) ≡ shown ps sets (rowOf d parent f)
   unfolding numbersOf shown valueOf rowOf
   row-shown n parent f e =
-      λ i. numberAt ps (f .param .number) ∷ parent ∷ f .start ∷ f .bits ∷ isSome (valueOf d f) ∷ orZero (valueOf d f) ∷ symbolOf sets (sym e i) (sym (row-value d parent f) i) ∷ []
+      λ i. numberAt ps (f .param .number) ∷ parent ∷ f .start ∷ f .bits ∷ isSome (valueOf d f) ∷ orZero (valueOf d f) ∷ symbolOf sets (sym e i)
+      (sym (row-value d parent f) i) ∷ []
 
   abbrev InnerShown : ℕ → Type 0
   InnerShown n = (at : ℕ) (f : Field n) → ReadIn (SetOf ps) n f → innerTable n d sets at (again n f) ≡ map (shown ps sets) (innerRows n d at f)
@@ -54,5 +56,6 @@ module _ (ps : List Numbered) (sets : List Set) (d : List ℕ) where
   inner-shown (suc n) at f a = list-shown n (inner-shown n) at (f .inner) at a
 
   -- the table of fields whose numbers are places, with the P numbers of these places
-  pub table-shown : (n : ℕ) (fs : List (Field n)) → Every (Read (SetOf ps) n) fs → tableFrom n d sets 0 0 (map (again n) fs) ≡ map (shown ps sets) (rowsOf n d 0 0 fs)
+  pub table-shown : (n : ℕ) (fs : List (Field n)) → Every (Read (SetOf ps) n) fs
+      → tableFrom n d sets 0 0 (map (again n) fs) ≡ map (shown ps sets) (rowsOf n d 0 0 fs)
   table-shown n fs a = list-shown n (inner-shown n) 0 fs 0 a

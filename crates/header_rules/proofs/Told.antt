@@ -25,8 +25,10 @@ module _ (def : Definition) (d : List ℕ) (most key : ℕ) where
       go true e = record { chosen = c; enough = leb-true (length (h .rows)) most e }
       go false e = record { heading = h; chosen = c; needed = refl; more = leb-false (length (h .rows)) most e }
 
-  answer-told : (b : Base) → firstBase key (def .bases) ≡ some b → (a : Answer 7) → Answers 7 d (trees (b .params)) (candidatesOf key def) a → Says def d most key (ofAnswer (def .sets) d most a)
-  answer-told b e (answered c fs) f = fitted-says (headingOf (def .sets) d c fs) (record { base = b; base-is = e; one = c; fields = fs; first = f; heading = refl })
+  answer-told : (b : Base) → firstBase key (def .bases) ≡ some b → (a : Answer 7) → Answers 7 d (trees (b .params)) (candidatesOf key def) a
+      → Says def d most key (ofAnswer (def .sets) d most a)
+  answer-told b e (answered c fs) f =
+      fitted-says (headingOf (def .sets) d c fs) (record { base = b; base-is = e; one = c; fields = fs; first = f; heading = refl })
   answer-told b e (refused k) f = record { base = b; base-is = e; none-holds = f .1 }
 
   base-told : (o : Option Base) → firstBase key (def .bases) ≡ o → Says def d most key (ofBase def d most key o)
@@ -55,8 +57,10 @@ module _ (def : Definition) (d : List ℕ) (most key : ℕ) where
   says-only (more-rows k) s =
       let h : Heading = s .heading in
       let l : most < length (h .rows) = rw (s .needed) at (s .more) in
-      ap more-rows (s .needed) ∙ sym (chosen-told h (s .chosen) ∙ ap (λ (t : Bool). cond t (header h) (more-rows (length (h .rows)))) (lt-leb (length (h .rows)) most l))
-  says-only (header h) s = sym (chosen-told h (s .chosen) ∙ ap (λ (t : Bool). cond t (header h) (more-rows (length (h .rows)))) (le-leb (length (h .rows)) most (s .enough)))
+      ap more-rows (s .needed) ∙ sym (chosen-told h (s .chosen)
+      ∙ ap (λ (t : Bool). cond t (header h) (more-rows (length (h .rows)))) (lt-leb (length (h .rows)) most l))
+  says-only (header h) s =
+      sym (chosen-told h (s .chosen) ∙ ap (λ (t : Bool). cond t (header h) (more-rows (length (h .rows)))) (le-leb (length (h .rows)) most (s .enough)))
 
   -- two answers that say what the rules say coincide
   pub says-one : (r q : Told) → Says def d most key r → Says def d most key q → r ≡ q
@@ -64,8 +68,10 @@ module _ (def : Definition) (d : List ℕ) (most key : ℕ) where
 
   -- ---- demand 3
   module _ (b : Base) (e : firstBase key (def .bases) ≡ some b)
-      (enough : (c : Candidate 7) (fs : List (Field 7)) → First 7 d (trees (b .params)) (candidatesOf key def) c fs → length (headingOf (def .sets) d c fs .rows) ≤ most) where
-    first-told : (c : Candidate 7) (fs : List (Field 7)) → First 7 d (trees (b .params)) (candidatesOf key def) c fs → told def d most key ≡ header (headingOf (def .sets) d c fs)
+      (enough : (c : Candidate 7) (fs : List (Field 7)) → First 7 d (trees (b .params)) (candidatesOf key def) c fs
+      → length (headingOf (def .sets) d c fs .rows) ≤ most) where
+    first-told : (c : Candidate 7) (fs : List (Field 7)) → First 7 d (trees (b .params)) (candidatesOf key def) c fs
+        → told def d most key ≡ header (headingOf (def .sets) d c fs)
     first-told c fs f =
         let h : Heading = headingOf (def .sets) d c fs in
         chosen-told h (record { base = b; base-is = e; one = c; fields = fs; first = f; heading = refl })
@@ -77,14 +83,19 @@ module _ (def : Definition) (d : List ℕ) (most key : ℕ) where
     pub told-demanded : (r : Told) → r ≡ told def d most key → Demanded def d key b r
     told-demanded r q = by-answer (answer 7 d (trees (b .params)) (candidatesOf key def)) (answer-says 7 d (trees (b .params)) (candidatesOf key def))
       where
-        to-header : (h : Heading) → (c : Candidate 7) × (fs : List (Field 7)) × First 7 d (trees (b .params)) (candidatesOf key def) c fs × (h ≡ headingOf (def .sets) d c fs) → r ≡ header h
+        to-header : (h : Heading) → (c : Candidate 7) × (fs : List (Field 7)) × First 7 d (trees (b .params)) (candidatesOf key def) c fs
+            × (h ≡ headingOf (def .sets) d c fs) → r ≡ header h
         to-header h w = q ∙ first-told (w .0) (w .1) (w .2) ∙ ap header (sym (w .3))
 
         by-answer : (a : Answer 7) → Answers 7 d (trees (b .params)) (candidatesOf key def) a → Demanded def d key b r
         by-answer (answered c fs) f =
             let is : r ≡ header (headingOf (def .sets) d c fs) = q ∙ first-told c fs f in
             record {
-              exactly = (λ w. record { front = f .front; one = c; back = f .back; place = f .place; fields = fs; holds = f .holds }, λ s. (headingOf (def .sets) d c fs, is));
+              exactly = (
+                λ w. record { front = f .front; one = c; back = f .back; place = f .place; fields = fs; holds = f .holds },
+                λ s.
+                    (headingOf (def .sets) d c fs, is),
+              );
               the-first = λ h. (λ e. (c, fs, f, cc), to-header h);
               only-seven = (λ w. absurd (let z : _≡_ {A = ℕ} 0 1 = cc in omega arith), λ n. absurd (n (f .front) c (f .back) (f .place) fs (f .holds)));
             }

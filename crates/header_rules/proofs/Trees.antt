@@ -23,7 +23,8 @@ level-map {L} u f make make′ keeps h l (q ∷ qs) =
     ∙ go (ltb (q .says .level) l) (eqb (q .says .level) l) (level-map u f make make′ keeps h l qs)
   where
     go : (t v : Bool) → ofLevel make′ l (map u qs) ≡ map f (ofLevel make l qs)
-        → cond t [] (cond v (f (make q qs) ∷ ofLevel make′ l (map u qs)) (ofLevel make′ l (map u qs))) ≡ map f (cond t [] (cond v (make q qs ∷ ofLevel make l qs) (ofLevel make l qs)))
+        → cond t [] (cond v (f (make q qs) ∷ ofLevel make′ l (map u qs)) (ofLevel make′ l (map u qs)))
+        ≡ map f (cond t [] (cond v (make q qs ∷ ofLevel make l qs) (ofLevel make l qs)))
     go true v ih = refl
     go false true ih = ap (λ (z : List L). f (make q qs) ∷ z) ih
     go false false ih = ih
@@ -47,7 +48,8 @@ module _ (g : ℕ → ℕ) where
       (λ p rest. ap (node (renumber p)) (kids-renumber 7 1 rest)) 0 qs
 
 -- ---- lines that differ only in what no tree looks at
-module _ (u : Numbered → Numbered) (levels : (p : Numbered) → u p .says .level ≡ p .says .level) (nodes : (K : Type 0) (p : Numbered) (ks : List K) → node (u p) ks ≡ node p ks) where
+module _ (u : Numbered → Numbered) (levels : (p : Numbered) → u p .says .level ≡ p .says .level)
+    (nodes : (K : Type 0) (p : Numbered) (ks : List K) → node (u p) ks ≡ node p ks) where
   kids-alike : (n l : ℕ) (qs : List Numbered) → kids n l (map u qs) ≡ kids n l qs
   unfolding kids
   kids-alike zero l qs = refl

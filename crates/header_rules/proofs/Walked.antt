@@ -31,7 +31,8 @@ use Rattle.header_rules.proofs.Loaded.{NameOf, placed, since-all, since
 use Rattle.header_rules.proofs.Table.{SetOf, table-shown}
 
 -- the walk of the Ps from a place on, behind the rows of other fields
-walked : (ps : List Numbered) (d : List ℕ) (k s : ℕ) (qs : List Numbered) (before : List (Field 7)) → since ps k ≡ qs → Every (Read (NameOf ps) 7) before
+walked : (ps : List Numbered) (d : List ℕ) (k s : ℕ) (qs : List Numbered) (before : List (Field 7)) → since ps k ≡ qs
+    → Every (Read (NameOf ps) 7) before
     → (walkedFrom ps d k s (rowsOf 7 d 0 0 before) .rows ≡ rowsOf 7 d 0 0 (before ++ listed 7 d (ordered (trees (placed k qs))) s before))
     × (walkedFrom ps d k s (rowsOf 7 d 0 0 before) .bit ≡ s + total (listed 7 d (ordered (trees (placed k qs))) s before))
 unfolding walkedFrom
@@ -82,11 +83,13 @@ module _ (base own : List Numbered) (d : List ℕ) where
       (listed-read (λ k x s. Agree k) d 7 (ordered (trees (placed 0 base)))
       (every-ordered (Tree (λ k x s. Agree k) 7) (trees (placed 0 base))
       (trees-lines (λ k x s. Agree k) (placed 0 base)
-      (every-map (λ p. (saidAt base (p .number) ≡ p .says) × (saidAt (base ++ own) (p .number) ≡ p .says)) (λ p. Agree (p .number)) (λ p h. ap (λ (x : Param). x .name) (h .0 ∙ sym (h .1))) (placed 0 base)
+      (every-map (λ p. (saidAt base (p .number) ≡ p .says) × (saidAt (base ++ own) (p .number) ≡ p .says)) (λ p. Agree (p .number))
+      (λ p h. ap (λ (x : Param). x .name) (h .0 ∙ sym (h .1))) (placed 0 base)
       (every-both (λ p. saidAt base (p .number) ≡ p .says) (λ p. saidAt (base ++ own) (p .number) ≡ p .says) (placed 0 base)
       (said base 0 base [] (since-all base ∙ sym (append-nil base))) (said (base ++ own) 0 base own ahead))))) 0 []))
 
-  all-read : (Q : ℕ → Name → Option Name → Type 0) → Every (Tree Q 7) (trees (placed 0 base)) → Every (Tree Q 7) (trees (placed (length base) own)) → Every (Read Q 7) fields
+  all-read : (Q : ℕ → Name → Option Name → Type 0) → Every (Tree Q 7) (trees (placed 0 base))
+      → Every (Tree Q 7) (trees (placed (length base) own)) → Every (Read Q 7) fields
   unfolding baseRead reading
   all-read Q a b =
       every-append (Read Q 7) first (listed 7 d (ordered (trees (placed (length base) own))) (total first) first)
@@ -112,7 +115,8 @@ module _ (base own : List Numbered) (d : List ℕ) where
   pub flat-rows : (sets : List Set) → map (shown (base ++ own) sets) (ownWalked base own d .rows) ≡ tableOf 7 d sets (reading 7 d (trees base) (trees own))
   flat-rows sets =
       ap (map (shown (base ++ own) sets)) (own-walked .0)
-      ∙ sym (table-shown (base ++ own) sets d 7 fields (all-read (SetOf (base ++ own)) (places-sets (base ++ own) 0 base own ahead) (places-sets (base ++ own) (length base) own [] behind)))
+      ∙ sym (table-shown (base ++ own) sets d 7 fields
+      (all-read (SetOf (base ++ own)) (places-sets (base ++ own) 0 base own ahead) (places-sets (base ++ own) (length base) own [] behind)))
       ∙ ap (tableOf 7 d sets) (sym again)
 
   -- the covered bits
@@ -123,7 +127,8 @@ module _ (base own : List Numbered) (d : List ℕ) where
   value-walked : (path : Path) → flatValue (nameOf (base ++ own)) (ownWalked base own d .rows) path 0 ≡ valueAt 7 d path fields
   value-walked path =
       ap (λ (rs : List Row). flatValue (nameOf (base ++ own)) rs path 0) (own-walked .0)
-      ∙ look-outer (nameOf (base ++ own)) d 7 path fields (all-read (NameOf (base ++ own)) (places-named (base ++ own) 0 base own ahead) (places-named (base ++ own) (length base) own [] behind))
+      ∙ look-outer (nameOf (base ++ own)) d 7 path fields
+      (all-read (NameOf (base ++ own)) (places-named (base ++ own) 0 base own ahead) (places-named (base ++ own) (length base) own [] behind))
 
   meets-walked : (vs : List Validation) → flatMeets (nameOf (base ++ own)) (ownWalked base own d .rows) vs ≡ meetsAll 7 d fields vs
   unfolding flatMeets
@@ -131,6 +136,7 @@ module _ (base own : List Numbered) (d : List ℕ) where
   meets-walked (v ∷ vs) = λ i. isValue (value-walked (v .path) i) (v .value) && meets-walked vs i
 
   -- the validations
-  pub flat-meets : (vs : List Validation) → flatMeets (nameOf (base ++ own)) (ownWalked base own d .rows) vs ≡ meetsAll 7 d (reading 7 d (trees base) (trees own)) vs
+  pub flat-meets : (vs : List Validation) → flatMeets (nameOf (base ++ own)) (ownWalked base own d .rows) vs
+      ≡ meetsAll 7 d (reading 7 d (trees base) (trees own)) vs
   flat-meets vs =
       meets-walked vs ∙ sym (meets-same (numberAt (base ++ own)) d 7 fields vs) ∙ ap (λ (fs : List (Field 7)). meetsAll 7 d fs vs) (sym again)

@@ -23,7 +23,9 @@ pub record Holds (n : ℕ) (d : List ℕ) (base : List (P n)) (c : Candidate n) 
 
 -- H15: no candidate of cs holds
 abbrev pub None : (n : ℕ) → List ℕ → List (P n) → List (Candidate n) → Type 0
-None n d base cs = (xs : List (Candidate n)) (c : Candidate n) (ys : List (Candidate n)) → cs ≡ xs ++ c ∷ ys → (fs : List (Field n)) → Holds n d base c fs → ⊥
+None n d base cs =
+    (xs : List (Candidate n)) (c : Candidate n) (ys : List (Candidate n)) → cs ≡ xs ++ c ∷ ys → (fs : List (Field n)) → Holds n d base c fs
+    → ⊥
 
 -- H15: c is the first candidate of cs that holds, by the reading fs
 pub record First (n : ℕ) (d : List ℕ) (base : List (P n)) (cs : List (Candidate n)) (c : Candidate n) (fs : List (Field n)) : Type 0 where

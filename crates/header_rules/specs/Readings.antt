@@ -32,33 +32,39 @@ abbrev C : List ℕ
 C = 0x43 ∷ []
 
 -- an outer field whose optional path finds 0 ends the list, and with it the list's later fields
-optional-ends : spans (reading 7 (0x00 ∷ 0x11 ∷ 0x22 ∷ []) (param 0 8 A none none [] ∷ param 0 8 B (some (A ∷ [])) none [] ∷ param 0 8 C none none [] ∷ []) []) ≡ 0 ∷ 8 ∷ []
+optional-ends : spans (reading 7 (0x00 ∷ 0x11 ∷ 0x22 ∷ [])
+    (param 0 8 A none none [] ∷ param 0 8 B (some (A ∷ [])) none [] ∷ param 0 8 C none none [] ∷ []) []) ≡ 0 ∷ 8 ∷ []
 unfolding reading baseRead listed exists packed innerAt ordered insert widthOf valueAt inFirst through firstNamed valueOf bitsAt
 optional-ends = refl
 
-optional-there : spans (reading 7 (0x01 ∷ 0x11 ∷ 0x22 ∷ []) (param 0 8 A none none [] ∷ param 0 8 B (some (A ∷ [])) none [] ∷ param 0 8 C none none [] ∷ []) [])
+optional-there : spans (reading 7 (0x01 ∷ 0x11 ∷ 0x22 ∷ [])
+    (param 0 8 A none none [] ∷ param 0 8 B (some (A ∷ [])) none [] ∷ param 0 8 C none none [] ∷ []) [])
     ≡ 0 ∷ 8 ∷ 8 ∷ 8 ∷ 16 ∷ 8 ∷ []
 unfolding reading baseRead listed exists packed innerAt ordered insert widthOf valueAt inFirst through firstNamed valueOf bitsAt
 optional-there = refl
 
 -- the candidate's list goes on from where the base's ended, by order, and its size path looks in the base's fields too
-size-of-base : spans (reading 7 (0x02 ∷ 0xAA ∷ 0xBB ∷ 0xCC ∷ []) (param 0 8 A none none [] ∷ []) (param 9 8 C none none [] ∷ param 0 0 B none (some (A ∷ [])) [] ∷ []))
+size-of-base : spans (reading 7 (0x02 ∷ 0xAA ∷ 0xBB ∷ 0xCC ∷ []) (param 0 8 A none none [] ∷ [])
+    (param 9 8 C none none [] ∷ param 0 0 B none (some (A ∷ [])) [] ∷ []))
     ≡ 0 ∷ 8 ∷ 8 ∷ 16 ∷ 24 ∷ 8 ∷ []
 unfolding reading baseRead listed exists packed innerAt ordered insert widthOf valueAt inFirst through firstNamed valueOf bitsAt
 size-of-base = refl
 
 -- inside: B is skipped and keeps its room
-keeps-room : within (reading 7 (0xF0 ∷ []) (param 0 8 A none none (param 0 2 A none none [] ∷ param 0 2 B (some (A ∷ [])) none [] ∷ param 0 4 C none none [] ∷ []) ∷ []) [])
+keeps-room : within (reading 7 (0xF0 ∷ []) (param 0 8 A none none
+    (param 0 2 A none none [] ∷ param 0 2 B (some (A ∷ [])) none [] ∷ param 0 4 C none none [] ∷ []) ∷ []) [])
     ≡ 6 ∷ 2 ∷ 0 ∷ 4 ∷ []
 unfolding reading baseRead listed exists packed innerAt ordered insert widthOf valueAt inFirst through firstNamed valueOf bitsAt
 keeps-room = refl
 
 -- inside: the first that does not fit ends the list, though a later one would fit
-first-too-wide : within (reading 7 (0xF0 ∷ []) (param 0 8 A none none (param 0 6 A none none [] ∷ param 1 4 B none none [] ∷ param 2 2 C none none [] ∷ []) ∷ []) []) ≡ 2 ∷ 6 ∷ []
+first-too-wide : within (reading 7 (0xF0 ∷ []) (param 0 8 A none none
+    (param 0 6 A none none [] ∷ param 1 4 B none none [] ∷ param 2 2 C none none [] ∷ []) ∷ []) []) ≡ 2 ∷ 6 ∷ []
 unfolding reading baseRead listed exists packed innerAt ordered insert widthOf valueAt inFirst through firstNamed valueOf bitsAt
 first-too-wide = refl
 
 -- equal orders go by text; an optional path inside looks among earlier siblings only, not at the outer field of that name
-siblings-only : within (reading 7 (0xFF ∷ []) (param 0 8 A none none (param 1 2 C (some (A ∷ [])) none [] ∷ param 1 3 B none none [] ∷ []) ∷ []) []) ≡ 3 ∷ 3 ∷ []
+siblings-only : within (reading 7 (0xFF ∷ []) (param 0 8 A none none (param 1 2 C (some (A ∷ [])) none [] ∷ param 1 3 B none none [] ∷ []) ∷ []) [])
+    ≡ 3 ∷ 3 ∷ []
 unfolding reading baseRead listed exists packed innerAt ordered insert widthOf valueAt inFirst through firstNamed valueOf bitsAt
 siblings-only = refl

@@ -50,5 +50,6 @@ Says def d most key (header h) = Fits def d most key h
 -- comes exactly if none does
 pub record Demanded (def : Definition) (d : List ℕ) (key : ℕ) (base : Base) (r : Told) : Type 0 where
   pub exactly : ((h : Heading) × (r ≡ header h)) ↔ Some 7 d (trees (base .params)) (candidatesOf key def)
-  pub the-first : (h : Heading) → (r ≡ header h) ↔ ((c : Candidate 7) × (fs : List (Field 7)) × First 7 d (trees (base .params)) (candidatesOf key def) c fs × (h ≡ headingOf (def .sets) d c fs))
+  pub the-first : (h : Heading) → (r ≡ header h) ↔
+      ((c : Candidate 7) × (fs : List (Field 7)) × First 7 d (trees (base .params)) (candidatesOf key def) c fs × (h ≡ headingOf (def .sets) d c fs))
   pub only-seven : (r ≡ no-candidate) ↔ None 7 d (trees (base .params)) (candidatesOf key def)

@@ -25,7 +25,8 @@ isSome (some v) = 1
 -- H18: the row of a field whose parent's row + 1 is given
 unfoldable pub numbersOf : {K G : Type 0} → List ℕ → List Set → ℕ → Seen (Node K) G → List ℕ
 numbersOf d sets parent f =
-    f .param .number ∷ parent ∷ f .start ∷ f .bits ∷ isSome (valueOf d f) ∷ orZero (valueOf d f) ∷ symbolOf sets (f .param .set) (valueOf d f) ∷ []
+    f .param .number ∷ parent ∷ f .start ∷ f .bits ∷ isSome (valueOf d f) ∷ orZero (valueOf d f) ∷ symbolOf sets (f .param .set)
+    (valueOf d f) ∷ []
 
 -- the rows of fields, from the row `at` on: `rowsAt at f` are those of the field f, from the row `at` on
 unfoldable pub rowsEach : {F R : Type 0} → (ℕ → F → List R) → ℕ → List F → List R

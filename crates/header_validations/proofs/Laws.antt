@@ -28,7 +28,8 @@ use Rattle.header_paths.specs.declared.Valued.the-variants.{Value, Nothing}
 use Rattle.header_validations.specs.Validations.{met, other}
 
 -- ---- one V
-pub path-part : (t : List ℕ) (ns : ℕ → Name) (rows : List Row) (path : Part) (part : List ℕ) (r : Valued) → part ≡ partOf t path → r ≡ valued (flatValue ns rows (names part) 0)
+pub path-part : (t : List ℕ) (ns : ℕ → Name) (rows : List Row) (path : Part) (part : List ℕ) (r : Valued) → part ≡ partOf t path
+    → r ≡ valued (flatValue ns rows (names part) 0)
     → r ≡ valued (flatValue ns rows (names (partOf t path)) 0)
 path-part t ns rows path part r e h = rw (← e) h
 
@@ -53,7 +54,8 @@ pub other-nothing : (r : Valued) (v : ℕ) → r ≡ Nothing → false ≡ other
 other-nothing r v e = rw e refl
 
 -- ---- V by V: what is left decides
-pub validation-less : (t : List ℕ) (p : Place) (r : NextValidation) (path : Part) (v : ℕ) (q : Place) → FindsValidation t p r → r ≡ next.At path v q → length t - q .at < length t - p .at
+pub validation-less : (t : List ℕ) (p : Place) (r : NextValidation) (path : Part) (v : ℕ) (q : Place) → FindsValidation t p r → r ≡ next.At path v q
+    → length t - q .at < length t - p .at
 validation-less t p r path v q found e = let is : IsValidation t p q path v = rw e at found in omega (arith, is .on, is .readable .inn .at-in)
 
 module _ (t : List ℕ) (ns : ℕ → Name) (rows : List Row) where
@@ -113,4 +115,19 @@ module _ (t : List ℕ) (ns : ℕ → Name) (rows : List Row) where
           pub ruling-more : b ≡ false → Ruling p₀ q
           ruling-more f = record { readable = is .readable; left = rw f at one-ruled }
 
-pub ruleset laws = (path-part, met-value, met-nothing, other-value, other-nothing, meeting-starts, ruling-starts, met-all, ruled-none, validation-less, not-met, meeting-more, ruled-out, ruling-more)
+pub ruleset laws = (
+  path-part,
+  met-value,
+  met-nothing,
+  other-value,
+  other-nothing,
+  meeting-starts,
+  ruling-starts,
+  met-all,
+  ruled-none,
+  validation-less,
+  not-met,
+  meeting-more,
+  ruled-out,
+  ruling-more,
+)

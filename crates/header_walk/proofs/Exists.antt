@@ -58,15 +58,20 @@ module _ (x t : List ℕ) (n i p : ℕ) (done : List Row) where
   pub wanted-free : i < n → getD t (i * 12 + 7 + 1) 0 ≡ 0 → true ≡ wanted (fieldsIn x t n) i p done
   wanted-free h z = sym (wanted-is h ∙ rw (eq-eqb (getD t (i * 12 + 7 + 1) 0) 0 z) refl)
 
-  module _ (path : List ℕ) (v : Valued) (ev : v ≡ valued (flatValue (nameOf (fieldsIn x t n)) done (names path) p)) (ep : path ≡ take (getD t (i * 12 + 7 + 1) 0) (drop (getD t (i * 12 + 7) 0) x)) where
-    wanted-path : i < n → (getD t (i * 12 + 7 + 1) 0 ≡ 0 → ⊥) → wanted (fieldsIn x t n) i p done ≡ ltb 0 (orZero (flatValue (nameOf (fieldsIn x t n)) done (names path) p))
+  module _ (path : List ℕ) (v : Valued) (ev : v ≡ valued (flatValue (nameOf (fieldsIn x t n)) done (names path) p))
+      (ep : path ≡ take (getD t (i * 12 + 7 + 1) 0) (drop (getD t (i * 12 + 7) 0) x)) where
+    wanted-path : i < n → (getD t (i * 12 + 7 + 1) 0 ≡ 0 → ⊥)
+        → wanted (fieldsIn x t n) i p done ≡ ltb 0 (orZero (flatValue (nameOf (fieldsIn x t n)) done (names path) p))
     wanted-path h z = wanted-is h ∙ rw (ne-eqb (getD t (i * 12 + 7 + 1) 0) 0 z, ep) refl
 
     pub wanted-none : v ≡ valued.Nothing → i < n → (getD t (i * 12 + 7 + 1) 0 ≡ 0 → ⊥) → false ≡ wanted (fieldsIn x t n) i p done
-    wanted-none e h z = sym (wanted-path h z ∙ ap (λ (k : ℕ). ltb 0 k) (value-none (flatValue (nameOf (fieldsIn x t n)) done (names path) p) (sym e ∙ ev)))
+    wanted-none e h z =
+        sym (wanted-path h z ∙ ap (λ (k : ℕ). ltb 0 k) (value-none (flatValue (nameOf (fieldsIn x t n)) done (names path) p) (sym e ∙ ev)))
 
-    pub wanted-some : (k : ℕ) → v ≡ valued.Value k → i < n → (getD t (i * 12 + 7 + 1) 0 ≡ 0 → ⊥) → ltb 0 k ≡ wanted (fieldsIn x t n) i p done
-    wanted-some k e h z = sym (wanted-path h z ∙ ap (λ (k : ℕ). ltb 0 k) (value-some (flatValue (nameOf (fieldsIn x t n)) done (names path) p) k (sym e ∙ ev)))
+    pub wanted-some : (k : ℕ) → v ≡ valued.Value k → i < n → (getD t (i * 12 + 7 + 1) 0 ≡ 0 → ⊥)
+        → ltb 0 k ≡ wanted (fieldsIn x t n) i p done
+    wanted-some k e h z =
+        sym (wanted-path h z ∙ ap (λ (k : ℕ). ltb 0 k) (value-some (flatValue (nameOf (fieldsIn x t n)) done (names path) p) k (sym e ∙ ev)))
 
   -- ---- the size path
 
@@ -77,11 +82,14 @@ module _ (x t : List ℕ) (n i p : ℕ) (done : List Row) where
   unfolding width paramAt
   width-is h = ap (λ (q : Param). widthBy (q .bits) (λ path. flatValue (nameOf (fieldsIn x t n)) done path p) (q .size)) (said-in x t n i h)
 
-  pub width-plain : (left r : ℕ) → r ≡ fitting (getD t (i * 12 + 2) 0) left → i < n → getD t (i * 12 + 9 + 1) 0 ≡ 0 → r ≡ fitting (width (fieldsIn x t n) i p done) left
+  pub width-plain : (left r : ℕ) → r ≡ fitting (getD t (i * 12 + 2) 0) left → i < n → getD t (i * 12 + 9 + 1) 0 ≡ 0
+      → r ≡ fitting (width (fieldsIn x t n) i p done) left
   width-plain left r e h z = e ∙ ap (λ (w : ℕ). fitting w left) (sym (width-is h ∙ rw (eq-eqb (getD t (i * 12 + 9 + 1) 0) 0 z) refl))
 
-  module _ (path : List ℕ) (left : ℕ) (v : Valued) (ev : v ≡ valued (flatValue (nameOf (fieldsIn x t n)) done (names path) p)) (ep : path ≡ take (getD t (i * 12 + 9 + 1) 0) (drop (getD t (i * 12 + 9) 0) x)) where
-    width-path : i < n → (getD t (i * 12 + 9 + 1) 0 ≡ 0 → ⊥) → width (fieldsIn x t n) i p done ≡ 8 * orZero (flatValue (nameOf (fieldsIn x t n)) done (names path) p)
+  module _ (path : List ℕ) (left : ℕ) (v : Valued) (ev : v ≡ valued (flatValue (nameOf (fieldsIn x t n)) done (names path) p))
+      (ep : path ≡ take (getD t (i * 12 + 9 + 1) 0) (drop (getD t (i * 12 + 9) 0) x)) where
+    width-path : i < n → (getD t (i * 12 + 9 + 1) 0 ≡ 0 → ⊥)
+        → width (fieldsIn x t n) i p done ≡ 8 * orZero (flatValue (nameOf (fieldsIn x t n)) done (names path) p)
     width-path h z = width-is h ∙ rw (ne-eqb (getD t (i * 12 + 9 + 1) 0) 0 z, ep) refl
 
     pub width-none : v ≡ valued.Nothing → i < n → (getD t (i * 12 + 9 + 1) 0 ≡ 0 → ⊥) → 0 ≡ fitting (width (fieldsIn x t n) i p done) left
@@ -91,14 +99,16 @@ module _ (x t : List ℕ) (n i p : ℕ) (done : List Row) where
         let w : width (fieldsIn x t n) i p done ≡ 0 = width-path h z ∙ omega arith in
         rw (w, le-leb 0 left (omega arith)) refl
 
-    pub width-over : (k : ℕ) → v ≡ valued.Value k → i < n → (getD t (i * 12 + 9 + 1) 0 ≡ 0 → ⊥) → left / 8 < k → 0 ≡ fitting (width (fieldsIn x t n) i p done) left
+    pub width-over : (k : ℕ) → v ≡ valued.Value k → i < n → (getD t (i * 12 + 9 + 1) 0 ≡ 0 → ⊥) → left / 8 < k
+        → 0 ≡ fitting (width (fieldsIn x t n) i p done) left
     unfolding fitting
     width-over k e h z l =
         let o = value-some (flatValue (nameOf (fieldsIn x t n)) done (names path) p) k (sym e ∙ ev) in
         let w : width (fieldsIn x t n) i p done ≡ 8 * k = width-path h z ∙ omega arith in
         rw (w, lt-leb (8 * k) left (omega arith)) refl
 
-    pub width-sized : (k : ℕ) → v ≡ valued.Value k → i < n → (getD t (i * 12 + 9 + 1) 0 ≡ 0 → ⊥) → k ≤ left / 8 → k * 8 ≡ fitting (width (fieldsIn x t n) i p done) left
+    pub width-sized : (k : ℕ) → v ≡ valued.Value k → i < n → (getD t (i * 12 + 9 + 1) 0 ≡ 0 → ⊥) → k ≤ left / 8
+        → k * 8 ≡ fitting (width (fieldsIn x t n) i p done) left
     unfolding fitting
     width-sized k e h z l =
         let o = value-some (flatValue (nameOf (fieldsIn x t n)) done (names path) p) k (sym e ∙ ev) in
@@ -169,7 +179,8 @@ module _ (ps : List Numbered) (d : List ℕ) (i s p : ℕ) (done : List Row) whe
       go false e = let l = leb-false (width ps i p done) (length d * 8 - s) e in lt-leb (s + width ps i p done) (length d * 8) (omega arith)
 
   -- where it ends
-  pub exists-within : flatExists (lineOf ps) (insideOf ps) (nameOf ps) d i s p done ≡ true → s + flatWidth (lineOf ps) (insideOf ps) (nameOf ps) d i p done ≤ length d * 8
+  pub exists-within : flatExists (lineOf ps) (insideOf ps) (nameOf ps) d i s p done ≡ true
+      → s + flatWidth (lineOf ps) (insideOf ps) (nameOf ps) d i p done ≤ length d * 8
   unfolding flatExists
   exists-within e =
       let w = flatWidth (lineOf ps) (insideOf ps) (nameOf ps) d i p done in
@@ -220,7 +231,15 @@ module _ (d : List ℕ) (i p s w : ℕ) (r : Bits) (er : r ≡ bitsRead d s w) w
     where
       go : (c : Bool) → Value v ≡ cond c (Value (bitsAt d s w)) Declined
           → _≡_ {A = Row} (record { number = i; parent = p; start = s; bits = w; valued = 1; value = v })
-          (record { number = i; parent = p; start = s; bits = w; valued = isSome (cond c (some (bitsAt d s w)) none); value = orZero (cond c (some (bitsAt d s w)) none) })
+          (record {
+            number = i;
+            parent = p;
+            start = s;
+            bits = w;
+            valued = isSome (cond c (some (bitsAt d s w)) none);
+            value =
+                orZero (cond c (some (bitsAt d s w)) none);
+          })
       go true q = let z : v ≡ bitsAt d s w = cc in rw z refl
       go false q = let z : _≡_ {A = ℕ} 0 1 = cc in absurd (omega arith)
 
@@ -231,12 +250,21 @@ module _ (d : List ℕ) (i p s w : ℕ) (r : Bits) (er : r ≡ bitsRead d s w) w
     where
       go : (c : Bool) → Declined ≡ cond c (Value (bitsAt d s w)) Declined
           → _≡_ {A = Row} (record { number = i; parent = p; start = s; bits = w; valued = 0; value = 0 })
-          (record { number = i; parent = p; start = s; bits = w; valued = isSome (cond c (some (bitsAt d s w)) none); value = orZero (cond c (some (bitsAt d s w)) none) })
+          (record {
+            number = i;
+            parent = p;
+            start = s;
+            bits = w;
+            valued = isSome (cond c (some (bitsAt d s w)) none);
+            value =
+                orZero (cond c (some (bitsAt d s w)) none);
+          })
       go true q = let z : _≡_ {A = ℕ} 0 1 = cc in absurd (omega arith)
       go false q = refl
 
 -- its six numbers in the table
-pub row-written : (t t′ : List ℕ) (n : ℕ) (r : told.Row) → t′ ≡ put t (n * 6) (numbers (tells r)) → (n + 1) * 6 ≤ length t → rowsIn t′ (n + 1) ≡ rowsIn t n ++ (tells r ∷ [])
+pub row-written : (t t′ : List ℕ) (n : ℕ) (r : told.Row) → t′ ≡ put t (n * 6) (numbers (tells r)) → (n + 1) * 6 ≤ length t
+    → rowsIn t′ (n + 1) ≡ rowsIn t n ++ (tells r ∷ [])
 row-written t t′ n r e h = rw (e, put-room t (numbers (tells r)) (n * 6) (omega arith)) (rowsIn-sets t n (tells r) h)
 
 pub ruleset row-laws = (row-valued, row-wide, row-written)
@@ -257,7 +285,8 @@ module _ (ps : List Numbered) (d u : List ℕ) (i s p n : ℕ) (r : Extent) (er 
     pub bits-within : s + w ≤ length d * 8
     bits-within = here .within
 
-    pub lays-row : (row : told.Row) (u′ : List ℕ) → tells row ≡ rowAt d i p s w → rowsIn u′ (n + 1) ≡ rowsIn u n ++ (tells row ∷ []) → Lays ps d u u′ i s p n (extent.Bits w)
+    pub lays-row : (row : told.Row) (u′ : List ℕ) → tells row ≡ rowAt d i p s w → rowsIn u′ (n + 1) ≡ rowsIn u n ++ (tells row ∷ [])
+        → Lays ps d u u′ i s p n (extent.Bits w)
     lays-row row u′ erow eu = record { exists = here .exists; width-is = here .width-is; within = here .within; rows = rw (← erow) eu }
 
 pub ruleset lay-laws = (lays-none, bits-wide, bits-within, lays-row)

@@ -101,7 +101,8 @@ row-room ps i n l h = let e = ext-pos ps i in omega arith
 
 -- ---- the answer of a field
 
-module _ (ps : List Numbered) (d u u′ : List ℕ) (left i s p n : ℕ) (f : Field) (a : Reads u′ (fieldRead ps d left i s p (rowsIn u n)) (fieldDone ps d left i s p (rowsIn u n)) f) where
+module _ (ps : List Numbered) (d u u′ : List ℕ) (left i s p n : ℕ) (f : Field)
+    (a : Reads u′ (fieldRead ps d left i s p (rowsIn u n)) (fieldDone ps d left i s p (rowsIn u n)) f) where
   -- one that was read
   pub record WasRead (m w : ℕ) : Type 0 where
     pub exists : room.there ps d i s p (rowsIn u n) ≡ true
@@ -136,7 +137,8 @@ module _ (ps : List Numbered) (d u u′ : List ℕ) (left i s p n : ℕ) (f : Fi
 
 -- ---- the next field of a list
 
-module _ (t : List ℕ) (count level i order place : ℕ) (r : Next) (er : IsNext t count level i order place r) (j o w : ℕ) (e : r ≡ At j o w) (few : count ≤ 128) (i≤n : i ≤ count) where
+module _ (t : List ℕ) (count level i order place : ℕ) (r : Next) (er : IsNext t count level i order place r) (j o w : ℕ) (e : r ≡ At j o w)
+    (few : count ≤ 128) (i≤n : i ≤ count) where
   pub next-in : j < count
   next-in = chosen [] t count level i order place r er j o w e few i≤n .within
 
@@ -150,7 +152,8 @@ module _ (t : List ℕ) (count level i order place : ℕ) (r : Next) (er : IsNex
 
 -- what is left, read after what has been read, gives the rows that are asked for; and there is room for it
 pub record Going (x t d : List ℕ) (count left i end width n : ℕ) (u₀ u : List ℕ) (level order place room bit next : ℕ) : Type 0 where
-  pub rows : packed (fieldsIn x t count) d (λ j s rs. fieldDone (fieldsIn x t count) d left j s n rs) (rest x t count level (i + 1) order place) bit room (rowsIn u next)
+  pub rows : packed (fieldsIn x t count) d (λ j s rs. fieldDone (fieldsIn x t count) d left j s n rs) (rest x t count level (i + 1) order place) bit room
+      (rowsIn u next)
       ≡ innerDone (fieldsIn x t count) d left i end width (rowsIn u₀ n)
   pub fits : (next + sumExt (fieldsIn x t count) (rest x t count level (i + 1) order place)) * 6 ≤ length u
   pub level-is : level + left ≡ 7
@@ -164,13 +167,15 @@ unfolding innerOf insideOf listFrom paramAt
 inner-is x t count i h = ap (λ (q : Param). listFrom (fieldsIn x t count) (q .level + 1) (i + 1)) (said-in x t count i h)
 
 module _ (x t d : List ℕ) (count left i end width n : ℕ) (u₀ : List ℕ) where
-  pub going-starts : (n + ext (fieldsIn x t count) i) * 6 ≤ length u₀ + 6 → i < count → getD t (i * 12) 0 + left + 1 ≡ 7 → width ≤ end → end ≤ length d * 8
+  pub going-starts : (n + ext (fieldsIn x t count) i) * 6 ≤ length u₀ + 6 → i < count → getD t (i * 12) 0 + left + 1 ≡ 7 → width ≤ end
+      → end ≤ length d * 8
       → Going x t d count left i end width n u₀ u₀ (7 - left) 0 0 width end n
   unfolding innerDone
   going-starts h h2 l h3 h4 =
       let a = sum-inner (fieldsIn x t count) i in
       let k : 7 - left ≡ getD t (i * 12) 0 + 1 = omega arith in
-      let b : rest x t count (7 - left) (i + 1) 0 0 ≡ innerOf (fieldsIn x t count) i = from-zero (fieldsIn x t count) (listFrom (fieldsIn x t count) (7 - left) (i + 1)) ∙ rw k (sym (inner-is x t count i h2)) in
+      let b : rest x t count (7 - left) (i + 1) 0 0 ≡ innerOf (fieldsIn x t count) i =
+      from-zero (fieldsIn x t count) (listFrom (fieldsIn x t count) (7 - left) (i + 1)) ∙ rw k (sym (inner-is x t count i h2)) in
       record {
         rows = rw (b, length-rowsIn) refl;
         fits = rw b (omega arith);
@@ -181,8 +186,10 @@ module _ (x t d : List ℕ) (count left i end width n : ℕ) (u₀ : List ℕ) w
         same = refl;
       }
 
-  module _ (u : List ℕ) (level order place room bit next : ℕ) (g : Going x t d count left i end width n u₀ u level order place room bit next) (r : Next) (er : IsNext t count level (i + 1) order place r) where
-    ended : rowsIn u next ≡ innerDone (fieldsIn x t count) d left i end width (rowsIn u₀ n) → Fills u (innerDone (fieldsIn x t count) d left i end width (rowsIn u₀ n)) next
+  module _ (u : List ℕ) (level order place room bit next : ℕ) (g : Going x t d count left i end width n u₀ u level order place room bit next) (r : Next)
+      (er : IsNext t count level (i + 1) order place r) where
+    ended : rowsIn u next ≡ innerDone (fieldsIn x t count) d left i end width (rowsIn u₀ n)
+        → Fills u (innerDone (fieldsIn x t count) d left i end width (rowsIn u₀ n)) next
     ended e = record { count = rw (← e, length-rowsIn) refl; rows = rw (← e, length-rowsIn) refl }
 
     pub inner-ends : r ≡ Done → Fills u (innerDone (fieldsIn x t count) d left i end width (rowsIn u₀ n)) next
@@ -204,8 +211,10 @@ module _ (x t d : List ℕ) (count left i end width n : ℕ) (u₀ : List ℕ) w
       pub inner-less : count ≤ 128 → i < count → length (rest x t count level (i + 1) o (j + 1)) < length (rest x t count level (i + 1) order place)
       inner-less few h = rw (is few h .then) (omega arith)
 
-      module _ (u′ : List ℕ) (f : Field) (a : Reads u′ (fieldRead (fieldsIn x t count) d left j (bit - w) n (rowsIn u next)) (fieldDone (fieldsIn x t count) d left j (bit - w) n (rowsIn u next)) f) where
-        going-on : w ≤ room → length u′ ≡ length u → count ≤ 128 → i < count → (m : ℕ) → rowsIn u′ m ≡ fieldDone (fieldsIn x t count) d left j (bit - w) n (rowsIn u next)
+      module _ (u′ : List ℕ) (f : Field) (a : Reads u′ (fieldRead (fieldsIn x t count) d left j (bit - w) n (rowsIn u next))
+          (fieldDone (fieldsIn x t count) d left j (bit - w) n (rowsIn u next)) f) where
+        going-on : w ≤ room → length u′ ≡ length u → count ≤ 128 → i < count → (m : ℕ)
+            → rowsIn u′ m ≡ fieldDone (fieldsIn x t count) d left j (bit - w) n (rowsIn u next)
             → Going x t d count left i end width n u₀ u′ level o (j + 1) (room - w) (bit - w) m
         unfolding flatPacked sumExt
         going-on l len few h m em =
@@ -242,7 +251,8 @@ pub ruleset inner-laws = (going-starts, inner-ends, inner-full, inner-room, inne
 
 -- what is left, walked after what has been walked, gives what is asked for; and there is room for it
 pub record Listing (x t d : List ℕ) (count first start n : ℕ) (u₀ u : List ℕ) (order place bit next : ℕ) : Type 0 where
-  pub left : listed (fieldsIn x t count) d (rest x t count 0 first order place) bit (rowsIn u next) ≡ walkedFrom (fieldsIn x t count) d first start (rowsIn u₀ n)
+  pub left : listed (fieldsIn x t count) d (rest x t count 0 first order place) bit (rowsIn u next)
+      ≡ walkedFrom (fieldsIn x t count) d first start (rowsIn u₀ n)
   pub fits : next + sumExt (fieldsIn x t count) (rest x t count 0 first order place) ≤ n + (count - first)
   pub bit-in : bit ≤ length d * 8
   pub place-in : place ≤ 128
@@ -263,9 +273,11 @@ module _ (x t d : List ℕ) (count first start n : ℕ) (u₀ : List ℕ) where
         same = refl;
       }
 
-  module _ (u : List ℕ) (order place bit next : ℕ) (g : Listing x t d count first start n u₀ u order place bit next) (r : Next) (er : IsNext t count 0 first order place r) where
+  module _ (u : List ℕ) (order place bit next : ℕ) (g : Listing x t d count first start n u₀ u order place bit next) (r : Next)
+      (er : IsNext t count 0 first order place r) where
     -- the walk ends here
-    stopped : record { rows = rowsIn u next; bit = bit } ≡ walkedFrom (fieldsIn x t count) d first start (rowsIn u₀ n) → (v : List ℕ) → rowsIn v next ≡ rowsIn u next
+    stopped : record { rows = rowsIn u next; bit = bit } ≡ walkedFrom (fieldsIn x t count) d first start (rowsIn u₀ n) → (v : List ℕ)
+        → rowsIn v next ≡ rowsIn u next
         → Walks d u₀ v n (count - first) (walkedFrom (fieldsIn x t count) d first start (rowsIn u₀ n)) (record { bit = record { 0 = bit }; rows = next })
     unfolding walkedFrom
     stopped e v ev =
@@ -276,12 +288,14 @@ module _ (x t d : List ℕ) (count first start n : ℕ) (u₀ : List ℕ) where
           bit-is = ap (λ (w : flat.Walked). w .bit) e;
           count = rw (rs, length-rowsIn) refl;
           rows = holds;
-          kept = kept u₀ v n (walkedFrom (fieldsIn x t count) d first start (rowsIn u₀ n) .rows) (listed-grows (fieldsIn x t count) d (outerFrom (fieldsIn x t count) first) start (rowsIn u₀ n)) holds;
+          kept = kept u₀ v n (walkedFrom (fieldsIn x t count) d first start (rowsIn u₀ n) .rows)
+              (listed-grows (fieldsIn x t count) d (outerFrom (fieldsIn x t count) first) start (rowsIn u₀ n)) holds;
           few = omega arith;
           within = g .bit-in;
         }
 
-    pub listing-ends : r ≡ Done → Walks d u₀ u n (count - first) (walkedFrom (fieldsIn x t count) d first start (rowsIn u₀ n)) (record { bit = record { 0 = bit }; rows = next })
+    pub listing-ends : r ≡ Done → Walks d u₀ u n (count - first) (walkedFrom (fieldsIn x t count) d first start (rowsIn u₀ n))
+        (record { bit = record { 0 = bit }; rows = next })
     unfolding flatListed
     listing-ends e = stopped (rw (none-left x t count 0 first order place r er e) at (g .left)) u refl
 
@@ -289,7 +303,8 @@ module _ (x t d : List ℕ) (count first start n : ℕ) (u₀ : List ℕ) where
       at-j : count ≤ 128 → first ≤ count → Chosen x t count 0 first order place j o w
       at-j few h = chosen x t count 0 first order place r er j o w e few h
 
-      pub listing-room : count ≤ 128 → first ≤ count → (n + (count - first)) * 6 ≤ length u₀ → (next + ext (fieldsIn x t count) j) * 6 ≤ length u
+      pub listing-room : count ≤ 128 → first ≤ count → (n + (count - first)) * 6 ≤ length u₀
+          → (next + ext (fieldsIn x t count) j) * 6 ≤ length u
       unfolding sumExt
       listing-room few h l =
           let q = rw (at-j few h .then) at (g .fits) in
@@ -299,9 +314,11 @@ module _ (x t d : List ℕ) (count first start n : ℕ) (u₀ : List ℕ) where
       pub listing-less : count ≤ 128 → first ≤ count → length (rest x t count 0 first o (j + 1)) < length (rest x t count 0 first order place)
       listing-less few h = rw (at-j few h .then) (omega arith)
 
-      module _ (u′ : List ℕ) (f : Field) (a : Reads u′ (fieldRead (fieldsIn x t count) d 7 j bit 0 (rowsIn u next)) (fieldDone (fieldsIn x t count) d 7 j bit 0 (rowsIn u next)) f) where
+      module _ (u′ : List ℕ) (f : Field) (a : Reads u′ (fieldRead (fieldsIn x t count) d 7 j bit 0 (rowsIn u next))
+          (fieldDone (fieldsIn x t count) d 7 j bit 0 (rowsIn u next)) f) where
         pub listing-stops : f ≡ Missing → count ≤ 128 → first ≤ count
-            → Walks d u₀ u′ n (count - first) (walkedFrom (fieldsIn x t count) d first start (rowsIn u₀ n)) (record { bit = record { 0 = bit }; rows = next })
+            → Walks d u₀ u′ n (count - first) (walkedFrom (fieldsIn x t count) d first start (rowsIn u₀ n))
+            (record { bit = record { 0 = bit }; rows = next })
         unfolding flatListed
         listing-stops q few h =
             let z = missing-not (fieldsIn x t count) d u u′ 7 j bit 0 next f a q in
@@ -318,7 +335,8 @@ module _ (x t d : List ℕ) (count first start n : ℕ) (u₀ : List ℕ) where
           pub listing-fits : length d ≤ 2048 → Fits w64 (bit + v)
           listing-fits l = let k = ends-in in record { fits = omega arith }
 
-          pub listing-more : length u′ ≡ length u → count ≤ 128 → first ≤ count → Listing x t d count first start n u₀ u′ o (j + 1) (bit + v) m
+          pub listing-more : length u′ ≡ length u → count ≤ 128 → first ≤ count
+              → Listing x t d count first start n u₀ u′ o (j + 1) (bit + v) m
           unfolding flatListed sumExt
           listing-more len few h =
               let k = rw (at-j few h .then) at (g .fits) in

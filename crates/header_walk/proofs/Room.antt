@@ -62,7 +62,8 @@ since-rest (q ∷ qs) zero p rest e = cc
 since-rest (q ∷ qs) (suc k) p rest e = since-rest qs k p rest e
 
 -- those of a level take their own extents, and leave out the deeper ones in front
-sum-places : (ps : List Numbered) (level : ℕ) (xs : List Numbered) (k : ℕ) → since ps k ≡ xs → sumExt ps (placesOf level k xs) + span (level + 1) xs ≤ span level xs
+sum-places : (ps : List Numbered) (level : ℕ) (xs : List Numbered) (k : ℕ) → since ps k ≡ xs
+    → sumExt ps (placesOf level k xs) + span (level + 1) xs ≤ span level xs
 unfolding sumExt placesOf span ext
 sum-places ps level [] k e = omega arith
 sum-places ps level (p ∷ xs) k e =
@@ -72,11 +73,13 @@ sum-places ps level (p ∷ xs) k e =
     rest = rw add-one (since-rest ps k p xs e)
 
     own : ext ps k ≡ suc (span (p .says .level + 1) xs)
-    own = ap (λ (q : Param). suc (span (q .level + 1) (since ps (k + 1)))) (since-said ps k p xs e) ∙ ap (λ (l : List Numbered). suc (span (p .says .level + 1) l)) rest
+    own = ap (λ (q : Param). suc (span (q .level + 1) (since ps (k + 1)))) (since-said ps k p xs e)
+        ∙ ap (λ (l : List Numbered). suc (span (p .says .level + 1) l)) rest
 
     go : (a b c : Bool) → ltb (p .says .level) level ≡ a → eqb (p .says .level) level ≡ b → ltb (p .says .level) (level + 1) ≡ c
         → sumExt ps (placesOf level (k + 1) xs) + span (level + 1) xs ≤ span level xs
-        → sumExt ps (cond a [] (cond b (k ∷ placesOf level (k + 1) xs) (placesOf level (k + 1) xs))) + cond c 0 (suc (span (level + 1) xs)) ≤ cond a 0 (suc (span level xs))
+        → sumExt ps (cond a [] (cond b (k ∷ placesOf level (k + 1) xs) (placesOf level (k + 1) xs))) + cond c 0 (suc (span (level + 1) xs)) ≤ cond a 0
+        (suc (span level xs))
     go true b true ea eb ec ih = omega arith
     go true b false ea eb ec ih = let x = ltb-true (p .says .level) level ea in let y = ltb-false (p .says .level) (level + 1) ec in absurd (omega arith)
     go false true true ea eb ec ih =
@@ -128,7 +131,8 @@ withRow ps d i s p done = done ++ (rowAt d i p s (wide ps d i p done) ∷ [])
 
 abbrev pub inside : List Numbered → List ℕ → ℕ → ℕ → ℕ → ℕ → List Row → List Row
 inside ps d left i s p done =
-    packed ps d (λ j s′ rs. fieldDone ps d left j s′ (length done + 1) rs) (innerOf ps i) (s + wide ps d i p done) (wide ps d i p done) (withRow ps d i s p done)
+    packed ps d (λ j s′ rs. fieldDone ps d left j s′ (length done + 1) rs) (innerOf ps i) (s + wide ps d i p done) (wide ps d i p done)
+    (withRow ps d i s p done)
 
 abbrev pub listed : List Numbered → List ℕ → List ℕ → ℕ → List Row → Walked
 listed ps d js s done = flatListed (lineOf ps) (insideOf ps) (nameOf ps) d 7 js s done
@@ -194,7 +198,8 @@ module _ (ps : List Numbered) (d : List ℕ) where
       w = saidAt ps j .bits
 
       go : (b : Bool)
-          → Grows (after j (end - saidAt ps j .bits) done) (packed ps d after js (end - saidAt ps j .bits) (room - saidAt ps j .bits) (after j (end - saidAt ps j .bits) done))
+          → Grows (after j (end - saidAt ps j .bits) done)
+          (packed ps d after js (end - saidAt ps j .bits) (room - saidAt ps j .bits) (after j (end - saidAt ps j .bits) done))
           → Grows done (cond b (packed ps d after js (end - saidAt ps j .bits) (room - saidAt ps j .bits) (after j (end - saidAt ps j .bits) done)) done)
       go true g = grows-trans done (after j (end - saidAt ps j .bits) done) _ (h j (end - saidAt ps j .bits) done) g
       go false g = take-length done
@@ -222,7 +227,8 @@ module _ (ps : List Numbered) (d : List ℕ) where
     where
       go : (b : Bool) → Grows (fieldDone ps d 7 j s 0 done) (listed ps d js (s + wide ps d j 0 done) (fieldDone ps d 7 j s 0 done) .rows)
           → Grows done (cond b (listed ps d js (s + wide ps d j 0 done) (fieldDone ps d 7 j s 0 done)) (record { rows = done; bit = s }) .rows)
-      go true g = grows-trans done (fieldDone ps d 7 j s 0 done) (listed ps d js (s + wide ps d j 0 done) (fieldDone ps d 7 j s 0 done) .rows) (field-grows 7 j s 0 done) g
+      go true g = grows-trans done (fieldDone ps d 7 j s 0 done) (listed ps d js (s + wide ps d j 0 done) (fieldDone ps d 7 j s 0 done) .rows)
+          (field-grows 7 j s 0 done) g
       go false g = take-length done
 
 -- so a table that holds the rows after a walk holds those before it

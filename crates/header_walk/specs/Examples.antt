@@ -39,7 +39,8 @@ abbrev rows : List Row
 rows = row 0 0 0 8 0xA5 ∷ row 1 0 8 8 0xC3 ∷ row 2 2 12 4 3 ∷ row 3 2 8 4 12 ∷ []
 
 walked : walkedFrom lines (0xA5 ∷ 0xC3 ∷ []) 0 0 [] ≡ record { rows = rows; bit = 16 }
-unfolding bitsAt paramAt fieldsFrom saidAt placesOf since insideOf outerFrom walkedFrom insertAt byOrder findRow flatValue rowAt flatWidth flatExists flatPacked flatField flatListed
+unfolding bitsAt paramAt fieldsFrom saidAt placesOf since insideOf outerFrom walkedFrom insertAt byOrder findRow flatValue rowAt flatWidth flatExists
+    flatPacked flatField flatListed
 walked = refl
 
 found : flatValue (nameOf lines) rows (names path) 0 ≡ some 3

@@ -190,7 +190,8 @@ fn lay_row(
 ) -> Extent
     requires { ⌜ Shaped (now mpdu) (now fields) count ⌝ }
     requires { ⌜ (i < count) × (start .0 ≤ length (now mpdu) * 8) × ((n + 1) * 6 ≤ length (now rows)) ⌝ }
-    ensures { λ r. ⌜ Lays (fieldsIn (now (text .entry)) (now (fields .entry)) count) (now (mpdu .entry)) (now (rows .entry)) (now (rows .exit)) i (start .0) parent n r ⌝ }
+    ensures { λ r. ⌜ Lays (fieldsIn (now (text .entry)) (now (fields .entry)) count) (now (mpdu .entry)) (now (rows .entry)) (now (rows .exit)) i
+        (start .0) parent n r ⌝ }
 {
     let left = mpdu.len() as u64 * 8 - start.0;
     let Extent::Bits(bits) = extent_of(text, fields, count, i, &rows[..], n, parent, left) else {
@@ -215,7 +216,8 @@ fn decode_param(
     left: u64,
 ) -> Field
     requires { ⌜ Shaped (now mpdu) (now fields) count ⌝ }
-    requires { ⌜ (i < count) × (getD (now fields) (i * 12) 0 + left ≡ 7) × (start .0 ≤ length (now mpdu) * 8) × ((n + ext (fieldsIn (now text) (now fields) count) i) * 6 ≤ length (now rows)) ⌝ }
+    requires { ⌜ (i < count) × (getD (now fields) (i * 12) 0 + left ≡ 7) × (start .0 ≤ length (now mpdu) * 8)
+        × ((n + ext (fieldsIn (now text) (now fields) count) i) * 6 ≤ length (now rows)) ⌝ }
     ensures { λ r.
         let ps = fieldsIn (now (text .entry)) (now (fields .entry)) count in
         let d = now (mpdu .entry) in
@@ -259,7 +261,8 @@ fn decode_inner(
     left: u64,
 ) -> usize
     requires { ⌜ Shaped (now mpdu) (now fields) count ⌝ }
-    requires { ⌜ (i < count) × (getD (now fields) (i * 12) 0 + left + 1 ≡ 7) × (end .0 ≤ length (now mpdu) * 8) × (width ≤ end .0) × ((n + ext (fieldsIn (now text) (now fields) count) i) * 6 ≤ length (now rows) + 6) ⌝ }
+    requires { ⌜ (i < count) × (getD (now fields) (i * 12) 0 + left + 1 ≡ 7) × (end .0 ≤ length (now mpdu) * 8) × (width ≤ end .0)
+        × ((n + ext (fieldsIn (now text) (now fields) count) i) * 6 ≤ length (now rows) + 6) ⌝ }
     ensures { λ r.
         let ps = fieldsIn (now (text .entry)) (now (fields .entry)) count in
         ⌜ Fills (now (rows .exit)) (innerDone ps (now (mpdu .entry)) left i (end .0) width (rowsIn (now (rows .entry)) n)) r ⌝ }

@@ -45,7 +45,8 @@ use Rattle.libtap.specs.Commands.{toldParams, ToldParams}
 pub tells-rows : (f : Frames) (n : ℕ) → f ≡ Rows n → record { refusal = 0; value = n } ≡ told f
 tells-rows f n e = rw e refl
 
-pub tells-refusal : (f : Frames) (x : Refusal) (number carried : ℕ) → f ≡ Refused x → number ≡ numberOf x → carried ≡ carriedBy x → record { refusal = number; value = carried } ≡ told f
+pub tells-refusal : (f : Frames) (x : Refusal) (number carried : ℕ) → f ≡ Refused x → number ≡ numberOf x → carried ≡ carriedBy x
+    → record { refusal = number; value = carried } ≡ told f
 tells-refusal f x number carried e is-number is-carried = rw (e, is-number, is-carried) refl
 
 pub told-all : (s t : List ℕ) (f : Frames) (r : TapAnswer) (t′ : List ℕ) → Parses s t f t′ → r ≡ told f → Told s t r t′
@@ -54,7 +55,8 @@ told-all s t f r t′ p is-r = record { answer = is-r ∙ ap told (p .answer); t
 pub counts : (c : Counted) (n : ℕ) → c ≡ Records n → record { refusal = 0; value = n } ≡ counted c
 counts c n e = rw e refl
 
-pub counts-refusal : (c : Counted) (x : Refusal) (number carried : ℕ) → c ≡ Uncounted x → number ≡ numberOf x → carried ≡ carriedBy x → record { refusal = number; value = carried } ≡ counted c
+pub counts-refusal : (c : Counted) (x : Refusal) (number carried : ℕ) → c ≡ Uncounted x → number ≡ numberOf x → carried ≡ carriedBy x
+    → record { refusal = number; value = carried } ≡ counted c
 counts-refusal c x number carried e is-number is-carried = rw (e, is-number, is-carried) refl
 
 pub counts-all : (c d : Counted) (r : TapAnswer) → c ≡ d → r ≡ counted c → r ≡ counted d
@@ -64,14 +66,27 @@ pub parts : (s : List ℕ) (k : ℕ) (b : Span) → IsBody s k b → record { st
 parts s k b body = rw (body .is) refl
 
 pub framed-row : (f : PtiFrame) (row : List ℕ) → row ≡ rowOf 0 f
-    → record { refusal = 0; value = 0; direction = getD row 0 0; region = getD row 1 0; channel = getD row 2 0; rate = getD row 3 0; rssi = getD row 4 0; beams = getD row 5 0; start = getD row 6 0; length = getD row 7 0 } ≡ framed f
+    → record {
+      refusal = 0;
+      value = 0;
+      direction = getD row 0 0;
+      region = getD row 1 0;
+      channel = getD row 2 0;
+      rate = getD row 3 0;
+      rssi =
+          getD row 4 0;
+      beams = getD row 5 0;
+      start = getD row 6 0;
+      length = getD row 7 0;
+    } ≡ framed f
 framed-row f row e = let z : 0 + f .start .0 ≡ f .start .0 = omega arith in rw (e, z) refl
 
 pub frames : (p : Parsed) (f : PtiFrame) (r : TapFrame) → p ≡ Frame f → r ≡ framed f → r ≡ toldFrame p
 frames p f r e is-r = rw e is-r
 
 pub frames-refusal : (p : Parsed) (x : Refusal) (number carried : ℕ) → p ≡ NoFrame x → number ≡ numberOf x → carried ≡ carriedBy x
-    → record { refusal = number; value = carried; direction = 0; region = 0; channel = 0; rate = 0; rssi = 0; beams = 0; start = 0; length = 0 } ≡ toldFrame p
+    → record { refusal = number; value = carried; direction = 0; region = 0; channel = 0; rate = 0; rssi = 0; beams = 0; start = 0; length = 0 }
+    ≡ toldFrame p
 frames-refusal p x number carried e is-number is-carried = rw (e, is-number, is-carried) refl
 
 pub frames-all : (p q : Parsed) (r : TapFrame) → p ≡ q → r ≡ toldFrame p → r ≡ toldFrame q
@@ -81,7 +96,8 @@ frames-all p q r e is-r = rw e at is-r
 pub tells-accepted : (v : Verdict) → v ≡ Accepted → record { refusal = 0; value = 0 } ≡ judged v
 tells-accepted v e = rw e refl
 
-pub tells-unfit : (v : Verdict) (x : Refusal) (number carried : ℕ) → v ≡ Unfit x → number ≡ numberOf x → carried ≡ carriedBy x → record { refusal = number; value = carried } ≡ judged v
+pub tells-unfit : (v : Verdict) (x : Refusal) (number carried : ℕ) → v ≡ Unfit x → number ≡ numberOf x → carried ≡ carriedBy x
+    → record { refusal = number; value = carried } ≡ judged v
 tells-unfit v x number carried e is-number is-carried = rw (e, is-number, is-carried) refl
 
 pub tells-verdict : (v w : Verdict) (r : TapAnswer) → v ≡ w → r ≡ judged v → r ≡ judged w
@@ -101,22 +117,38 @@ pub heads : (d : Decoded) (h : DecodedHeader) (r : TapHeader) → d ≡ header.H
 heads d h r e is-r = rw e is-r
 
 pub heads-refusal : (d : Decoded) (x : Refusal) (number carried : ℕ) → d ≡ header.Refused x → number ≡ numberOf x → carried ≡ carriedBy x
-    → record { refusal = number; value = carried; number = 0; key = 0; payload = 0; rows = 0; right = false; ack = false; routed = false; multicast = false; error = false } ≡ toldHeader d
+    → record {
+      refusal = number;
+      value = carried;
+      number = 0;
+      key = 0;
+      payload = 0;
+      rows = 0;
+      right = false;
+      ack = false;
+      routed = false;
+      multicast =
+          false;
+      error = false;
+    } ≡ toldHeader d
 heads-refusal d x number carried e is-number is-carried = rw (e, is-number, is-carried) refl
 
-pub heads-all : (text mpdu : List ℕ) (region speed : ℕ) (t : List ℕ) (d : Decoded) (r : TapHeader) (t′ : List ℕ) → Decodes text mpdu region speed t d t′ → r ≡ toldHeader d
+pub heads-all : (text mpdu : List ℕ) (region speed : ℕ) (t : List ℕ) (d : Decoded) (r : TapHeader) (t′ : List ℕ)
+    → Decodes text mpdu region speed t d t′ → r ≡ toldHeader d
     → ToldHeader text mpdu region speed t r t′
 heads-all text mpdu region speed t d r t′ so is-r = record { answer = d; decodes = so; told = is-r }
 
 -- ---- commands
-pub params : (p : Params) (n : ℕ) (remainder : PayloadOffset) → p ≡ command.Rows n remainder → record { refusal = 0; value = 0; rows = n; remainder = remainder .0 } ≡ toldParams p
+pub params : (p : Params) (n : ℕ) (remainder : PayloadOffset) → p ≡ command.Rows n remainder
+    → record { refusal = 0; value = 0; rows = n; remainder = remainder .0 } ≡ toldParams p
 params p n remainder e = rw e refl
 
 pub params-refusal : (p : Params) (x : Refusal) (number carried : ℕ) → p ≡ command.Refused x → number ≡ numberOf x → carried ≡ carriedBy x
     → record { refusal = number; value = carried; rows = 0; remainder = 0 } ≡ toldParams p
 params-refusal p x number carried e is-number is-carried = rw (e, is-number, is-carried) refl
 
-pub params-all : (text payload t : List ℕ) (p : Params) (r : TapParams) (t′ : List ℕ) → DecodesParams text payload t p t′ → r ≡ toldParams p → ToldParams text payload t r t′
+pub params-all : (text payload t : List ℕ) (p : Params) (r : TapParams) (t′ : List ℕ) → DecodesParams text payload t p t′ → r ≡ toldParams p
+    → ToldParams text payload t r t′
 params-all text payload t p r t′ so is-r = record { answer = p; decodes = so; told = is-r }
 
 -- ---- tap_command_part
@@ -124,4 +156,29 @@ pub command-lies : (n payload speed : ℕ) (p : Part) → p ≡ commandPart n pa
     → record { start = p .start; length = p .length } ≡ part (span (commandPart n payload speed))
 command-lies n payload speed p e = ap (λ (q : Part). part (span q)) e
 
-pub ruleset laws = (tells-rows, tells-refusal, told-all, counts, counts-refusal, counts-all, parts, framed-row, frames, frames-refusal, frames-all, tells-accepted, tells-unfit, tells-verdict, reads-value, reads-none, reads-all, heads, heads-refusal, heads-all, params, params-refusal, params-all, command-lies)
+pub ruleset laws = (
+  tells-rows,
+  tells-refusal,
+  told-all,
+  counts,
+  counts-refusal,
+  counts-all,
+  parts,
+  framed-row,
+  frames,
+  frames-refusal,
+  frames-all,
+  tells-accepted,
+  tells-unfit,
+  tells-verdict,
+  reads-value,
+  reads-none,
+  reads-all,
+  heads,
+  heads-refusal,
+  heads-all,
+  params,
+  params-refusal,
+  params-all,
+  command-lies,
+)

@@ -42,7 +42,8 @@ module _ (b : List ℕ) (r : Split) (is-r : r ≡ splitOf b) where
   holds-none e = rw (split-none b r is-r e) refl
 
 -- ---- the row of a frame
-pub row-is : (f : PtiFrame) (body d rssi beams start : ℕ) → d ≡ directionNumber (f .direction) → rssi ≡ ofZ w8 (toZ w8 (ofZ w8 (f .rssi))) → mag (f .rssi) < 2 ^ hbits w8 → beams ≡ beamsNumber (f .beams) → start ≡ body + f .start .0
+pub row-is : (f : PtiFrame) (body d rssi beams start : ℕ) → d ≡ directionNumber (f .direction) → rssi ≡ ofZ w8 (toZ w8 (ofZ w8 (f .rssi)))
+    → mag (f .rssi) < 2 ^ hbits w8 → beams ≡ beamsNumber (f .beams) → start ≡ body + f .start .0
     → (d ∷ f .region ∷ f .channel ∷ f .rate ∷ rssi ∷ beams ∷ start ∷ f .length ∷ []) ≡ rowOf body f
 row-is f body d rssi beams start is-d is-rssi ok is-beams is-start =
     let read-back : toZ w8 (ofZ w8 (f .rssi)) ≡ f .rssi = toZ-ofZ {w = w8} {z = f .rssi} (record { sfits = ok }) in
@@ -65,14 +66,16 @@ module _ (b : List ℕ) (start n : ℕ) (t : List ℕ) (x : Split) (is-x : x ≡
   pub writes-none : x ≡ NoSplit → Writes b start n t n t
   writes-none e = let none = split-none b x is-x e in record { next = rw none (omega arith); table = rw none refl }
 
-  pub writes-row : (p : Parts) (f : PtiFrame) (row t′ : List ℕ) → x ≡ Into p → f ≡ frameOf b → row ≡ rowOf start f → t′ ≡ put t (n * 8) row → Writes b start n t (n + 1) t′
+  pub writes-row : (p : Parts) (f : PtiFrame) (row t′ : List ℕ) → x ≡ Into p → f ≡ frameOf b → row ≡ rowOf start f
+      → t′ ≡ put t (n * 8) row → Writes b start n t (n + 1) t′
   writes-row p f row t′ e is-f is-row is-t =
       let some = split-frame b x is-x p e in
       let the-row : row ≡ rowOf start (frameOf b) = rw is-f at is-row in
       record { next = rw some refl; table = rw some (rw the-row at is-t) }
 
 -- ---- the count
-counted-row : (s : List ℕ) (b : ℕ × ℕ) (bs : List (ℕ × ℕ)) → length (rowsIn s (b ∷ bs)) ≡ cond (isFrame (bytesOf s b)) 1 0 + length (rowsIn s bs)
+counted-row : (s : List ℕ) (b : ℕ × ℕ) (bs : List (ℕ × ℕ))
+    → length (rowsIn s (b ∷ bs)) ≡ cond (isFrame (bytesOf s b)) 1 0 + length (rowsIn s bs)
 unfolding rowsIn
 counted-row s b bs = go (isFrame (bytesOf s b))
   where
@@ -129,7 +132,8 @@ pub record Writing (s t₀ t : List ℕ) (n at : ℕ) : Type 0 where
 pub writing-starts : (s t : List ℕ) → length (rowsOf s) * 8 ≤ length t → Writing s t t 0 1
 writing-starts s t room = record { rest = refl; room = omega arith; same = refl; low = omega arith }
 
-pub written : (s t₀ t : List ℕ) (n at : ℕ) (r : Next) → Writing s t₀ t n at → Follows s at r → r ≡ NoMore → length (rowsOf s) * 8 ≤ length t₀ → t ≡ laid t₀ (rowsOf s)
+pub written : (s t₀ t : List ℕ) (n at : ℕ) (r : Next) → Writing s t₀ t n at → Follows s at r → r ≡ NoMore
+    → length (rowsOf s) * 8 ≤ length t₀ → t ≡ laid t₀ (rowsOf s)
 unfolding rowsIn
 written s t₀ t n at r w follows e room =
     let none : bodiesFrom s at ≡ [] = rw e at follows in
@@ -195,7 +199,8 @@ no-length (x ∷ xs) h = absurd (omega arith)
 
 module _ (s t : List ℕ) (needed : ℕ) (is-needed : needed ≡ length (rowsOf s)) (short : length s ≤ 65535) where
   pub parses-more : length t / 8 < needed → Parses s t (Refused (MoreRows needed)) t
-  parses-more few = rw is-needed (record { answer = rw (le-leb (length s) 65535 short, lt-leb (length (rowsOf s)) (length t / 8) (omega arith)) refl; table = refl })
+  parses-more few =
+      rw is-needed (record { answer = rw (le-leb (length s) 65535 short, lt-leb (length (rowsOf s)) (length t / 8) (omega arith)) refl; table = refl })
 
   pub parses-none : needed ≡ 0 → Parses s t (Rows 0) t
   parses-none none =
@@ -206,7 +211,34 @@ module _ (s t : List ℕ) (needed : ℕ) (is-needed : needed ≡ length (rowsOf 
   rows-fit enough = omega arith
 
   pub parses-all : (t′ : List ℕ) → needed ≤ length t / 8 → t′ ≡ laid t (rowsOf s) → Parses s t (Rows needed) t′
-  parses-all t′ enough is-t = rw is-needed (record { answer = rw (le-leb (length s) 65535 short, le-leb (length (rowsOf s)) (length t / 8) (omega arith)) refl; table = is-t })
+  parses-all t′ enough is-t =
+      rw is-needed (record { answer = rw (le-leb (length s) 65535 short, le-leb (length (rowsOf s)) (length t / 8) (omega arith)) refl; table = is-t })
 
 -- what the proofs of the functions go by
-pub ruleset laws = (body-nearer, body-ordered, body-inside, after-fits, parts-in, holds-one, holds-none, tallying-starts, tallied, tallying-more, tally-fits, row-is, mpdu-fits, writes-none, writes-row, writing-starts, written, start-low, writing-more, rows-so-far, parses-long, parses-none, parses-more, rows-fit, parses-all)
+pub ruleset laws = (
+  body-nearer,
+  body-ordered,
+  body-inside,
+  after-fits,
+  parts-in,
+  holds-one,
+  holds-none,
+  tallying-starts,
+  tallied,
+  tallying-more,
+  tally-fits,
+  row-is,
+  mpdu-fits,
+  writes-none,
+  writes-row,
+  writing-starts,
+  written,
+  start-low,
+  writing-more,
+  rows-so-far,
+  parses-long,
+  parses-none,
+  parses-more,
+  rows-fit,
+  parses-all,
+)

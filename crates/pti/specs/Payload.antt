@@ -32,7 +32,8 @@ beamsNumber NoBeam = 0
 -- F17: the row of a frame whose body starts at this place of the payload
 abbrev pub rowOf : ℕ → PtiFrame → List ℕ
 rowOf body f =
-    directionNumber (f .direction) ∷ f .region ∷ f .channel ∷ f .rate ∷ ofZ w8 (f .rssi) ∷ beamsNumber (f .beams) ∷ (body + f .start .0) ∷ f .length ∷ []
+    directionNumber (f .direction) ∷ f .region ∷ f .channel ∷ f .rate ∷ ofZ w8 (f .rssi) ∷ beamsNumber
+    (f .beams) ∷ (body + f .start .0) ∷ f .length ∷ []
 
 -- F18: the rows of the bodies that hold a frame, in their order
 unfoldable pub rowsIn : List ℕ → List (ℕ × ℕ) → List (List ℕ)

@@ -53,7 +53,8 @@ module _ (m : List ℕ) (at w : ℕ) where
   module _ (i : ℕ) (s : Same i) (in-m : w ≤ length m) (more : i < w) (room : w ≤ length m - at) where
     here : startsWith (take w m) (drop at m) ≡ eqb (getD m i 0) (getD m (at + i) 0) && startsWith (drop (i + 1) (take w m)) (drop (at + i + 1) m)
     here =
-        let f : drop i (take w m) ≡ getD m i 0 ∷ drop (i + 1) (take w m) = rw (← getD-take w m i 0 more) (next (take w m) i (rw (length-take-le w m in-m) more)) in
+        let f : drop i (take w m) ≡ getD m i 0 ∷ drop (i + 1) (take w m) =
+        rw (← getD-take w m i 0 more) (next (take w m) i (rw (length-take-le w m in-m) more)) in
         s .rest ∙ rw (f, next m (at + i) (omega arith)) refl
 
     pub same-differs : (getD m i 0 ≡ getD m (at + i) 0 → ⊥) → false ≡ asked
@@ -93,13 +94,15 @@ pub record Beaming (m : List ℕ) (w count at : ℕ) : Type 0 where
 pub beaming-starts : (m : List ℕ) (w : ℕ) → Beaming m w 1 w
 beaming-starts m w = record { sum = refl; low = omega arith }
 
-pub beams-all : (rate : ℕ) (m : List ℕ) (w count at : ℕ) → Beaming m w count at → w ≡ widthOf rate (length m) → length m ≤ at → count ≡ beamsOf rate m
+pub beams-all : (rate : ℕ) (m : List ℕ) (w count at : ℕ) → Beaming m w count at → w ≡ widthOf rate (length m) → length m ≤ at
+    → count ≡ beamsOf rate m
 unfolding beamsOf
 beams-all rate m w count at b e end =
     let sum : count ≡ 1 + again (take w m) 0 (drop w m) = omega (arith, rw (done m at end) at (b .sum)) in
     rw (← e) sum
 
-module _ (rate : ℕ) (m : List ℕ) (w count at : ℕ) (t : Bool) (b : Beaming m w count at) (e : w ≡ widthOf rate (length m)) (in-m : w ≤ length m) (more : at < length m) (is-t : t ≡ asked m at w) where
+module _ (rate : ℕ) (m : List ℕ) (w count at : ℕ) (t : Bool) (b : Beaming m w count at) (e : w ≡ widthOf rate (length m)) (in-m : w ≤ length m)
+    (more : at < length m) (is-t : t ≡ asked m at w) where
   here-again : again (take w m) 0 (drop at m) ≡ cond t (again (take w m) 0 (drop (at + w) m) + 1) (again (take w m) 0 (drop (at + 1) m))
   here-again =
       let n = next m at more in
@@ -120,4 +123,20 @@ module _ (rate : ℕ) (m : List ℕ) (w count at : ℕ) (t : Bool) (b : Beaming 
   pub beaming-nearer : length m - (at + w) < length m - at
   beaming-nearer = let some : 0 < w = rw e (some-width rate (length m) (omega arith)) in omega arith
 
-pub ruleset beam-laws = (left-smaller, right-smaller, long-width, short-width, no-marker, no-room, same-starts, same-differs, same-more, same-all, beaming-starts, beams-all, beaming-hit, beaming-miss, beaming-nearer)
+pub ruleset beam-laws = (
+  left-smaller,
+  right-smaller,
+  long-width,
+  short-width,
+  no-marker,
+  no-room,
+  same-starts,
+  same-differs,
+  same-more,
+  same-all,
+  beaming-starts,
+  beams-all,
+  beaming-hit,
+  beaming-miss,
+  beaming-nearer,
+)

@@ -30,7 +30,8 @@ fn beam_width(rate: u8, m: usize) -> usize
 // Do the first `width` middle bytes stand again at a place, with their marker?
 fn repeats_at(middle: &[u8], at: usize, width: usize) -> bool
     requires { ⌜ (at < length (now middle)) × (width ≤ length (now middle)) ⌝ }
-    ensures { λ r. ⌜ r ≡ (eqb (getD (now (middle .entry)) at 0) 0x55 && startsWith (take width (now (middle .entry))) (drop at (now (middle .entry)))) ⌝ }
+    ensures { λ r. ⌜ r ≡ (eqb (getD (now (middle .entry)) at 0) 0x55 && startsWith (take width (now (middle .entry))) (drop at (now (middle .entry))))
+        ⌝ }
 {
     if middle[at] != BEAM_MARKER {
         return false;

@@ -34,14 +34,29 @@ module _ (s : List ℕ) (at : ℕ) where
 
   module _ (some : 4 < length s) (inside : at < length s) (end : at + getD s at 0 < length s) where
     pub stop-open : (getD s (at - 1) 0 ≡ 0x5B → ⊥) → Stop ≡ recordAt s at
-    stop-open opened = rw (lt-ltb 4 (length s) some, lt-ltb at (length s) inside, lt-ltb (at + getD s at 0) (length s) end, ne-eqb (getD s (at - 1) 0) 0x5B opened)
+    stop-open opened =
+        rw (lt-ltb 4 (length s) some, lt-ltb at (length s) inside, lt-ltb (at + getD s at 0) (length s) end, ne-eqb (getD s (at - 1) 0) 0x5B opened)
 
     module _ (opened : getD s (at - 1) 0 ≡ 0x5B) where
       pub stop-close : (getD s (at + getD s at 0) 0 ≡ 0x5D → ⊥) → Stop ≡ recordAt s at
-      stop-close closed = rw (lt-ltb 4 (length s) some, lt-ltb at (length s) inside, lt-ltb (at + getD s at 0) (length s) end, eq-eqb (getD s (at - 1) 0) 0x5B opened, ne-eqb (getD s (at + getD s at 0) 0) 0x5D closed)
+      stop-close closed = rw (
+        lt-ltb 4 (length s) some,
+        lt-ltb at (length s) inside,
+        lt-ltb (at + getD s at 0) (length s) end,
+        eq-eqb
+            (getD s (at - 1) 0) 0x5B opened,
+        ne-eqb (getD s (at + getD s at 0) 0) 0x5D closed,
+      )
 
       pub goes-on : getD s (at + getD s at 0) 0 ≡ 0x5D → Record (getD s at 0) ≡ recordAt s at
-      goes-on closed = rw (lt-ltb 4 (length s) some, lt-ltb at (length s) inside, lt-ltb (at + getD s at 0) (length s) end, eq-eqb (getD s (at - 1) 0) 0x5B opened, eq-eqb (getD s (at + getD s at 0) 0) 0x5D closed)
+      goes-on closed = rw (
+        lt-ltb 4 (length s) some,
+        lt-ltb at (length s) inside,
+        lt-ltb (at + getD s at 0) (length s) end,
+        eq-eqb
+            (getD s (at - 1) 0) 0x5B opened,
+        eq-eqb (getD s (at + getD s at 0) 0) 0x5D closed,
+      )
 
 -- ---- the bodies from a place on
 -- a number of records that reaches the end is as good as any other
@@ -153,7 +168,8 @@ counting-starts s = record { sum = omega arith; low = omega arith }
 pub counted-none : (s : List ℕ) → 65535 < length s → Refused (TooLong (length s)) ≡ countedOf s
 counted-none s long = rw (lt-leb (length s) 65535 long) refl
 
-pub counted-all : (s : List ℕ) (count at : ℕ) (r : Next) → Counting s count at → Follows s at r → r ≡ NoMore → length s ≤ 65535 → Records count ≡ countedOf s
+pub counted-all : (s : List ℕ) (count at : ℕ) (r : Next) → Counting s count at → Follows s at r → r ≡ NoMore → length s ≤ 65535
+    → Records count ≡ countedOf s
 counted-all s count at r w follows e short =
     let none : bodiesFrom s at ≡ [] = rw e at follows in
     let sum : count ≡ length (bodies s) = omega (arith, w .sum, ap length none) in
@@ -200,11 +216,45 @@ module _ (s : List ℕ) (k left at : ℕ) (r : Next) (w : Seeking s k left at) (
   pub seeking-more : (b : Span) → r ≡ Body b → (left ≡ 0 → ⊥) → Seeking s k (left - 1) (b .end .0 + 2)
   seeking-more b is-b some =
       let l = led s at r b follows is-b in
-      record { same = sym (later (b .start .0, b .end .0 - b .start .0) (bodiesFrom s (b .end .0 + 2)) left some) ∙ (rw (l .first) at (w .same)); low = omega arith }
+      record {
+        same = sym (later (b .start .0, b .end .0 - b .start .0) (bodiesFrom s (b .end .0 + 2)) left some) ∙ (rw (l .first) at (w .same));
+        low =
+            omega arith;
+      }
 
 -- a part of the payload is body k, once its place and its length are
-pub shown : (s r : RefT (List ℕ)) (k : ℕ) (b : Span) → IsBody (now s) k b → ptr r .0 ≡ ptr s .0 → ptr r .1 ≡ ptr s .1 + b .start .0 → now r ≡ take (b .end .0 - b .start .0) (drop (b .start .0) (now s)) → PartOf s r (spanOf (now s) k)
+pub shown : (s r : RefT (List ℕ)) (k : ℕ) (b : Span) → IsBody (now s) k b → ptr r .0 ≡ ptr s .0 → ptr r .1 ≡ ptr s .1 + b .start .0
+    → now r ≡ take (b .end .0 - b .start .0) (drop (b .start .0) (now s)) → PartOf s r (spanOf (now s) k)
 shown s r k b body block place bytes = rw (body .is) (record { block = block; place = place; bytes = bytes })
 
 -- what the proofs of the functions go by
-pub ruleset laws = (stop-few, stop-past, stop-end, stop-open, stop-close, goes-on, nearer, start-fits, end-fits, next-fits, passing-starts, no-more, passing-more, leads, body-nearer, body-ordered, body-inside, after-fits, counting-starts, counted-none, counted-all, counting-more, count-fits, seeking-starts, body-long, body-past, body-here, seeking-more)
+pub ruleset laws = (
+  stop-few,
+  stop-past,
+  stop-end,
+  stop-open,
+  stop-close,
+  goes-on,
+  nearer,
+  start-fits,
+  end-fits,
+  next-fits,
+  passing-starts,
+  no-more,
+  passing-more,
+  leads,
+  body-nearer,
+  body-ordered,
+  body-inside,
+  after-fits,
+  counting-starts,
+  counted-none,
+  counted-all,
+  counting-more,
+  count-fits,
+  seeking-starts,
+  body-long,
+  body-past,
+  body-here,
+  seeking-more,
+)

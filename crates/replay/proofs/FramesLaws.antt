@@ -17,7 +17,8 @@ pub row-front : (row : List ℕ) → 8 ≤ length row → 4 ≡ length (take 4 r
 row-front row h = taken row 4 (omega arith)
 
 -- the row of a single frame
-pub row-alone : (f : PtiFrame) (d rssi beams : ℕ) → d ≡ directionNumber (f .direction) → rssi ≡ ofZ w8 (toZ w8 (ofZ w8 (f .rssi))) → mag (f .rssi) < 2 ^ hbits w8 → beams ≡ beamsNumber (f .beams)
+pub row-alone : (f : PtiFrame) (d rssi beams : ℕ) → d ≡ directionNumber (f .direction) → rssi ≡ ofZ w8 (toZ w8 (ofZ w8 (f .rssi)))
+    → mag (f .rssi) < 2 ^ hbits w8 → beams ≡ beamsNumber (f .beams)
     → (d ∷ f .region ∷ f .channel ∷ f .rate ∷ rssi ∷ beams ∷ f .start .0 ∷ f .length ∷ []) ≡ rowOf 0 f
 row-alone f d rssi beams is-d is-rssi ok is-beams = row-is f 0 d rssi beams (f .start .0) is-d is-rssi ok is-beams (omega arith)
 

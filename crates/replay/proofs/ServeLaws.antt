@@ -75,7 +75,8 @@ module _ (held : List ℕ) (r : Asked) (numbers n : ℕ) (told : Asks held r) (i
 pub rows-stand : (s t t′ : List ℕ) (r : Frames) → Parses s t r t′ → length t′ ≡ length t → Stand t′ r
 rows-stand s t t′ r p same = rw (p .answer) (go (leb (length s) 65535) (leb (length (rowsOf s)) (length t / 8)) (leb-true (length (rowsOf s)) (length t / 8)))
   where
-    go : (a b : Bool) → (b ≡ true → length (rowsOf s) ≤ length t / 8) → Stand t′ (cond a (cond b (Rows (length (rowsOf s))) (Refused (MoreRows (length (rowsOf s))))) (Refused (TooLong (length s))))
+    go : (a b : Bool) → (b ≡ true → length (rowsOf s) ≤ length t / 8)
+        → Stand t′ (cond a (cond b (Rows (length (rowsOf s))) (Refused (MoreRows (length (rowsOf s))))) (Refused (TooLong (length s))))
     go true true room = omega (arith, room refl)
     go true false room = tt
     go false b room = tt
@@ -85,11 +86,27 @@ module _ (t : List ℕ) (r : Frames) (n : ℕ) where
   rows-inside told is = rw is at told
 
 -- as many records as are filled stand in the table of frame records
-pub filled-inside : (records : List FrameRecord) (rows₀ rows : List ℕ) (n lent : ℕ) (t : FrameTable) → FilledFirst records rows₀ n lent t → length rows ≡ length rows₀ → t .filled * 8 ≤ length rows
+pub filled-inside : (records : List FrameRecord) (rows₀ rows : List ℕ) (n lent : ℕ) (t : FrameTable) → FilledFirst records rows₀ n lent t
+    → length rows ≡ length rows₀ → t .filled * 8 ≤ length rows
 filled-inside records rows₀ rows n lent t p same = omega (arith, p .count, fillable-bounds n lent (length rows₀))
 
 -- ---- from request to request
 pub goes-in : (lines : List ℕ) (r : Turn) (i : Input) (used : ℕ) → Goes lines r → r ≡ Next i used → In lines i
 goes-in lines r i used told is = rw is at told
 
-pub ruleset serve-laws = (empty-in, line-ordered, line-inside, line-behind, rest-behind, more-waits, read-waits, long-waits, asked-payload, asked-rows, rows-stand, rows-inside, filled-inside, goes-in)
+pub ruleset serve-laws = (
+  empty-in,
+  line-ordered,
+  line-inside,
+  line-behind,
+  rest-behind,
+  more-waits,
+  read-waits,
+  long-waits,
+  asked-payload,
+  asked-rows,
+  rows-stand,
+  rows-inside,
+  filled-inside,
+  goes-in,
+)

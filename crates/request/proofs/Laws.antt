@@ -20,7 +20,8 @@ use Rattle.request.specs.declared.Bytes.{Bytes}
 use Rattle.request.specs.declared.Bytes.the-variants.{Are, Not as NoBytes}
 use Rattle.request.specs.declared.Both.{Both}
 use Rattle.request.specs.declared.Both.the-variants.{Are as BothAre, Not as NotBoth}
-use Rattle.request.specs.Request.{cut, worth, digitsOf, numberOf, led, leadingOf, digitOf, Decoded, bytes, none, onto, pairsOf, isDash, bytesOf, fitting, Decodes, firstOf, secondOf, fittingBoth, InBoth, DecodesBoth}
+use Rattle.request.specs.Request.{cut, worth, digitsOf, numberOf, led, leadingOf, digitOf, Decoded, bytes, none, onto, pairsOf, isDash, bytesOf}
+use Rattle.request.specs.Request.{fitting, Decodes, firstOf, secondOf, fittingBoth, InBoth, DecodesBoth}
 
 -- ---- where a byte stands
 module _ (b : ℕ) (s : List ℕ) (i : ℕ) (inv : cut b s ≡ i + cut b (drop i s)) where
@@ -163,7 +164,8 @@ long-none (x ∷ y ∷ l) room h = go (ltb (digitOf x) 16 && ltb (digitOf y) 16)
     no-room (bytes l) = lt-leb (suc (length l)) 0 (omega arith)
     no-room none = refl
 
-    go : (t : Bool) (room : ℕ) → room * 2 < suc (suc (length l)) → ((k : ℕ) → k * 2 < length l → fitting k (pairsOf l) ≡ false) → fitting room (cond t (onto ((digitOf x * 16 + digitOf y) ∷ []) (pairsOf l)) none) ≡ false
+    go : (t : Bool) (room : ℕ) → room * 2 < suc (suc (length l)) → ((k : ℕ) → k * 2 < length l → fitting k (pairsOf l) ≡ false)
+        → fitting room (cond t (onto ((digitOf x * 16 + digitOf y) ∷ []) (pairsOf l)) none) ≡ false
     go true zero h ih = no-room (pairsOf l)
     go true (suc room) h ih = one room (pairsOf l) (ih room (omega arith))
     go false room h ih = refl
@@ -216,7 +218,8 @@ module _ (w held : List ℕ) (room n i : ℕ) (p : Pairing w held room n i) (eve
           let byte = high * 16 + low in
           let e : take (i + 1) (set held i byte) ≡ take i held ++ (byte ∷ []) = rw add-one (take-suc-set held i byte (omega (arith, p .same))) in
           record {
-            all = rw (p .all, left, ← is-high, ← is-low, lt-ltb high 16 small, lt-ltb low 16 h, e) (onto-onto (take i held) (byte ∷ []) (pairsOf (drop ((i + 1) * 2) w)));
+            all = rw (p .all, left, ← is-high, ← is-low, lt-ltb high 16 small, lt-ltb low 16 h, e)
+                (onto-onto (take i held) (byte ∷ []) (pairsOf (drop ((i + 1) * 2) w)));
             within = omega arith;
             same = rw length-set (p .same);
           }
@@ -284,7 +287,8 @@ module _ (w held : List ℕ) (e : ℕ) (at-e : e ≡ cut 0x20 w) (r : Bytes) (to
       go none b f = refl
 
   -- the second's bytes go into the rest of the buffer, which is ys then
-  module _ (n : ℕ) (are : r ≡ Are n) (ys : List ℕ) (kept : length ys ≡ length (take (length held - n) (drop n held))) (q : Bytes) (next : Decodes (bytesOf (take (length w - (e + 1)) (drop (e + 1) w))) ys q) where
+  module _ (n : ℕ) (are : r ≡ Are n) (ys : List ℕ) (kept : length ys ≡ length (take (length held - n) (drop n held))) (q : Bytes)
+      (next : Decodes (bytesOf (take (length w - (e + 1)) (drop (e + 1) w))) ys q) where
     first : (n ≤ length held) × (bytesOf (take e w) ≡ bytes (take n held))
     first = rw are at told
 
@@ -344,7 +348,53 @@ module _ (a b : Decoded) (held : List ℕ) (r : Both) (n e : ℕ) (told : Decode
   pub both-starts : n ≤ length held
   both-starts = omega (arith, both .ordered, both .inside)
 
-pub ruleset request-laws = (cut-hit, cut-more, cut-done, reading-starts, digits-done, digits-low, digits-high, digits-over, reading-more, number-empty, number-zero, number-lead, number-digits, leading-alone, leading-not, leading-is, leading-inside, digit-below, digit-decimal, digit-between, digit-letter, digit-above, pairs-odd, pairs-long, pairing-starts, pairs-held, pairs-done, pairs-high, pairs-low, pairing-more, dash-is, dash-not, bytes-empty, bytes-none, bytes-pairs, decoded-inside, taken, both-alone, both-first, both-second, both-fits, both-are, both-ordered, both-inside, both-starts)
+pub ruleset request-laws = (
+  cut-hit,
+  cut-more,
+  cut-done,
+  reading-starts,
+  digits-done,
+  digits-low,
+  digits-high,
+  digits-over,
+  reading-more,
+  number-empty,
+  number-zero,
+  number-lead,
+  number-digits,
+  leading-alone,
+  leading-not,
+  leading-is,
+  leading-inside,
+  digit-below,
+  digit-decimal,
+  digit-between,
+  digit-letter,
+  digit-above,
+  pairs-odd,
+  pairs-long,
+  pairing-starts,
+  pairs-held,
+  pairs-done,
+  pairs-high,
+  pairs-low,
+  pairing-more,
+  dash-is,
+  dash-not,
+  bytes-empty,
+  bytes-none,
+  bytes-pairs,
+  decoded-inside,
+  taken,
+  both-alone,
+  both-first,
+  both-second,
+  both-fits,
+  both-are,
+  both-ordered,
+  both-inside,
+  both-starts,
+)
 
 -- The laws that the proofs of this crate's functions go by.
 pub ruleset laws = (request-laws)

@@ -37,7 +37,8 @@ pub filled-length : (rows : List ℕ) (i : ℕ) (entry : List FrameRecord) → i
 filled-length rows i entry h = length-append (recordsOf i rows) (drop i entry) ∙ omega (arith, records-length i rows, length-drop i entry)
 
 -- record i is stored where i records are filled
-pub filled-more : (rows : List ℕ) (i : ℕ) (entry : List FrameRecord) → i < length entry → set (filled i rows entry) i (recordAt rows i) ≡ filled (i + 1) rows entry
+pub filled-more : (rows : List ℕ) (i : ℕ) (entry : List FrameRecord) → i < length entry
+    → set (filled i rows entry) i (recordAt rows i) ≡ filled (i + 1) rows entry
 filled-more rows i entry h =
     let r = recordAt rows i in
     rw (add-one, drop-cons entry i r h, set-at (recordsOf i rows) (getD entry i r) (drop (suc i) entry) r i (records-length i rows))
@@ -48,7 +49,8 @@ pub fillable-bounds : (n records numbers : ℕ) → (fillableOf n records number
 unfolding fillableOf
 fillable-bounds n records numbers = by-test (leb n records) (leb n (numbers / 8)) (leb-true n records) (leb-true n (numbers / 8))
   where
-    by-test : (t u : Bool) → (t ≡ true → n ≤ records) → (u ≡ true → n ≤ numbers / 8) → (cond (t && u) n 0 ≤ records) × (cond (t && u) n 0 * 8 ≤ numbers)
+    by-test : (t u : Bool) → (t ≡ true → n ≤ records) → (u ≡ true → n ≤ numbers / 8) → (cond (t && u) n 0 ≤ records)
+        × (cond (t && u) n 0 * 8 ≤ numbers)
     by-test true true h k = (h refl, omega (arith, k refl))
     by-test true false h k = (omega arith, omega arith)
     by-test false u h k = (omega arith, omega arith)

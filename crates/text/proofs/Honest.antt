@@ -30,7 +30,8 @@ module _ {R : Type 0} (rules : Rules R) where
   judge-keeps before n [] e = tt
   judge-keeps before n (l ∷ []) e = tt
   judge-keeps before n (l ∷ m ∷ ms) e =
-      go (accepted-line rules before n (rules .form (fields l)) (λ r. judge rules (r ∷ before) (suc n) (m ∷ ms)) (sym (more before n l m ms) ∙ e)) (λ r. judge-keeps (r ∷ before) (suc n) (m ∷ ms))
+      go (accepted-line rules before n (rules .form (fields l)) (λ r. judge rules (r ∷ before) (suc n) (m ∷ ms)) (sym (more before n l m ms) ∙ e))
+      (λ r. judge-keeps (r ∷ before) (suc n) (m ∷ ms))
     where
       go : Allowed rules before (rules .form (fields l)) (λ r. judge rules (r ∷ before) (suc n) (m ∷ ms))
           → ((r : R) → judge rules (r ∷ before) (suc n) (m ∷ ms) ≡ Accepted → Keeps rules (r ∷ before) (records (rules .form) (m ∷ ms)))
@@ -56,7 +57,8 @@ module _ {R : Type 0} (rules : Rules R) where
       go none ih = omega arith
       go (some r) ih = by-tests (rules .over before r) (rules .lost before r)
         where
-          by-tests : (a b : Bool) → carried (cond a (Refused (Limit (suc n))) (cond b (Refused (Owner (suc n))) (judge rules (r ∷ before) (suc (suc n)) (m ∷ ms)))) ≤ n + length (l ∷ m ∷ ms)
+          by-tests : (a b : Bool) → carried (cond a (Refused (Limit (suc n)))
+              (cond b (Refused (Owner (suc n))) (judge rules (r ∷ before) (suc (suc n)) (m ∷ ms)))) ≤ n + length (l ∷ m ∷ ms)
           by-tests true b = omega arith
           by-tests false true = omega arith
           by-tests false false = omega (arith, ih r)
@@ -79,14 +81,16 @@ module _ {R : Type 0} (rules : Rules R) where
       last : (l : List ℕ) → judge rules before n (l ∷ []) ≡ Refused r → n ≤ carriedBy r
       last [] e = absurd (let z : _≡_ {A = ℕ} 0 1 = cc in omega arith)
       last (x ∷ xs) e = let q : Form n ≡ r = cc in rw (← q) (omega arith)
-  judge-from before n (l ∷ m ∷ ms) r e = go (rules .form (fields l)) (λ x. judge-from (x ∷ before) (suc n) (m ∷ ms) r) (sym (more before n l m ms) ∙ e)
+  judge-from before n (l ∷ m ∷ ms) r e =
+      go (rules .form (fields l)) (λ x. judge-from (x ∷ before) (suc n) (m ∷ ms) r) (sym (more before n l m ms) ∙ e)
     where
       go : (x : Option R) → ((y : R) → judge rules (y ∷ before) (suc n) (m ∷ ms) ≡ Refused r → suc n ≤ carriedBy r)
           → sentence rules before n x (λ y. judge rules (y ∷ before) (suc n) (m ∷ ms)) ≡ Refused r → n ≤ carriedBy r
       go none ih e = let q : Form n ≡ r = cc in rw (← q) (omega arith)
       go (some y) ih e = by-tests (rules .over before y) (rules .lost before y) e
         where
-          by-tests : (a b : Bool) → cond a (Refused (Limit n)) (cond b (Refused (Owner n)) (judge rules (y ∷ before) (suc n) (m ∷ ms))) ≡ Refused r → n ≤ carriedBy r
+          by-tests : (a b : Bool) → cond a (Refused (Limit n)) (cond b (Refused (Owner n)) (judge rules (y ∷ before) (suc n) (m ∷ ms))) ≡ Refused r
+              → n ≤ carriedBy r
           by-tests true b e = let q : Limit n ≡ r = cc in rw (← q) (omega arith)
           by-tests false true e = let q : Owner n ≡ r = cc in rw (← q) (omega arith)
           by-tests false false e = omega (arith, ih y e)
@@ -101,10 +105,13 @@ module _ {R : Type 0} (rules : Rules R) where
   judge-front before n [] xs ys r hx hy e h = absurd (omega (arith, judge-from before n xs r e))
   judge-front before n (l ∷ ls) xs ys r hx hy e h =
       judge-line rules before n l (ls ++ ys) (some-more ls ys hy)
-      ∙ go (rules .form (fields l)) (λ x q. judge-front (x ∷ before) (suc n) ls xs ys r hx hy q (omega arith)) (sym (judge-line rules before n l (ls ++ xs) (some-more ls xs hx)) ∙ e)
+      ∙ go (rules .form (fields l)) (λ x q. judge-front (x ∷ before) (suc n) ls xs ys r hx hy q (omega arith))
+      (sym (judge-line rules before n l (ls ++ xs) (some-more ls xs hx)) ∙ e)
     where
-      go : (x : Option R) → ((y : R) → judge rules (y ∷ before) (suc n) (ls ++ xs) ≡ Refused r → judge rules (y ∷ before) (suc n) (ls ++ ys) ≡ Refused r)
-          → sentence rules before n x (λ y. judge rules (y ∷ before) (suc n) (ls ++ xs)) ≡ Refused r → sentence rules before n x (λ y. judge rules (y ∷ before) (suc n) (ls ++ ys)) ≡ Refused r
+      go : (x : Option R) → ((y : R) → judge rules (y ∷ before) (suc n) (ls ++ xs) ≡ Refused r
+          → judge rules (y ∷ before) (suc n) (ls ++ ys) ≡ Refused r)
+          → sentence rules before n x (λ y. judge rules (y ∷ before) (suc n) (ls ++ xs)) ≡ Refused r
+          → sentence rules before n x (λ y. judge rules (y ∷ before) (suc n) (ls ++ ys)) ≡ Refused r
       go none ih e = e
       go (some y) ih e = by-tests (rules .over before y) (rules .lost before y) e
         where
@@ -115,7 +122,8 @@ module _ {R : Type 0} (rules : Rules R) where
           by-tests false false e = ih y e
 
   -- texts whose first lines, the refused one among them, are the same have the same verdict
-  pub verdict-front : (t u : List ℕ) (ls xs ys : List (List ℕ)) (r : Refusal) → lines t ≡ ls ++ xs → lines u ≡ ls ++ ys → (xs ≡ [] → ⊥) → (ys ≡ [] → ⊥)
+  pub verdict-front : (t u : List ℕ) (ls xs ys : List (List ℕ)) (r : Refusal) → lines t ≡ ls ++ xs → lines u ≡ ls ++ ys → (xs ≡ [] → ⊥)
+      → (ys ≡ [] → ⊥)
       → length t ≤ 60000 → length u ≤ 60000 → verdict rules t ≡ Refused r → carriedBy r ≤ length ls → verdict rules u ≡ verdict rules t
   verdict-front t u ls xs ys r et eu hx hy st su e h =
       let jt : verdict rules t ≡ judge rules [] 1 (lines t) = rw (le-ltb 60000 (length t) st) in

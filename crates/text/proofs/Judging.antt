@@ -38,7 +38,8 @@ pub first-reads : (t : List ℕ) → Reads t (first t)
 first-reads [] = refl
 first-reads (x ∷ xs) = go (eqb x 10) (eqb x 9) refl refl (first xs) (first-reads xs)
   where
-    go : (a b : Bool) → eqb x 10 ≡ a → eqb x 9 ≡ b → (r : First) → Reads xs r → Reads (x ∷ xs) (cond a (ended ([] ∷ []) xs) (cond b (after ([] ∷ []) r) (longer x r)))
+    go : (a b : Bool) → eqb x 10 ≡ a → eqb x 9 ≡ b → (r : First) → Reads xs r
+        → Reads (x ∷ xs) (cond a (ended ([] ∷ []) xs) (cond b (after ([] ∷ []) r) (longer x r)))
     go true b p q r h = ([], rw p, refl)
     go false true p q unended h = rw (p, h)
     go false true p q (ended fs rest) h = (x ∷ h .0, rw (p, h .1), rw (q, h .2))
@@ -72,7 +73,8 @@ module _ {R : Type 0} (rules : Rules R) where
       some-left = rw length-drop (omega arith)
 
       -- no fields are told
-      none-told : r .fields ≡ 0 → sentence rules before (p .line) (rules .form (cells t r)) (λ x. judge rules (x ∷ before) (suc (p .line)) (lines (left t (r .next)))) ≡ Refused (Form (p .line))
+      none-told : r .fields ≡ 0 → sentence rules before (p .line) (rules .form (cells t r))
+          (λ x. judge rules (x ∷ before) (suc (p .line)) (lines (left t (r .next)))) ≡ Refused (Form (p .line))
       none-told z =
           let e : cells t r ≡ [] = ap (cellsFrom t (r .marks) 0) z in
           rw (e, brief .empty)
@@ -81,16 +83,19 @@ module _ {R : Type 0} (rules : Rules R) where
       untold true q h = eqb-true (r .fields) 0 q
       untold false q h = absurd (let z : _≡_ {A = ℕ} 0 1 = cc in omega arith)
 
-      fields-told : (b : Bool) (fs : List (List ℕ)) (rest : List ℕ) → ended fs rest ≡ cond b unended (ended (cells t r) (left t (r .next))) → (fs ≡ cells t r) × (rest ≡ left t (r .next))
+      fields-told : (b : Bool) (fs : List (List ℕ)) (rest : List ℕ) → ended fs rest ≡ cond b unended (ended (cells t r) (left t (r .next)))
+          → (fs ≡ cells t r) × (rest ≡ left t (r .next))
       fields-told true fs rest h = absurd (let z : _≡_ {A = ℕ} 0 1 = cc in omega arith)
       fields-told false fs rest h = ((cc), (cc))
 
       go : (f : First) → Reads (left t p) f → short f ≡ heard t r
           → judge rules before (p .line) (lines (left t p))
           ≡ sentence rules before (p .line) (rules .form (cells t r)) (λ x. judge rules (x ∷ before) (suc (p .line)) (lines (left t (r .next))))
-      go unended reads h = ap (judge rules before (p .line)) reads ∙ judge-open before (p .line) (left t p) some-left ∙ sym (none-told (untold (eqb (r .fields) 0) refl h))
+      go unended reads h =
+          ap (judge rules before (p .line)) reads ∙ judge-open before (p .line) (left t p) some-left ∙ sym (none-told (untold (eqb (r .fields) 0) refl h))
       go (ended fs rest) reads h =
-          ap (judge rules before (p .line)) (reads .1) ∙ judge-line before (p .line) (reads .0) (lines rest) (split-some 10 rest) ∙ few (leb (length fs) 9) refl h
+          ap (judge rules before (p .line)) (reads .1) ∙ judge-line before (p .line) (reads .0) (lines rest) (split-some 10 rest)
+          ∙ few (leb (length fs) 9) refl h
         where
           few : (b : Bool) → leb (length fs) 9 ≡ b → cond b (ended fs rest) unended ≡ heard t r
               → sentence rules before (p .line) (rules .form (fields (reads .0))) (λ x. judge rules (x ∷ before) (suc (p .line)) (lines rest))
@@ -110,7 +115,8 @@ module _ {R : Type 0} (rules : Rules R) where
   sofar-end t p before s h = rw (drop-of-length-le t {i = p .at} h) at (s .so)
 
   module _ (brief : Brief) (t : List ℕ) (p : Place) (r : Line) (before : List R) (s : Sofar t p before) (h : p .at < length t) (step : Steps t p r) where
-    decides : sentence rules before (p .line) (rules .form (cells t r)) (λ x. judge rules (x ∷ before) (suc (p .line)) (lines (left t (r .next)))) ≡ judge rules [] 1 (lines t)
+    decides : sentence rules before (p .line) (rules .form (cells t r)) (λ x. judge rules (x ∷ before) (suc (p .line)) (lines (left t (r .next))))
+        ≡ judge rules [] 1 (lines t)
     decides = sym (judge-step brief t p r before h step) ∙ s .so
 
     -- the line isn't one of the forms
@@ -118,7 +124,9 @@ module _ {R : Type 0} (rules : Rules R) where
     sofar-bad e = rw e at decides
 
     module _ (x : R) (e : rules .form (cells t r) ≡ some x) where
-      says : cond (rules .over before x) (Refused (Limit (p .line))) (cond (rules .lost before x) (Refused (Owner (p .line))) (judge rules (x ∷ before) (suc (p .line)) (lines (left t (r .next))))) ≡ judge rules [] 1 (lines t)
+      says : cond (rules .over before x) (Refused (Limit (p .line)))
+          (cond (rules .lost before x) (Refused (Owner (p .line))) (judge rules (x ∷ before) (suc (p .line)) (lines (left t (r .next)))))
+          ≡ judge rules [] 1 (lines t)
       says = rw e at decides
 
       pub sofar-over : rules .over before x ≡ true → Refused (Limit (p .line)) ≡ judge rules [] 1 (lines t)
@@ -169,7 +177,12 @@ module _ {R K : Type 0} (rules : Rules R) (Tells : List R → K → Type 0) wher
     pub checked-on : (k′ : K) → o ≡ on k′ → Checked t (l .next) k′
     checked-on k′ e =
         let m : Meets (c .before) (rules .form (cells t l)) (on k′) = rw e at met in
-        record { before = m .0 ∷ c .before; tells = m .4; sofar = sofar-next rules brief t p l (c .before) (c .sofar) inside step (m .0) (m .1) (m .2) (m .3) }
+        record {
+          before = m .0 ∷ c .before;
+          tells = m .4;
+          sofar =
+              sofar-next rules brief t p l (c .before) (c .sofar) inside step (m .0) (m .1) (m .2) (m .3);
+        }
 
     module _ (short : length t ≤ 60000) where
       pub checked-passed : o ≡ passed → Refused (Limit (p .line)) ≡ verdict rules t

@@ -13,9 +13,11 @@ use mir.Syntax.{w64}
 use mir.Val.{Fits}
 use borrow.Author.Tests.{le-leb, lt-leb, eq-eqb, ne-eqb, eqb-true, leb-true}
 pub use Rattle.laws.proofs.Lists.{next, done, tail}
-use Rattle.text.specs.Text.{onto, split, field, within, without, same, worth, decimal, upTo, value, number, missing, optionalUpTo, optionalValue, optional, name, plain, names, path, optionalName, optionalPath}
+use Rattle.text.specs.Text.{onto, split, field, within, without, same, worth, decimal, upTo, value, number, missing, optionalUpTo, optionalValue}
+use Rattle.text.specs.Text.{optional, name, plain, names, path, optionalName, optionalPath}
 use Rattle.text.specs.Scan.{cut, low, halt, digits}
-use Rattle.text.specs.Place.{First, unended, ended, after, longer, first, short, kindOf, In, cell, cellsFrom, cells, Marked, Cuts, Has, Steps, IsPart, IsOptionalPart}
+use Rattle.text.specs.Place.{First, unended, ended, after, longer, first, short, kindOf, In, cell, cellsFrom, cells, Marked, Cuts, Has, Steps, IsPart}
+use Rattle.text.specs.Place.{IsOptionalPart}
 use Rattle.text.specs.declared.Place.{Place}
 use Rattle.text.specs.declared.Line.{Line}
 use Rattle.text.specs.declared.lines.Fields.{Fields}
@@ -138,10 +140,12 @@ module _ (limit : ℕ) (s : List ℕ) (v i : ℕ) (inv : digits limit 0 s ≡ di
         let w : b ≡ within 48 57 (drop (i + 1) s) = rw tail at rest in
         rw w (digits-more h l u ∙ over limit (v * 10 + (getD s i 0 - 48)) (drop (i + 1) s) o)
 
-    pub digits-over : b ≡ true → i < length s → 48 ≤ getD s i 0 → getD s i 0 ≤ 57 → limit < v * 10 + (getD s i 0 - 48) → Over ≡ digits limit 0 s
+    pub digits-over : b ≡ true → i < length s → 48 ≤ getD s i 0 → getD s i 0 ≤ 57 → limit < v * 10 + (getD s i 0 - 48)
+        → Over ≡ digits limit 0 s
     digits-over e h l u o = rw (past h l u o, e)
 
-    pub digits-stray : b ≡ false → i < length s → 48 ≤ getD s i 0 → getD s i 0 ≤ 57 → limit < v * 10 + (getD s i 0 - 48) → Not ≡ digits limit 0 s
+    pub digits-stray : b ≡ false → i < length s → 48 ≤ getD s i 0 → getD s i 0 ≤ 57 → limit < v * 10 + (getD s i 0 - 48)
+        → Not ≡ digits limit 0 s
     digits-stray e h l u o = rw (past h l u o, e)
 
   pub digits-done : length s ≤ i → v ≤ limit → Is v ≡ digits limit 0 s
@@ -165,7 +169,8 @@ module _ (limit : ℕ) where
   number-lead (x ∷ []) n m e = absurd (m refl)
   number-lead (x ∷ y ∷ ys) n m e = rw (eq-eqb x 48 e)
 
-  pub number-digits : (s : List ℕ) (r : Number) → (length s ≡ 0 → ⊥) → (getD s 0 0 ≡ 48 → ⊥) → r ≡ digits limit 0 s → r ≡ number limit s
+  pub number-digits : (s : List ℕ) (r : Number) → (length s ≡ 0 → ⊥) → (getD s 0 0 ≡ 48 → ⊥) → r ≡ digits limit 0 s
+      → r ≡ number limit s
   number-digits [] r n e d = absurd (n refl)
   number-digits (x ∷ []) r n e d = d
   number-digits (x ∷ y ∷ ys) r n e d = rw (ne-eqb x 48 e) d
@@ -278,7 +283,8 @@ missing-not [] n = refl
 missing-not (x ∷ []) n = absurd (n refl)
 missing-not (x ∷ y ∷ ys) n = rw and-false
 
-pub name-rest : (s : List ℕ) (d r : Bool) → 1 ≤ length s → length s ≤ 40 → d ≡ missing s → d ≡ false → r ≡ within 0x20 0x7e s → r ≡ name s
+pub name-rest : (s : List ℕ) (d r : Bool) → 1 ≤ length s → length s ≤ 40 → d ≡ missing s → d ≡ false → r ≡ within 0x20 0x7e s
+    → r ≡ name s
 name-rest s d r l u e n w = rw (le-leb _ _ l, le-leb _ _ u, ← e, n, and-true) w
 
 pub name-dash : (s : List ℕ) (d : Bool) → d ≡ missing s → d ≡ true → false ≡ name s
@@ -320,7 +326,8 @@ pub split-last : (b : ℕ) (l : List ℕ) → cut b l ≡ length l → split b l
 split-last b [] e = refl
 split-last b (x ∷ xs) e = go (eqb x b) e (split-last b xs)
   where
-    go : (t : Bool) → cond t 0 (suc (cut b xs)) ≡ suc (length xs) → (cut b xs ≡ length xs → split b xs ≡ xs ∷ []) → cond t ([] ∷ split b xs) (onto x (split b xs)) ≡ (x ∷ xs) ∷ []
+    go : (t : Bool) → cond t 0 (suc (cut b xs)) ≡ suc (length xs) → (cut b xs ≡ length xs → split b xs ≡ xs ∷ [])
+        → cond t ([] ∷ split b xs) (onto x (split b xs)) ≡ (x ∷ xs) ∷ []
     go true h ih = absurd (omega arith)
     go false h ih = rw (ih (omega arith))
 
@@ -332,7 +339,10 @@ split-more b l h = rw add-one (by-suc l h)
     by-suc [] h = absurd (omega arith)
     by-suc (x ∷ xs) h = go (eqb x b) h (by-suc xs)
       where
-        go : (t : Bool) → cond t 0 (suc (cut b xs)) < suc (length xs) → (cut b xs < length xs → split b xs ≡ take (cut b xs) xs ∷ split b (drop (suc (cut b xs)) xs)) → cond t ([] ∷ split b xs) (onto x (split b xs)) ≡ take (cond t 0 (suc (cut b xs))) (x ∷ xs) ∷ split b (drop (suc (cond t 0 (suc (cut b xs)))) (x ∷ xs))
+        go : (t : Bool) → cond t 0 (suc (cut b xs)) < suc (length xs)
+            → (cut b xs < length xs → split b xs ≡ take (cut b xs) xs ∷ split b (drop (suc (cut b xs)) xs))
+            → cond t ([] ∷ split b xs) (onto x (split b xs))
+            ≡ take (cond t 0 (suc (cut b xs))) (x ∷ xs) ∷ split b (drop (suc (cond t 0 (suc (cut b xs)))) (x ∷ xs))
         go true h ih = refl
         go false h ih = rw (ih (omega arith))
 
@@ -340,13 +350,15 @@ split-more b l h = rw add-one (by-suc l h)
 pub path-long : (s : List ℕ) → 120 < length s → false ≡ path s
 path-long s h = rw (lt-leb (length s) 120 h)
 
-module _ (s : List ℕ) (at e : ℕ) (r : Bool) (inv : names (split 46 s) ≡ names (split 46 (drop at s))) (at-e : e ≡ cut 46 (take (length s - at) (drop at s))) where
+module _ (s : List ℕ) (at e : ℕ) (r : Bool) (inv : names (split 46 s) ≡ names (split 46 (drop at s)))
+    (at-e : e ≡ cut 46 (take (length s - at) (drop at s))) where
   pub path-last : length s ≤ 120 → e ≡ length (take (length s - at) (drop at s)) → r ≡ name (take (length s - at) (drop at s)) → r ≡ path s
   path-last u l n =
       let p : split 46 (drop at s) ≡ drop at s ∷ [] = split-last 46 (drop at s) (rw tail at (sym at-e ∙ l)) in
       rw (le-leb _ _ u, inv, p, and-true) (rw tail at n)
 
-  module _ (in-e : e ≤ length (take (length s - at) (drop at s))) (not-end : e ≡ length (take (length s - at) (drop at s)) → ⊥) (n : r ≡ name (take e (take (length s - at) (drop at s)))) where
+  module _ (in-e : e ≤ length (take (length s - at) (drop at s))) (not-end : e ≡ length (take (length s - at) (drop at s)) → ⊥)
+      (n : r ≡ name (take e (take (length s - at) (drop at s)))) where
     inside : e < length (drop at s)
     inside = let v : e < length (take (length s - at) (drop at s)) = omega (arith, not-end) in rw tail at v
 
@@ -401,7 +413,18 @@ module _ (s : List ℕ) (b : Bool) (is : b ≡ missing s) where
   pub given-is : b ≡ false → true ≡ not (missing s)
   given-is e = rw (← is, e)
 
-pub ruleset either-laws = (either-value-missing, either-value, given-not, given-is, either-number-missing, either-number, either-name-missing, either-name, either-path-missing, either-path)
+pub ruleset either-laws = (
+  either-value-missing,
+  either-value,
+  given-not,
+  given-is,
+  either-number-missing,
+  either-number,
+  either-name-missing,
+  either-name,
+  either-path-missing,
+  either-path,
+)
 
 -- ---- the first line of a text, by where its first field ends
 
@@ -431,7 +454,8 @@ first-line r h e = rw add-one (by-suc r h e)
     by-suc [] h e = absurd (omega arith)
     by-suc (x ∷ xs) h e = go (eqb x 9) (eqb x 10) refl h e (by-suc xs)
       where
-        go : (a b : Bool) → eqb x 9 ≡ a → cond a 0 (cond b 0 (suc (halt xs))) < suc (length xs) → getD (x ∷ xs) (cond a 0 (cond b 0 (suc (halt xs)))) 0 ≡ 10
+        go : (a b : Bool) → eqb x 9 ≡ a → cond a 0 (cond b 0 (suc (halt xs))) < suc (length xs)
+            → getD (x ∷ xs) (cond a 0 (cond b 0 (suc (halt xs)))) 0 ≡ 10
             → (halt xs < length xs → getD xs (halt xs) 0 ≡ 10 → first xs ≡ ended (take (halt xs) xs ∷ []) (drop (suc (halt xs)) xs))
             → cond b (ended ([] ∷ []) xs) (cond a (after ([] ∷ []) (first xs)) (longer x (first xs)))
             ≡ ended (take (cond a 0 (cond b 0 (suc (halt xs)))) (x ∷ xs) ∷ []) (drop (suc (cond a 0 (cond b 0 (suc (halt xs))))) (x ∷ xs))
@@ -439,15 +463,19 @@ first-line r h e = rw add-one (by-suc r h e)
         go false true q h e ih = refl
         go false false q h e ih = rw (ih (omega arith) e)
 
-pub first-tab : (r : List ℕ) → halt r < length r → (getD r (halt r) 0 ≡ 10 → ⊥) → first r ≡ after (take (halt r) r ∷ []) (first (drop (halt r + 1) r))
+pub first-tab : (r : List ℕ) → halt r < length r → (getD r (halt r) 0 ≡ 10 → ⊥)
+    → first r ≡ after (take (halt r) r ∷ []) (first (drop (halt r + 1) r))
 first-tab r h e = rw add-one (by-suc r h e)
   where
-    by-suc : (r : List ℕ) → halt r < length r → (getD r (halt r) 0 ≡ 10 → ⊥) → first r ≡ after (take (halt r) r ∷ []) (first (drop (suc (halt r)) r))
+    by-suc : (r : List ℕ) → halt r < length r → (getD r (halt r) 0 ≡ 10 → ⊥)
+        → first r ≡ after (take (halt r) r ∷ []) (first (drop (suc (halt r)) r))
     by-suc [] h e = absurd (omega arith)
     by-suc (x ∷ xs) h e = go (eqb x 9) (eqb x 10) refl h e (by-suc xs)
       where
-        go : (a b : Bool) → eqb x 10 ≡ b → cond a 0 (cond b 0 (suc (halt xs))) < suc (length xs) → (getD (x ∷ xs) (cond a 0 (cond b 0 (suc (halt xs)))) 0 ≡ 10 → ⊥)
-            → (halt xs < length xs → (getD xs (halt xs) 0 ≡ 10 → ⊥) → first xs ≡ after (take (halt xs) xs ∷ []) (first (drop (suc (halt xs)) xs)))
+        go : (a b : Bool) → eqb x 10 ≡ b → cond a 0 (cond b 0 (suc (halt xs))) < suc (length xs)
+            → (getD (x ∷ xs) (cond a 0 (cond b 0 (suc (halt xs)))) 0 ≡ 10 → ⊥)
+            → (halt xs < length xs → (getD xs (halt xs) 0 ≡ 10 → ⊥)
+            → first xs ≡ after (take (halt xs) xs ∷ []) (first (drop (suc (halt xs)) xs)))
             → cond b (ended ([] ∷ []) xs) (cond a (after ([] ∷ []) (first xs)) (longer x (first xs)))
             ≡ after (take (cond a 0 (cond b 0 (suc (halt xs)))) (x ∷ xs) ∷ []) (first (drop (suc (cond a 0 (cond b 0 (suc (halt xs))))) (x ∷ xs)))
         go true true q h e ih = absurd (e (eqb-true x 10 q))
@@ -567,7 +595,8 @@ module _ (t : List ℕ) (at n a : ℕ) (m : List ℕ) (so-far : Cutting t at n a
           start = old-mark 0 (omega arith) ∙ so-far .start;
           here = last-mark;
           high = within-text;
-          so = so-far .so ∙ ap (after (cellsFrom t m 0 n)) f ∙ after-after (cellsFrom t m 0 n) (take e (drop a t) ∷ []) (first (drop (a + e + 1) t)) ∙ rw all-cells;
+          so = so-far .so ∙ ap (after (cellsFrom t m 0 n)) f ∙ after-after (cellsFrom t m 0 n) (take e (drop a t) ∷ []) (first (drop (a + e + 1) t))
+              ∙ rw all-cells;
         }
 
     pub cut-line : getD (take (length t - a) (drop a t)) e 0 ≡ 10 → Cuts t at (record { count = n + 1; marks = set m (n + 1) (a + e + 1) })
@@ -645,7 +674,8 @@ module _ (t : List ℕ) (l : Line) (k : ℕ) (has : Has t l k) where
 
   pub part-is : IsPart t (field k (cells t l)) (record { start = getD (l .marks) k 0; len = getD (l .marks) (k + 1) 0 - 1 - getD (l .marks) k 0 })
   part-is =
-      let e : getD (l .marks) (k + 1) 0 - 1 - getD (l .marks) k 0 ≤ length (drop (getD (l .marks) k 0) t) = rw length-drop (omega (arith, has .marked .ends k (has .there))) in
+      let e : getD (l .marks) (k + 1) 0 - 1 - getD (l .marks) k 0 ≤ length (drop (getD (l .marks) k 0) t) =
+      rw length-drop (omega (arith, has .marked .ends k (has .there))) in
       record { says = mark-field; long = rw (← mark-field) (front-count (drop (getD (l .marks) k 0) t) _ e) }
 
 pub ruleset mark-laws = (mark-some, mark-start, mark-end, mark-field, part-is)
@@ -704,7 +734,22 @@ module _ (s f : List ℕ) (part : s ≡ f) where
     pub of-optional-path : r ≡ optionalPath s → r ≡ optionalPath f
     of-optional-path e = rw part at e
 
-pub ruleset of-laws = (of-number, of-value, of-optional-value, of-optional, of-decimal, of-up-to, of-optional-up-to, of-missing, of-given, of-name, of-plain, of-path, of-optional-name, of-optional-path)
+pub ruleset of-laws = (
+  of-number,
+  of-value,
+  of-optional-value,
+  of-optional,
+  of-decimal,
+  of-up-to,
+  of-optional-up-to,
+  of-missing,
+  of-given,
+  of-name,
+  of-plain,
+  of-path,
+  of-optional-name,
+  of-optional-path,
+)
 
 -- ---- the kind of a line
 kind-other : (n : ℕ) (l : List ℕ) → (n ≡ 1 → ⊥) → n ≤ length l → kindOf (take n l ∷ []) ≡ 0
@@ -740,7 +785,8 @@ step-open t p f i h cuts z = record {
   within = record { at-in = omega arith; line-in = omega (arith, i .line-in) };
 }
 
-kind-first : (t m : List ℕ) (n at : ℕ) → (n ≡ 0 → ⊥) → getD m 0 0 ≡ at → kindOf (take (getD m 1 0 - 1 - at) (drop at t) ∷ []) ≡ kindOf (cellsFrom t m 0 n)
+kind-first : (t m : List ℕ) (n at : ℕ) → (n ≡ 0 → ⊥) → getD m 0 0 ≡ at
+    → kindOf (take (getD m 1 0 - 1 - at) (drop at t) ∷ []) ≡ kindOf (cellsFrom t m 0 n)
 kind-first t m zero at o e = absurd (o refl)
 kind-first t m (suc n) at o e = rw (← e) (go (cell t m 0))
   where

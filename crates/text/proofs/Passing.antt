@@ -40,7 +40,8 @@ cut-skip b zero l h = omega arith
 cut-skip b (suc n) [] h = absurd (omega arith)
 cut-skip b (suc n) (x ∷ xs) h = go (eqb x b) h (cut-skip b n xs)
   where
-    go : (t : Bool) → suc n ≤ cond t 0 (suc (cut b xs)) → (n ≤ cut b xs → cut b xs ≡ n + cut b (drop n xs)) → cond t 0 (suc (cut b xs)) ≡ suc n + cut b (drop n xs)
+    go : (t : Bool) → suc n ≤ cond t 0 (suc (cut b xs)) → (n ≤ cut b xs → cut b xs ≡ n + cut b (drop n xs))
+        → cond t 0 (suc (cut b xs)) ≡ suc n + cut b (drop n xs)
     go true q ih = absurd (omega arith)
     go false q ih = omega (arith, ih (omega arith))
 
@@ -85,7 +86,8 @@ module _ (t : List ℕ) (p : Place) (inn : In t p) (inside : p .at < length t) w
       pub over-open : e ≡ length (take (length t - (p .at + sure)) (drop (p .at + sure) t)) → Passes t p (record { at = length t; line = p .line + 1 })
       over-open q = pass-open (sure + e) cut-is (omega (arith, size, long, over-within))
 
-      pub over-line : e ≤ length (take (length t - (p .at + sure)) (drop (p .at + sure) t)) → (e ≡ length (take (length t - (p .at + sure)) (drop (p .at + sure) t)) → ⊥)
+      pub over-line : e ≤ length (take (length t - (p .at + sure)) (drop (p .at + sure) t))
+          → (e ≡ length (take (length t - (p .at + sure)) (drop (p .at + sure) t)) → ⊥)
           → Passes t p (record { at = p .at + sure + e + 1; line = p .line + 1 })
       over-line le ne =
           let s : p .at + sure + e + 1 ≡ p .at + (sure + e + 1) = omega arith in
@@ -140,8 +142,10 @@ module _ {R : Type 0} (rules : Rules R) where
       lines-are = split-more 10 (left t p) ended ∙ rw (pass .says) refl
 
       judged : judge rules (readable .before) (p .line) (lines (left t p))
-          ≡ sentence rules (readable .before) (p .line) (rules .form (fields line)) (λ x. judge rules (x ∷ readable .before) (suc (p .line)) (lines (left t q)))
-      judged = ap (judge rules (readable .before) (p .line)) lines-are ∙ judge-line rules (readable .before) (p .line) line (lines (left t q)) (split-some 10 (left t q))
+          ≡ sentence rules (readable .before) (p .line) (rules .form (fields line))
+          (λ x. judge rules (x ∷ readable .before) (suc (p .line)) (lines (left t q)))
+      judged = ap (judge rules (readable .before) (p .line)) lines-are
+          ∙ judge-line rules (readable .before) (p .line) line (lines (left t q)) (split-some 10 (left t q))
 
       size-is : length line ≡ cut 10 (left t p)
       size-is = length-take-le (cut 10 (left t p)) (left t p) (omega (arith, ended))
@@ -151,7 +155,8 @@ module _ {R : Type 0} (rules : Rules R) where
           let n : length line ≡ cut 10 (left t p) = size-is in
           rw (getD-take (cut 10 (left t p)) (left t p) 0 0 (omega arith), getD-drop (p .at) t 0 0, add-zero) refl
 
-      go : Allowed rules (readable .before) (rules .form (fields line)) (λ x. judge rules (x ∷ readable .before) (suc (p .line)) (lines (left t q))) → Passed t p q
+      go : Allowed rules (readable .before) (rules .form (fields line)) (λ x. judge rules (x ∷ readable .before) (suc (p .line)) (lines (left t q)))
+          → Passed t p q
       go a = record {
         line = line;
         said = a .said;

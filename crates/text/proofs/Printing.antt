@@ -38,7 +38,8 @@ worth-append : (v : ℕ) (l : List ℕ) (x : ℕ) → worth v (l ++ (x ∷ [])) 
 worth-append v [] x = refl
 worth-append v (y ∷ ys) x = worth-append (v * 10 + (y - 48)) ys x
 
-decimal-append : (l : List ℕ) (x : ℕ) → 1 ≤ length l → eqb (getD l 0 0) 48 ≡ false → within 48 57 (l ++ (x ∷ [])) ≡ true → decimal (l ++ (x ∷ [])) ≡ true
+decimal-append : (l : List ℕ) (x : ℕ) → 1 ≤ length l → eqb (getD l 0 0) 48 ≡ false → within 48 57 (l ++ (x ∷ [])) ≡ true
+    → decimal (l ++ (x ∷ [])) ≡ true
 decimal-append [] x h e w = absurd (omega arith)
 decimal-append (y ∷ []) x h e w = rw e w
 decimal-append (y ∷ z ∷ zs) x h e w = rw e w
@@ -64,7 +65,8 @@ digits-show (suc k) n h = go (ltb n 10) refl (digits-show k (n / 10))
     small : n % 10 < 10
     small = mod-lt n (omega arith)
 
-    go : (b : Bool) → ltb n 10 ≡ b → (n / 10 < k → Shows (n / 10) (digitsIn k (n / 10))) → Shows n (cond b ((48 + n) ∷ []) (digitsIn k (n / 10) ++ ((48 + n % 10) ∷ [])))
+    go : (b : Bool) → ltb n 10 ≡ b → (n / 10 < k → Shows (n / 10) (digitsIn k (n / 10)))
+        → Shows n (cond b ((48 + n) ∷ []) (digitsIn k (n / 10) ++ ((48 + n % 10) ∷ [])))
     go true q ih =
         let u : n < 10 = ltb-true n 10 q in
         record {
@@ -77,7 +79,8 @@ digits-show (suc k) n h = go (ltb n 10) refl (digits-show k (n / 10))
     go false q ih =
         let u : 10 ≤ n = ltb-false n 10 q in
         let s : Shows (n / 10) (digitsIn k (n / 10)) = ih (omega (arith, parts, small)) in
-        let w : within 48 57 (digitsIn k (n / 10) ++ ((48 + n % 10) ∷ [])) ≡ true = within-append 48 57 (digitsIn k (n / 10)) ((48 + n % 10) ∷ []) (s .digits) (digit (n % 10) small) in
+        let w : within 48 57 (digitsIn k (n / 10) ++ ((48 + n % 10) ∷ [])) ≡ true =
+        within-append 48 57 (digitsIn k (n / 10)) ((48 + n % 10) ∷ []) (s .digits) (digit (n % 10) small) in
         let d : eqb (getD (digitsIn k (n / 10)) 0 0) 48 ≡ false = s .lead (omega (arith, parts, small)) in
         record {
           digits = w;
@@ -105,7 +108,8 @@ pub clean-shown : (n : ℕ) → Clean (shown n)
 clean-shown n = clean-within 48 57 (shown n) (omega arith) (shown-shows n .digits)
 
 pub clean-name : (l : List ℕ) → name l ≡ true → Clean l
-clean-name l e = clean-within 0x20 0x7e l (omega arith) (and-left (within 0x20 0x7e l) (not (missing l)) (and-right (leb 1 (length l) && leb (length l) 40) _ e))
+clean-name l e =
+    clean-within 0x20 0x7e l (omega arith) (and-left (within 0x20 0x7e l) (not (missing l)) (and-right (leb 1 (length l) && leb (length l) 40) _ e))
 
 -- ---- numbers that are read back
 pub shown-up-to : (limit n : ℕ) → n ≤ limit → upTo limit (shown n) ≡ true
@@ -152,7 +156,8 @@ split-one b (x ∷ xs) e = rw (not-not (eqb x b) (and-left (not (eqb x b)) (with
 
 split-append : (b : ℕ) (p rest : List ℕ) → without b p ≡ true → split b (p ++ b ∷ rest) ≡ p ∷ split b rest
 split-append b [] rest e = rw (eq-eqb b b refl)
-split-append b (x ∷ xs) rest e = rw (not-not (eqb x b) (and-left (not (eqb x b)) (without b xs) e), split-append b xs rest (and-right (not (eqb x b)) (without b xs) e))
+split-append b (x ∷ xs) rest e =
+    rw (not-not (eqb x b) (and-left (not (eqb x b)) (without b xs) e), split-append b xs rest (and-right (not (eqb x b)) (without b xs) e))
 
 pub split-joined : (b : ℕ) (ps : List (List ℕ)) → 1 ≤ length ps → Every (λ p. without b p ≡ true) ps → split b (joined b ps) ≡ ps
 split-joined b [] h e = absurd (omega arith)
@@ -196,18 +201,22 @@ module _ {R : Type 0} (rules : Rules R) (print : R → List (List ℕ)) where
   fields-of r p = split-joined 9 (print r) (p .some-field) (clean-tabs (print r) (p .clean))
 
   lines-of : (r : R) (rs : List R) → Prints rules print r → lines (printed print (r ∷ rs)) ≡ joined 9 (print r) ∷ lines (printed print rs)
-  lines-of r rs p = split-append 10 (joined 9 (print r)) (printed print rs) (without-joined 10 9 (print r) (λ e. omega arith) (clean-ends (print r) (p .clean)))
+  lines-of r rs p =
+      split-append 10 (joined 9 (print r)) (printed print rs) (without-joined 10 9 (print r) (λ e. omega arith) (clean-ends (print r) (p .clean)))
 
-  judge-printed : (before : List R) (n : ℕ) (rs : List R) → Every (Prints rules print) rs → Keeps rules before rs → judge rules before n (lines (printed print rs)) ≡ Accepted
+  judge-printed : (before : List R) (n : ℕ) (rs : List R) → Every (Prints rules print) rs → Keeps rules before rs
+      → judge rules before n (lines (printed print rs)) ≡ Accepted
   judge-printed before n [] p k = refl
   judge-printed before n (r ∷ rs) p k =
-      ap (judge rules before n) (lines-of r rs (p .0)) ∙ judge-line rules before n (joined 9 (print r)) (lines (printed print rs)) (split-some 10 (printed print rs))
+      ap (judge rules before n) (lines-of r rs (p .0)) ∙ judge-line rules before n (joined 9 (print r)) (lines (printed print rs))
+      (split-some 10 (printed print rs))
       ∙ rw (fields-of r (p .0), p .0 .form-is, k .0, k .1) (judge-printed (r ∷ before) (suc n) rs (p .1) (k .2))
 
   records-printed : (rs : List R) → Every (Prints rules print) rs → records (rules .form) (lines (printed print rs)) ≡ rs
   records-printed [] p = refl
   records-printed (r ∷ rs) p =
-      ap (records (rules .form)) (lines-of r rs (p .0)) ∙ records-line rules (joined 9 (print r)) (lines (printed print rs)) (split-some 10 (printed print rs))
+      ap (records (rules .form)) (lines-of r rs (p .0)) ∙ records-line rules (joined 9 (print r)) (lines (printed print rs))
+      (split-some 10 (printed print rs))
       ∙ rw (fields-of r (p .0), p .0 .form-is, records-printed rs (p .1))
 
   -- what is written of records within the rules is accepted, and says these records

@@ -35,7 +35,8 @@ module _ {R : Type 0} (rules : Rules R) where
   accepted-line before n none go e = absurd (let z : _≡_ {A = ℕ} 0 1 = cc in omega arith)
   accepted-line before n (some r) go e = by-tests (rules .over before r) (rules .lost before r) refl refl e
     where
-      by-tests : (a b : Bool) → rules .over before r ≡ a → rules .lost before r ≡ b → cond a (Refused (Limit n)) (cond b (Refused (Owner n)) (go r)) ≡ Accepted → Allowed before (some r) go
+      by-tests : (a b : Bool) → rules .over before r ≡ a → rules .lost before r ≡ b
+          → cond a (Refused (Limit n)) (cond b (Refused (Owner n)) (go r)) ≡ Accepted → Allowed before (some r) go
       by-tests true b p q e = absurd (let z : _≡_ {A = ℕ} 0 1 = cc in omega arith)
       by-tests false true p q e = absurd (let z : _≡_ {A = ℕ} 0 1 = cc in omega arith)
       by-tests false false p q e = record { said = r; is = refl; within = p; owned = q; on = e }
@@ -68,12 +69,14 @@ module _ {R : Type 0} (rules : Rules R) where
     pub rest-is : rest rules t p ≡ said ∷ rest rules t (l .next)
     pub next : Readable rules t (l .next)
 
-  pub records-line : (l : List ℕ) (ms : List (List ℕ)) → (ms ≡ [] → ⊥) → records (rules .form) (l ∷ ms) ≡ onto (rules .form (fields l)) (records (rules .form) ms)
+  pub records-line : (l : List ℕ) (ms : List (List ℕ)) → (ms ≡ [] → ⊥)
+      → records (rules .form) (l ∷ ms) ≡ onto (rules .form (fields l)) (records (rules .form) ms)
   records-line l [] h = absurd (h refl)
   records-line l (m ∷ ms) h = refl
 
   -- the records of what is left, by the line that a step tells
-  records-step : Brief rules → (t : List ℕ) (p : Place) (l : Line) (x : R) → Steps t p l → rules .form (cells t l) ≡ some x → rest rules t p ≡ x ∷ rest rules t (l .next)
+  records-step : Brief rules → (t : List ℕ) (p : Place) (l : Line) (x : R) → Steps t p l → rules .form (cells t l) ≡ some x
+      → rest rules t p ≡ x ∷ rest rules t (l .next)
   records-step brief t p l x step is = go (first (left t p)) (first-reads (left t p)) (step .says)
     where
       -- some fields are told
@@ -83,12 +86,14 @@ module _ {R : Type 0} (rules : Rules R) where
           let y : _≡_ {A = Option R} none (some x) = sym (brief .empty) ∙ (rw e at is) in
           let w : _≡_ {A = ℕ} 0 1 = cc in omega arith
 
-      told : (b : Bool) (f : First) → eqb (l .fields) 0 ≡ b → f ≡ cond b unended (ended (cells t l) (left t (l .next))) → f ≡ ended (cells t l) (left t (l .next))
+      told : (b : Bool) (f : First) → eqb (l .fields) 0 ≡ b → f ≡ cond b unended (ended (cells t l) (left t (l .next)))
+          → f ≡ ended (cells t l) (left t (l .next))
       told true f q h = absurd (untold (eqb-true (l .fields) 0 q))
       told false f q h = h
 
       go : (f : First) → Reads (left t p) f → short f ≡ heard t l → rest rules t p ≡ x ∷ rest rules t (l .next)
-      go unended reads h = absurd (let z : unended ≡ ended (cells t l) (left t (l .next)) = told (eqb (l .fields) 0) unended refl h in let w : _≡_ {A = ℕ} 0 1 = cc in omega arith)
+      go unended reads h = absurd (let z : unended ≡ ended (cells t l) (left t (l .next)) =
+          told (eqb (l .fields) 0) unended refl h in let w : _≡_ {A = ℕ} 0 1 = cc in omega arith)
       go (ended fs more) reads h = few (leb (length fs) 9) (told (eqb (l .fields) 0) (short (ended fs more)) refl h)
         where
           few : (b : Bool) → cond b (ended fs more) unended ≡ ended (cells t l) (left t (l .next)) → rest rules t p ≡ x ∷ rest rules t (l .next)
@@ -100,9 +105,11 @@ module _ {R : Type 0} (rules : Rules R) where
 
   pub said-step : Brief rules → (t : List ℕ) (p : Place) (l : Line) → Readable rules t p → p .at < length t → Steps t p l → Said t p l
   said-step brief t p l readable inside step =
-      go (accepted-line (readable .before) (p .line) (rules .form (cells t l)) _ (sym (judge-step rules brief t p l (readable .before) inside step) ∙ readable .good))
+      go (accepted-line (readable .before) (p .line) (rules .form (cells t l)) _
+      (sym (judge-step rules brief t p l (readable .before) inside step) ∙ readable .good))
     where
-      go : Allowed (readable .before) (rules .form (cells t l)) (λ x. judge rules (x ∷ readable .before) (suc (p .line)) (lines (left t (l .next)))) → Said t p l
+      go : Allowed (readable .before) (rules .form (cells t l)) (λ x. judge rules (x ∷ readable .before) (suc (p .line)) (lines (left t (l .next))))
+          → Said t p l
       go a = record {
         before = readable .before;
         said = a .said;

@@ -25,7 +25,8 @@ ghost use mathlib.Core.Bool.{not};
 ghost use mathlib.Core.List.{[], _∷_};
 ghost use Prim.Native.Nat.{_+_, _-_, _≤_, _<_};
 ghost use lib.ListN.{length, take, drop};
-ghost use Rattle.text.specs.Text.{field, decimal, upTo, value, number, missing, optionalUpTo, optionalValue, optional, name, plain, path, optionalName, optionalPath};
+ghost use Rattle.text.specs.Text.{field, decimal, upTo, value, number, missing, optionalUpTo, optionalValue, optional, name, plain, path};
+ghost use Rattle.text.specs.Text.{optionalName, optionalPath};
 ghost use Rattle.text.specs.Scan.{cut};
 ghost use Rattle.text.specs.Place.{In, Cuts, Steps, Passes, Has, IsPart, IsOptionalPart, cells, kindOf, left};
 

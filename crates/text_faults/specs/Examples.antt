@@ -3,7 +3,8 @@ use mathlib.Core.Path.{_≡_, refl}
 use mathlib.Core.List.{[], _∷_}
 use Rattle.text_faults.specs.Fault.{faultOf}
 use Rattle.text_faults.specs.declared.fault.Want.the-variants.{Number, OptionalNumber, Level, Name, Plain, Path, Flags, FrameType, CommandType}
-use Rattle.text_faults.specs.declared.fault.Fault.the-variants.{Right, Empty, Dash, NotDigit, LeadingZero, Over, Unprintable, Dot, EmptyPart, DashPart, NoType, NoFlags}
+use Rattle.text_faults.specs.declared.fault.Fault.the-variants.{Right, Empty, Dash, NotDigit, LeadingZero, Over, Unprintable, Dot, EmptyPart}
+use Rattle.text_faults.specs.declared.fault.Fault.the-variants.{DashPart, NoType, NoFlags}
 
 -- numbers to 255: 256, 07, 7x, nothing, `-`
 over : faultOf (Number 255) (50 ∷ 53 ∷ 54 ∷ []) ≡ Over

@@ -9,9 +9,11 @@ use Rattle.text.specs.Scan.{cut}
 use Rattle.frame_text.specs.Form as frame
 use Rattle.command_text.specs.Form as command
 use Rattle.text_faults.specs.declared.fault.Want.{Want}
-use Rattle.text_faults.specs.declared.fault.Want.the-variants.{Number, OptionalNumber, Level, Name, Plain, OptionalName, Path, OptionalPath, Flags, FrameType, CommandType}
+use Rattle.text_faults.specs.declared.fault.Want.the-variants.{Number, OptionalNumber, Level, Name, Plain, OptionalName, Path, OptionalPath, Flags}
+use Rattle.text_faults.specs.declared.fault.Want.the-variants.{FrameType, CommandType}
 use Rattle.text_faults.specs.declared.fault.Fault.{Fault}
-use Rattle.text_faults.specs.declared.fault.Fault.the-variants.{Right, Empty, Dash, NotDigit, LeadingZero, Over, TooLong, Unprintable, Dot, EmptyPart, DashPart, LongPart, NoType, NoFlags}
+use Rattle.text_faults.specs.declared.fault.Fault.the-variants.{Right, Empty, Dash, NotDigit, LeadingZero, Over, TooLong, Unprintable, Dot, EmptyPart}
+use Rattle.text_faults.specs.declared.fault.Fault.the-variants.{DashPart, LongPart, NoType, NoFlags}
 
 -- is a field as wanted: by the rules that both texts are checked by
 abbrev pub right : Want → List ℕ → Bool

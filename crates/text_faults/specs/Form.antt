@@ -4,7 +4,8 @@ use Prim.Native.Nat.{ℕ}
 use mathlib.Core.Bool.{cond}
 use lib.Dec.{eqb}
 use Rattle.text_faults.specs.declared.fault.Want.{Want}
-use Rattle.text_faults.specs.declared.fault.Want.the-variants.{Number, OptionalNumber, Level, Name, Plain, OptionalName, Path, OptionalPath, Flags, FrameType, CommandType}
+use Rattle.text_faults.specs.declared.fault.Want.the-variants.{Number, OptionalNumber, Level, Name, Plain, OptionalName, Path, OptionalPath, Flags}
+use Rattle.text_faults.specs.declared.fault.Want.the-variants.{FrameType, CommandType}
 
 -- F, B, H, P, V, D, E
 abbrev pub frameCount : ℕ → ℕ

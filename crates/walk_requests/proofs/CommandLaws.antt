@@ -42,5 +42,6 @@ module _ (payload t t′ : List ℕ) (same : length t′ ≡ length t) where
       judged-stands (verdict text) (ltb 2048 (length payload)) (ltb (length payload) 2) (within (walk (bodyOf payload) (definition text)) (length t))
       (within-stands (walk (bodyOf payload) (definition text)))
 
-pub params-stand : (text payload t : List ℕ) (r : Params) (t′ : List ℕ) → Decodes text payload t r t′ → length t′ ≡ length t → StandParams t′ r
+pub params-stand : (text payload t : List ℕ) (r : Params) (t′ : List ℕ) → Decodes text payload t r t′ → length t′ ≡ length t
+    → StandParams t′ r
 params-stand text payload t r t′ p same = rw (p .answer) (answer-stands payload t t′ same text)

@@ -20,7 +20,8 @@ use Rattle.header.specs.declared.Decoded.the-variants.{Refused}
 use Rattle.header.specs.Decode.{ofTold, judged, keyOf, toldOf, Decodes}
 use Rattle.walk_requests.specs.Walks.{StandHeader}
 
-pub header-stands : (t d : List ℕ) (region speed : ℕ) (table : List ℕ) (r : Decoded) (table′ : List ℕ) → Decodes t d region speed table r table′ → length table′ ≡ length table → StandHeader table′ r
+pub header-stands : (t d : List ℕ) (region speed : ℕ) (table : List ℕ) (r : Decoded) (table′ : List ℕ) → Decodes t d region speed table r table′
+    → length table′ ≡ length table → StandHeader table′ r
 header-stands t d region speed table r table′ p same =
     rw (p .answer)
     (go (verdict t) (ltb 2048 (length d)) (ltb (length d) 2) (toldOf t d region speed (length table))

@@ -97,7 +97,26 @@ module _ (t : List ℕ) (room : length t * 8 < 2 ^ 63) where
   pub params-fits : (r : Params) (n : ℕ) (e : PayloadOffset) → StandParams t r → r ≡ Rows n e → Fits w64 (n * 9)
   params-fits r n e told is = omega (arith, room, params-inside t r n e told is)
 
-pub ruleset walk-laws = (taken-before, table-fits, table-few, table-most, table-room, table-words, radio-words, radio-fits, radio-inside, asked-room, asked-ordered, asked-within, header-fits, params-fits, header-stands, params-stand, header-inside, params-inside)
+pub ruleset walk-laws = (
+  taken-before,
+  table-fits,
+  table-few,
+  table-most,
+  table-room,
+  table-words,
+  radio-words,
+  radio-fits,
+  radio-inside,
+  asked-room,
+  asked-ordered,
+  asked-within,
+  header-fits,
+  params-fits,
+  header-stands,
+  params-stand,
+  header-inside,
+  params-inside,
+)
 
 -- The laws that the proofs of this crate's functions go by.
 pub ruleset laws = (request-laws, walk-laws)

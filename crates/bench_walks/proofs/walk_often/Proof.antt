@@ -13,37 +13,16 @@ Inv-loop text mpdu fields count first start scratch₀ n times bit₀ rows₀ k�
 abbrev μ-loop : tie.MeasureT-loop
 μ-loop text mpdu fields count first start scratch₀ n times bit₀ rows₀ k₀ scratch bit rows k = times - k
 
-loop-holds : tie.Need-loop-holds Inv-loop μ-loop
-loop-holds c = search (needs, laws)
-
-walk-from-requires : tie.Need-walk-from-requires Inv-loop μ-loop
-walk-from-requires c κs = search (needs, laws)
-
-add-k : tie.Need-add-k Inv-loop μ-loop
-add-k c = search (needs, laws)
-
-loop-less : tie.Need-loop-less Inv-loop μ-loop
-loop-less c = search (needs, laws)
-
-loop-again : tie.Need-loop-again Inv-loop μ-loop
-loop-again c = search (needs, laws)
-
-same-length : tie.Need-same-length Inv-loop μ-loop
-same-length c = search (needs, laws)
-
-returns : tie.Need-returns Inv-loop μ-loop
-returns c = search (needs, laws)
-
 pub walk-often-spec : {M : Type 1} → statement M
 walk-often-spec =
     tie.close
     (tie.spec
     Inv-loop
     μ-loop
-    loop-holds
-    walk-from-requires
-    add-k
-    loop-less
-    loop-again
-    same-length
-    returns)
+    (λ c. search (needs, laws))
+    (λ c κs. search (needs, laws))
+    (λ c. search (needs, laws))
+    (λ c. search (needs, laws))
+    (λ c. search (needs, laws))
+    (λ c. search (needs, laws))
+    (λ c. search (needs, laws)))

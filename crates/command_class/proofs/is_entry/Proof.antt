@@ -4,11 +4,5 @@ use Rattle.command_class.proofs.Finding.{among-laws}
 use Rattle.command_class.proofs.is_entry.Statement.{statement}
 use Rattle.command_class.proofs.is_entry.Tie as tie
 
-returns : tie.Need-returns
-returns c = search (needs, among-laws)
-
-returns-2 : tie.Need-returns-2
-returns-2 c = search (needs, among-laws)
-
 pub is-entry-spec : {M : Type 1} → statement M
-is-entry-spec = tie.close (tie.spec returns returns-2)
+is-entry-spec = tie.close (tie.spec (λ c. search (needs, among-laws)) (λ c. search (needs, among-laws)))

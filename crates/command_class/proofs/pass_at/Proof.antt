@@ -4,11 +4,5 @@ use Rattle.command_class.proofs.Beginning.{begin-laws}
 use Rattle.command_class.proofs.pass_at.Statement.{statement}
 use Rattle.command_class.proofs.pass_at.Tie as tie
 
-pass-requires : tie.Need-pass-requires
-pass-requires c κs = search (needs, begin-laws)
-
-returns : tie.Need-returns
-returns c = search (needs, begin-laws)
-
 pub pass-at-spec : {M : Type 1} → statement M
-pass-at-spec = tie.close (tie.spec pass-requires returns)
+pass-at-spec = tie.close (tie.spec (λ c κs. search (needs, begin-laws)) (λ c. search (needs, begin-laws)))

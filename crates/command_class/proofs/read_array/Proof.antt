@@ -4,14 +4,5 @@ use Rattle.command_class.proofs.Rows.{row-laws}
 use Rattle.command_class.proofs.read_array.Statement.{statement}
 use Rattle.command_class.proofs.read_array.Tie as tie
 
-value-requires : tie.Need-value-requires
-value-requires c κs = search (needs, row-laws)
-
-value-requires-2 : tie.Need-value-requires-2
-value-requires-2 c κs = search (needs, row-laws)
-
-returns : tie.Need-returns
-returns c = search (needs, row-laws)
-
 pub read-array-spec : {M : Type 1} → statement M
-read-array-spec = tie.close (tie.spec value-requires value-requires-2 returns)
+read-array-spec = tie.close (tie.spec (λ c κs. search (needs, row-laws)) (λ c κs. search (needs, row-laws)) (λ c. search (needs, row-laws)))

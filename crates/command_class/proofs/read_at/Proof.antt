@@ -4,14 +4,5 @@ use Rattle.command_class.proofs.Rows.{read-laws}
 use Rattle.command_class.proofs.read_at.Statement.{statement}
 use Rattle.command_class.proofs.read_at.Tie as tie
 
-step-requires : tie.Need-step-requires
-step-requires c κs = search (needs, read-laws)
-
-read-row-requires : tie.Need-read-row-requires
-read-row-requires c κs = search (needs, read-laws)
-
-returns : tie.Need-returns
-returns c = search (needs, read-laws)
-
 pub read-at-spec : {M : Type 1} → statement M
-read-at-spec = tie.close (tie.spec step-requires read-row-requires returns)
+read-at-spec = tie.close (tie.spec (λ c κs. search (needs, read-laws)) (λ c κs. search (needs, read-laws)) (λ c. search (needs, read-laws)))

@@ -4,11 +4,5 @@ use Rattle.command_class.proofs.Rows.{row-laws}
 use Rattle.command_class.proofs.read_bitmask.Statement.{statement}
 use Rattle.command_class.proofs.read_bitmask.Tie as tie
 
-or-missing-requires : tie.Need-or-missing-requires
-or-missing-requires c κs = search (needs, row-laws)
-
-returns : tie.Need-returns
-returns c = search (needs, row-laws)
-
 pub read-bitmask-spec : {M : Type 1} → statement M
-read-bitmask-spec = tie.close (tie.spec or-missing-requires returns)
+read-bitmask-spec = tie.close (tie.spec (λ c κs. search (needs, row-laws)) (λ c. search (needs, row-laws)))

@@ -3,8 +3,5 @@ use borrow.Author.Needs.{needs}
 use Rattle.command_kept.proofs.is_far.Statement.{statement}
 use Rattle.command_kept.proofs.is_far.Tie as tie
 
-returns : tie.Need-returns
-returns c = search needs
-
 pub is-far-spec : {M : Type 1} → statement M
-is-far-spec = tie.close (tie.spec returns)
+is-far-spec = tie.close (tie.spec (λ c. search needs))

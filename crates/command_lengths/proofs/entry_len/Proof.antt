@@ -4,39 +4,15 @@ use borrow.Author.Needs.{needs}
 use Rattle.command_lengths.proofs.entry_len.Statement.{statement}
 use Rattle.command_lengths.proofs.entry_len.Tie as tie
 
-enum-known-e : tie.Need-enum-known-e
-enum-known-e c = search (needs, laws)
-
-mask-shift-requires : tie.Need-mask-shift-requires
-mask-shift-requires c κs = search (needs, laws)
-
-enum-told : tie.Need-enum-told
-enum-told c = search (needs, laws)
-
-mask-shift-requires-2 : tie.Need-mask-shift-requires-2
-mask-shift-requires-2 c κs = search (needs, laws)
-
-enum-told-2 : tie.Need-enum-told-2
-enum-told-2 c = search (needs, laws)
-
-returns : tie.Need-returns
-returns c = search (needs, laws)
-
-returns-2 : tie.Need-returns-2
-returns-2 c = search (needs, laws)
-
-returns-3 : tie.Need-returns-3
-returns-3 c = search (needs, laws)
-
 pub entry-len-spec : {M : Type 1} → statement M
 entry-len-spec =
     tie.close
     (tie.spec
-    enum-known-e
-    mask-shift-requires
-    enum-told
-    mask-shift-requires-2
-    enum-told-2
-    returns
-    returns-2
-    returns-3)
+    (λ c. search (needs, laws))
+    (λ c κs. search (needs, laws))
+    (λ c. search (needs, laws))
+    (λ c κs. search (needs, laws))
+    (λ c. search (needs, laws))
+    (λ c. search (needs, laws))
+    (λ c. search (needs, laws))
+    (λ c. search (needs, laws)))

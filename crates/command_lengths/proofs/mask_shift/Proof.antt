@@ -4,14 +4,5 @@ use borrow.Author.Needs.{needs}
 use Rattle.command_lengths.proofs.mask_shift.Statement.{statement}
 use Rattle.command_lengths.proofs.mask_shift.Tie as tie
 
-returns : tie.Need-returns
-returns c = search (needs, laws)
-
-shr-result : tie.Need-shr-result
-shr-result c = search (needs, laws)
-
-returns-2 : tie.Need-returns-2
-returns-2 c = search (needs, laws)
-
 pub mask-shift-spec : {M : Type 1} → statement M
-mask-shift-spec = tie.close (tie.spec returns shr-result returns-2)
+mask-shift-spec = tie.close (tie.spec (λ c. search (needs, laws)) (λ c. search (needs, laws)) (λ c. search (needs, laws)))

@@ -4,20 +4,6 @@ use Rattle.command_param.proofs.Values.{value-laws}
 use Rattle.command_param.proofs.entry_of.Statement.{statement}
 use Rattle.command_param.proofs.entry_of.Tie as tie
 
-enum-known-value : tie.Need-enum-known-value
-enum-known-value c = search (needs, value-laws)
-
-enum-told : tie.Need-enum-told
-enum-told c = search (needs, value-laws)
-
-returns : tie.Need-returns
-returns c = search (needs, value-laws)
-
-low-byte-requires : tie.Need-low-byte-requires
-low-byte-requires c κs = search (needs, value-laws)
-
-returns-2 : tie.Need-returns-2
-returns-2 c = search (needs, value-laws)
-
 pub entry-of-spec : {M : Type 1} → statement M
-entry-of-spec = tie.close (tie.spec enum-known-value enum-told returns low-byte-requires returns-2)
+entry-of-spec = tie.close (tie.spec (λ c. search (needs, value-laws)) (λ c. search (needs, value-laws)) (λ c. search (needs, value-laws))
+    (λ c κs. search (needs, value-laws)) (λ c. search (needs, value-laws)))

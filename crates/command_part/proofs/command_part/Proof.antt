@@ -18,4 +18,5 @@ returns c = part-shown _ _ _ _ (c .before .before .find-command .result) (search
 pub command-part-spec : {M : Type 1} → statement M
 command-part-spec =
     tie.close
-    (tie.spec (λ c κs. search (needs, laws)) (λ c. search (needs, laws)) (λ c. search (needs, laws)) (λ c. search (needs, laws)) (λ c. search (needs, laws)) returns)
+    (tie.spec (λ c κs. search (needs, laws)) (λ c. search (needs, laws)) (λ c. search (needs, laws)) (λ c. search (needs, laws))
+    (λ c. search (needs, laws)) returns)

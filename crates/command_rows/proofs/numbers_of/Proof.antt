@@ -3,8 +3,5 @@ use borrow.Author.Needs.{needs}
 use Rattle.command_rows.proofs.numbers_of.Statement.{statement}
 use Rattle.command_rows.proofs.numbers_of.Tie as tie
 
-returns : tie.Need-returns
-returns c = search needs
-
 pub numbers-of-spec : {M : Type 1} → statement M
-numbers-of-spec = tie.close (tie.spec returns)
+numbers-of-spec = tie.close (tie.spec (λ c. search needs))

@@ -4,14 +4,5 @@ use borrow.Author.Needs.{needs}
 use Rattle.command_rows.proofs.row_at.Statement.{statement}
 use Rattle.command_rows.proofs.row_at.Tie as tie
 
-mul-at : tie.Need-mul-at
-mul-at c = search (needs, laws)
-
-returns : tie.Need-returns
-returns c = search (needs, laws)
-
-returns-2 : tie.Need-returns-2
-returns-2 c = search (needs, laws)
-
 pub row-at-spec : {M : Type 1} → statement M
-row-at-spec = tie.close (tie.spec mul-at returns returns-2)
+row-at-spec = tie.close (tie.spec (λ c. search (needs, laws)) (λ c. search (needs, laws)) (λ c. search (needs, laws)))

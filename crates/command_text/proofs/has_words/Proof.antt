@@ -4,25 +4,8 @@ use Rattle.text.proofs.Tests.{tests}
 use Rattle.command_text.proofs.has_words.Statement.{statement}
 use Rattle.command_text.proofs.has_words.Tie as tie
 
-is-number-requires : tie.Need-is-number-requires
-is-number-requires c κs = search (needs, tests)
-
-type-at-requires : tie.Need-type-at-requires
-type-at-requires c κs = search (needs, tests)
-
-is-name-requires : tie.Need-is-name-requires
-is-name-requires c κs = search (needs, tests)
-
-returns : tie.Need-returns
-returns c = search (needs, tests)
-
-returns-2 : tie.Need-returns-2
-returns-2 c = search (needs, tests)
-
-returns-3 : tie.Need-returns-3
-returns-3 c = search (needs, tests)
-
 pub has-words-spec : {M : Type 1} → statement M
 has-words-spec =
     tie.close
-    (tie.spec is-number-requires type-at-requires is-name-requires returns returns-2 returns-3)
+    (tie.spec (λ c κs. search (needs, tests)) (λ c κs. search (needs, tests)) (λ c κs. search (needs, tests)) (λ c. search (needs, tests))
+    (λ c. search (needs, tests)) (λ c. search (needs, tests)))

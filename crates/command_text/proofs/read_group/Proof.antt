@@ -5,20 +5,6 @@ use Rattle.text.proofs.Tests.{has-field}
 use Rattle.command_text.proofs.read_group.Statement.{statement}
 use Rattle.command_text.proofs.read_group.Tie as tie
 
-returns : tie.Need-returns
-returns c = search (needs, read-laws, has-field)
-
-is-group-requires : tie.Need-is-group-requires
-is-group-requires c κs = search (needs, read-laws, has-field)
-
-value-requires : tie.Need-value-requires
-value-requires c κs = search (needs, read-laws, has-field)
-
-returns-2 : tie.Need-returns-2
-returns-2 c = search (needs, read-laws, has-field)
-
-returns-3 : tie.Need-returns-3
-returns-3 c = search (needs, read-laws, has-field)
-
 pub read-group-spec : {M : Type 1} → statement M
-read-group-spec = tie.close (tie.spec returns is-group-requires value-requires returns-2 returns-3)
+read-group-spec = tie.close (tie.spec (λ c. search (needs, read-laws, has-field)) (λ c κs. search (needs, read-laws, has-field))
+    (λ c κs. search (needs, read-laws, has-field)) (λ c. search (needs, read-laws, has-field)) (λ c. search (needs, read-laws, has-field)))

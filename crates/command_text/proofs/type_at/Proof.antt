@@ -4,14 +4,5 @@ use Rattle.command_text.proofs.Laws.{of-type}
 use Rattle.command_text.proofs.type_at.Statement.{statement}
 use Rattle.command_text.proofs.type_at.Tie as tie
 
-field-requires : tie.Need-field-requires
-field-requires c κs = search (needs, of-type)
-
-is-type-requires : tie.Need-is-type-requires
-is-type-requires c κs = search (needs, of-type)
-
-returns : tie.Need-returns
-returns c = search (needs, of-type)
-
 pub type-at-spec : {M : Type 1} → statement M
-type-at-spec = tie.close (tie.spec field-requires is-type-requires returns)
+type-at-spec = tie.close (tie.spec (λ c κs. search (needs, of-type)) (λ c κs. search (needs, of-type)) (λ c. search (needs, of-type)))

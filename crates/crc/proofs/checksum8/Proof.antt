@@ -14,25 +14,8 @@ Inv-loop body sum₀ i₀ sum i = (i ≤ length body) × (sumFrom sum (drop i bo
 abbrev μ-loop : tie.MeasureT-loop
 μ-loop body sum₀ i₀ sum i = length body - i
 
-loop-holds : tie.Need-loop-holds Inv-loop μ-loop
-loop-holds c = search (needs, laws)
-
-shared-slice-read-sum : tie.Need-shared-slice-read-sum Inv-loop μ-loop
-shared-slice-read-sum c = search (needs, laws)
-
-add-i : tie.Need-add-i Inv-loop μ-loop
-add-i c = search (needs, laws)
-
-loop-less : tie.Need-loop-less Inv-loop μ-loop
-loop-less c = search (needs, laws)
-
-loop-again : tie.Need-loop-again Inv-loop μ-loop
-loop-again c = search (needs, laws)
-
-returns : tie.Need-returns Inv-loop μ-loop
-returns c = search (needs, laws)
-
 pub checksum8-spec : {M : Type 1} → statement M
 checksum8-spec =
     tie.close
-    (tie.spec Inv-loop μ-loop loop-holds shared-slice-read-sum add-i loop-less loop-again returns)
+    (tie.spec Inv-loop μ-loop (λ c. search (needs, laws)) (λ c. search (needs, laws)) (λ c. search (needs, laws)) (λ c. search (needs, laws))
+    (λ c. search (needs, laws)) (λ c. search (needs, laws)))

@@ -11,8 +11,5 @@ crc-by-requires : tie.Need-crc-by-requires
 unfolding turned turn plus times
 crc-by-requires c κs = turned-right
 
-returns : tie.Need-returns
-returns c = search (needs, laws)
-
 pub crc16-spec : {M : Type 1} → statement M
-crc16-spec = tie.close (tie.spec crc-by-requires returns)
+crc16-spec = tie.close (tie.spec crc-by-requires (λ c. search (needs, laws)))

@@ -24,11 +24,13 @@ pub record Reading (start : Source) (block : List ℕ) (source : Source) : Type 
 pub byte-less : (block : List ℕ) (p q : Source) (r : Read) (b : ℕ) → Reads block p r → r ≡ Byte b q → q .left < p .left
 byte-less block p q r b h e = let f : Falls block p q = rw e at h in f .less
 
-pub byte-on : (start : Source) (before block : List ℕ) (p q : Source) (r : Read) (b : ℕ) → Reads block p r → r ≡ Byte b q → Reading start before p → Reading start block q
+pub byte-on : (start : Source) (before block : List ℕ) (p q : Source) (r : Read) (b : ℕ) → Reads block p r → r ≡ Byte b q → Reading start before p
+    → Reading start block q
 byte-on start before block p q r b h e g = let f : Falls block p q = rw e at h in record { inside = f .inside; left = omega arith }
 
 -- the end of a line after a byte
-pub line-ends : (start : Source) (before block : List ℕ) (p q n : Source) (r : Read) (b : ℕ) → Reads block p r → r ≡ Byte b q → Reading start before p → n .filled ≡ q .filled → n .left ≤ q .left → Falls block start n
+pub line-ends : (start : Source) (before block : List ℕ) (p q n : Source) (r : Read) (b : ℕ) → Reads block p r → r ≡ Byte b q
+    → Reading start before p → n .filled ≡ q .filled → n .left ≤ q .left → Falls block start n
 line-ends start before block p q n r b h e g i l = let f : Falls block p q = rw e at h in record { inside = rw i (f .inside); less = omega arith }
 
 pub ruleset laws = (byte-less, byte-on, line-ends)

@@ -4,14 +4,5 @@ use Rattle.frame.proofs.Laws.{laws}
 use Rattle.frame.proofs.header_length.Statement.{statement}
 use Rattle.frame.proofs.header_length.Tie as tie
 
-returns : tie.Need-returns
-returns c = search (needs, laws)
-
-returns-2 : tie.Need-returns-2
-returns-2 c = search (needs, laws)
-
-returns-3 : tie.Need-returns-3
-returns-3 c = search (needs, laws)
-
 pub header-length-spec : {M : Type 1} → statement M
-header-length-spec = tie.close (tie.spec returns returns-2 returns-3)
+header-length-spec = tie.close (tie.spec (λ c. search (needs, laws)) (λ c. search (needs, laws)) (λ c. search (needs, laws)))

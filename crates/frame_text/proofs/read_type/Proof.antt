@@ -4,31 +4,13 @@ use Rattle.frame_text.proofs.Laws.{type-laws}
 use Rattle.frame_text.proofs.read_type.Statement.{statement}
 use Rattle.frame_text.proofs.read_type.Tie as tie
 
-number-type-requires : tie.Need-number-type-requires
-number-type-requires c κs = search (needs, type-laws)
-
-enum-known-found : tie.Need-enum-known-found
-enum-known-found c = search (needs, type-laws)
-
-enum-told : tie.Need-enum-told
-enum-told c = search (needs, type-laws)
-
-other-type-requires : tie.Need-other-type-requires
-other-type-requires c κs = search (needs, type-laws)
-
-returns : tie.Need-returns
-returns c = search (needs, type-laws)
-
-returns-2 : tie.Need-returns-2
-returns-2 c = search (needs, type-laws)
-
 pub read-type-spec : {M : Type 1} → statement M
 read-type-spec =
     tie.close
     (tie.spec
-    number-type-requires
-    enum-known-found
-    enum-told
-    other-type-requires
-    returns
-    returns-2)
+    (λ c κs. search (needs, type-laws))
+    (λ c. search (needs, type-laws))
+    (λ c. search (needs, type-laws))
+    (λ c κs. search (needs, type-laws))
+    (λ c. search (needs, type-laws))
+    (λ c. search (needs, type-laws)))

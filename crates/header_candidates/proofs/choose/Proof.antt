@@ -7,7 +7,8 @@ use Rattle.header_candidates.proofs.choose.Statement.{statement}
 use Rattle.header_candidates.proofs.choose.Tie as tie
 
 abbrev Inv-loop : tie.InvT-loop
-Inv-loop text mpdu key fields₀ scratch₀ base place₀ h₀ n₀ fields scratch place h n = Choosing text mpdu key fields₀ scratch₀ base fields scratch place h n
+Inv-loop text mpdu key fields₀ scratch₀ base place₀ h₀ n₀ fields scratch place h n =
+    Choosing text mpdu key fields₀ scratch₀ base fields scratch place h n
 
 abbrev μ-loop : tie.MeasureT-loop
 μ-loop text mpdu key fields₀ scratch₀ base place₀ h₀ n₀ fields scratch place h n = length text - place .at

@@ -4,21 +4,7 @@ use borrow.Author.Needs.{needs}
 use Rattle.header_candidates.proofs.read_base.Statement.{statement}
 use Rattle.header_candidates.proofs.read_base.Tie as tie
 
-load-params-requires : tie.Need-load-params-requires
-load-params-requires c κs = search (needs, laws)
-
-walk-from-requires : tie.Need-walk-from-requires
-walk-from-requires c κs = search (needs, laws)
-
-same-length : tie.Need-same-length
-same-length c = search (needs, laws)
-
-same-length-2 : tie.Need-same-length-2
-same-length-2 c = search (needs, laws)
-
-returns : tie.Need-returns
-returns c = search (needs, laws)
-
 pub read-base-spec : {M : Type 1} → statement M
 read-base-spec =
-    tie.close (tie.spec load-params-requires walk-from-requires same-length same-length-2 returns)
+    tie.close (tie.spec (λ c κs. search (needs, laws)) (λ c κs. search (needs, laws)) (λ c. search (needs, laws)) (λ c. search (needs, laws))
+    (λ c. search (needs, laws)))

@@ -4,14 +4,5 @@ use borrow.Author.Needs.{needs}
 use Rattle.header_rows.proofs.row_of.Statement.{statement}
 use Rattle.header_rows.proofs.row_of.Tie as tie
 
-number-of-requires : tie.Need-number-of-requires
-number-of-requires c κs = search (needs, laws)
-
-symbol-of-requires : tie.Need-symbol-of-requires
-symbol-of-requires c κs = search (needs, laws)
-
-returns : tie.Need-returns
-returns c = search (needs, laws)
-
 pub row-of-spec : {M : Type 1} → statement M
-row-of-spec = tie.close (tie.spec number-of-requires symbol-of-requires returns)
+row-of-spec = tie.close (tie.spec (λ c κs. search (needs, laws)) (λ c κs. search (needs, laws)) (λ c. search (needs, laws)))

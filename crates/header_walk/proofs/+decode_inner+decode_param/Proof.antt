@@ -1,4 +1,5 @@
--- `header_walk::decode_param` and `header_walk::decode_inner`, which call each other, meet their contracts, by the laws of the crate. The level that is left falls.
+-- `header_walk::decode_param` and `header_walk::decode_inner`, which call each other, meet their contracts, by the laws of the crate. The level that is left
+-- falls.
 -- Assumes nothing.
 use Prim.Native.Nat.{ℕ, _+_, _*_, _<_}
 use native.Mathlib.Omega.{arith}
@@ -61,62 +62,106 @@ abbrev decode-inner-μ-loop : decode-inner-lts.MeasureT-loop
 decode-inner-μ-loop mpdu text fields count i width rows₀ n left level order₀ place₀ room₀ bit₀ next₀ rows order place room bit next =
     length (rest text fields count level (i + 1) order place)
 
-decode-inner-sub-level : (t : ℕ) → decode-inner-lts.Need-sub-level (decode-inner-calls t) (decode-inner-at t) decode-inner.Post decode-inner-Inv-loop decode-inner-μ-loop
+decode-inner-sub-level : (t : ℕ) → decode-inner-lts.Need-sub-level (decode-inner-calls t)
+    (decode-inner-at t) decode-inner.Post decode-inner-Inv-loop decode-inner-μ-loop
 decode-inner-sub-level t c = search (needs, inner-laws)
 
-decode-inner-loop-holds : (t : ℕ) → decode-inner-lts.Need-loop-holds (decode-inner-calls t) (decode-inner-at t) decode-inner.Post decode-inner-Inv-loop decode-inner-μ-loop
+decode-inner-loop-holds : (t : ℕ) → decode-inner-lts.Need-loop-holds (decode-inner-calls t)
+    (decode-inner-at t) decode-inner.Post decode-inner-Inv-loop decode-inner-μ-loop
 decode-inner-loop-holds t c = search (needs, inner-laws)
 
-decode-inner-add-next-field : (t : ℕ) → decode-inner-lts.Need-add-next-field (decode-inner-calls t) (decode-inner-at t) decode-inner.Post decode-inner-Inv-loop decode-inner-μ-loop
+decode-inner-add-next-field : (t : ℕ) → decode-inner-lts.Need-add-next-field (decode-inner-calls t)
+    (decode-inner-at t) decode-inner.Post decode-inner-Inv-loop decode-inner-μ-loop
 decode-inner-add-next-field t c = search (needs, inner-laws)
 
-decode-inner-next-field-requires : (t : ℕ) → decode-inner-lts.Need-next-field-requires (decode-inner-calls t) (decode-inner-at t) decode-inner.Post decode-inner-Inv-loop decode-inner-μ-loop
+decode-inner-next-field-requires : (t : ℕ) → decode-inner-lts.Need-next-field-requires (decode-inner-calls t)
+    (decode-inner-at t) decode-inner.Post decode-inner-Inv-loop decode-inner-μ-loop
 decode-inner-next-field-requires t c κs = search (needs, inner-laws)
 
-decode-inner-enum-known-j : (t : ℕ) → decode-inner-lts.Need-enum-known-j (decode-inner-calls t) (decode-inner-at t) decode-inner.Post decode-inner-Inv-loop decode-inner-μ-loop
+decode-inner-enum-known-j : (t : ℕ) → decode-inner-lts.Need-enum-known-j (decode-inner-calls t)
+    (decode-inner-at t) decode-inner.Post decode-inner-Inv-loop decode-inner-μ-loop
 decode-inner-enum-known-j t c = search (needs, inner-laws)
 
-decode-inner-enum-told : (t : ℕ) → decode-inner-lts.Need-enum-told (decode-inner-calls t) (decode-inner-at t) decode-inner.Post decode-inner-Inv-loop decode-inner-μ-loop
+decode-inner-enum-told : (t : ℕ) → decode-inner-lts.Need-enum-told (decode-inner-calls t)
+    (decode-inner-at t) decode-inner.Post decode-inner-Inv-loop decode-inner-μ-loop
 decode-inner-enum-told t c = search (needs, inner-laws)
 
-decode-inner-same-length : (t : ℕ) → decode-inner-lts.Need-same-length (decode-inner-calls t) (decode-inner-at t) decode-inner.Post decode-inner-Inv-loop decode-inner-μ-loop
+decode-inner-same-length : (t : ℕ) → decode-inner-lts.Need-same-length (decode-inner-calls t)
+    (decode-inner-at t) decode-inner.Post decode-inner-Inv-loop decode-inner-μ-loop
 decode-inner-same-length t c = search (needs, inner-laws)
 
-decode-inner-returns : (t : ℕ) → decode-inner-lts.Need-returns (decode-inner-calls t) (decode-inner-at t) decode-inner.Post decode-inner-Inv-loop decode-inner-μ-loop
+decode-inner-returns : (t : ℕ) → decode-inner-lts.Need-returns (decode-inner-calls t)
+    (decode-inner-at t) decode-inner.Post decode-inner-Inv-loop decode-inner-μ-loop
 decode-inner-returns t c = search (needs, inner-laws)
 
-decode-inner-add-place : (t : ℕ) → decode-inner-lts.Need-add-place (decode-inner-calls t) (decode-inner-at t) decode-inner.Post decode-inner-Inv-loop decode-inner-μ-loop
-decode-inner-add-place t c = next-fits _ _ _ _ _ _ _ (c .before .before .before .next-field .ensures) _ _ _ (c .before .j .given .1) (c .before .before .before .before .before .before .before .before .before .pre .1 .0 .few) (omega arith)
+decode-inner-add-place : (t : ℕ) → decode-inner-lts.Need-add-place (decode-inner-calls t)
+    (decode-inner-at t) decode-inner.Post decode-inner-Inv-loop decode-inner-μ-loop
+decode-inner-add-place t c = next-fits _ _ _ _ _ _ _ (c .before .before .before .next-field .ensures) _ _ _ (c .before .j .given .1)
+    (c .before .before .before .before .before .before .before .before .before .pre .1 .0 .few) (omega arith)
 
-decode-inner-same-length-2 : (t : ℕ) → decode-inner-lts.Need-same-length-2 (decode-inner-calls t) (decode-inner-at t) decode-inner.Post decode-inner-Inv-loop decode-inner-μ-loop
+decode-inner-same-length-2 : (t : ℕ) → decode-inner-lts.Need-same-length-2 (decode-inner-calls t)
+    (decode-inner-at t) decode-inner.Post decode-inner-Inv-loop decode-inner-μ-loop
 decode-inner-same-length-2 t c = search (needs, inner-laws)
 
-decode-inner-returns-2 : (t : ℕ) → decode-inner-lts.Need-returns-2 (decode-inner-calls t) (decode-inner-at t) decode-inner.Post decode-inner-Inv-loop decode-inner-μ-loop
+decode-inner-returns-2 : (t : ℕ) → decode-inner-lts.Need-returns-2 (decode-inner-calls t)
+    (decode-inner-at t) decode-inner.Post decode-inner-Inv-loop decode-inner-μ-loop
 decode-inner-returns-2 t c = search (needs, inner-laws)
 
-decode-inner-sub-bit : (t : ℕ) → decode-inner-lts.Need-sub-bit (decode-inner-calls t) (decode-inner-at t) decode-inner.Post decode-inner-Inv-loop decode-inner-μ-loop
+decode-inner-sub-bit : (t : ℕ) → decode-inner-lts.Need-sub-bit (decode-inner-calls t)
+    (decode-inner-at t) decode-inner.Post decode-inner-Inv-loop decode-inner-μ-loop
 decode-inner-sub-bit t c = search (needs, inner-laws)
 
-decode-inner-decode-param-requires : (t : ℕ) → decode-inner-lts.Need-decode-param-requires (decode-inner-calls t) (decode-inner-at t) decode-inner.Post decode-inner-Inv-loop decode-inner-μ-loop
-decode-inner-decode-param-requires t c κs = (search (needs, inner-laws), (search (needs, inner-laws), (next-in _ _ _ _ _ _ _ (c .before .before .before .before .before .next-field .ensures) _ _ _ (c .before .before .before .j .given .1) (c .before .before .before .before .before .before .before .before .before .before .before .pre .1 .0 .few) (omega arith), next-level _ _ _ _ _ _ _ (c .before .before .before .before .before .next-field .ensures) _ _ _ (c .before .before .before .j .given .1) (c .before .before .before .before .before .before .before .before .before .before .before .pre .1 .0 .few) (omega arith) _ (c .before .before .before .before .before .before .loop .inv .level-is), search (needs, inner-laws), search (needs, inner-laws))))
+decode-inner-decode-param-requires : (t : ℕ) → decode-inner-lts.Need-decode-param-requires (decode-inner-calls t)
+    (decode-inner-at t) decode-inner.Post decode-inner-Inv-loop decode-inner-μ-loop
+decode-inner-decode-param-requires t c κs = (
+  search (needs, inner-laws),
+  (
+    search (needs, inner-laws),
+    (
+      next-in _ _ _ _ _ _ _ (c .before .before .before .before .before .next-field .ensures) _ _ _
+          (c .before .before .before .j .given .1) (c .before .before .before .before .before .before .before .before .before .before .before .pre .1 .0 .few)
+          (omega arith),
+      next-level _ _ _ _ _ _ _ (c .before .before .before .before .before .next-field .ensures) _ _ _
+          (c .before .before .before .j .given .1) (c .before .before .before .before .before .before .before .before .before .before .before .pre .1 .0 .few)
+          (omega arith) _ (c .before .before .before .before .before .before .loop .inv .level-is),
+      search (needs, inner-laws),
+      search (needs, inner-laws),
+    ),
+  ),
+)
 
-decode-inner-enum-known-after : (t : ℕ) → decode-inner-lts.Need-enum-known-after (decode-inner-calls t) (decode-inner-at t) decode-inner.Post decode-inner-Inv-loop decode-inner-μ-loop
+decode-inner-enum-known-after : (t : ℕ) → decode-inner-lts.Need-enum-known-after (decode-inner-calls t)
+    (decode-inner-at t) decode-inner.Post decode-inner-Inv-loop decode-inner-μ-loop
 decode-inner-enum-known-after t c = search (needs, inner-laws)
 
-decode-inner-enum-told-2 : (t : ℕ) → decode-inner-lts.Need-enum-told-2 (decode-inner-calls t) (decode-inner-at t) decode-inner.Post decode-inner-Inv-loop decode-inner-μ-loop
+decode-inner-enum-told-2 : (t : ℕ) → decode-inner-lts.Need-enum-told-2 (decode-inner-calls t)
+    (decode-inner-at t) decode-inner.Post decode-inner-Inv-loop decode-inner-μ-loop
 decode-inner-enum-told-2 t c = search (needs, inner-laws)
 
-decode-inner-loop-less : (t : ℕ) → decode-inner-lts.Need-loop-less (decode-inner-calls t) (decode-inner-at t) decode-inner.Post decode-inner-Inv-loop decode-inner-μ-loop
+decode-inner-loop-less : (t : ℕ) → decode-inner-lts.Need-loop-less (decode-inner-calls t)
+    (decode-inner-at t) decode-inner.Post decode-inner-Inv-loop decode-inner-μ-loop
 decode-inner-loop-less t c = search (needs, inner-laws)
 
-decode-inner-loop-again : (t : ℕ) → decode-inner-lts.Need-loop-again (decode-inner-calls t) (decode-inner-at t) decode-inner.Post decode-inner-Inv-loop decode-inner-μ-loop
-decode-inner-loop-again t c = inner-skips _ _ _ _ _ _ _ _ _ _ _ _ _ _ _ _ _ (c .before .before .before .before .before .before .before .before .before .before .before .loop .inv) _ (c .before .before .before .before .before .before .before .before .before .before .next-field .ensures) _ _ _ (c .before .before .before .before .before .before .before .before .j .given .1) _ _ (c .before .before .before .before .decode-param .ensures) (c .enum-told2 .given .1) (search needs) (search needs) (search needs) (search needs)
+decode-inner-loop-again : (t : ℕ) → decode-inner-lts.Need-loop-again (decode-inner-calls t)
+    (decode-inner-at t) decode-inner.Post decode-inner-Inv-loop decode-inner-μ-loop
+decode-inner-loop-again t c = inner-skips _ _ _ _ _ _ _ _ _ _ _ _ _ _ _ _ _
+    (c .before .before .before .before .before .before .before .before .before .before .before .loop .inv) _
+    (c .before .before .before .before .before .before .before .before .before .before .next-field .ensures) _ _ _
+    (c .before .before .before .before .before .before .before .before .j .given .1) _ _ (c .before .before .before .before .decode-param .ensures)
+    (c .enum-told2 .given .1) (search needs) (search needs) (search needs) (search needs)
 
-decode-inner-loop-less-2 : (t : ℕ) → decode-inner-lts.Need-loop-less-2 (decode-inner-calls t) (decode-inner-at t) decode-inner.Post decode-inner-Inv-loop decode-inner-μ-loop
+decode-inner-loop-less-2 : (t : ℕ) → decode-inner-lts.Need-loop-less-2 (decode-inner-calls t)
+    (decode-inner-at t) decode-inner.Post decode-inner-Inv-loop decode-inner-μ-loop
 decode-inner-loop-less-2 t c = search (needs, inner-laws)
 
-decode-inner-loop-again-2 : (t : ℕ) → decode-inner-lts.Need-loop-again-2 (decode-inner-calls t) (decode-inner-at t) decode-inner.Post decode-inner-Inv-loop decode-inner-μ-loop
-decode-inner-loop-again-2 t c = inner-takes _ _ _ _ _ _ _ _ _ _ _ _ _ _ _ _ _ (c .before .before .before .before .before .before .before .before .before .before .before .before .loop .inv) _ (c .before .before .before .before .before .before .before .before .before .before .before .next-field .ensures) _ _ _ (c .before .before .before .before .before .before .before .before .before .j .given .1) _ _ (c .before .before .before .before .before .decode-param .ensures) _ _ (c .before .after .given .1) (search needs) (search needs) (search needs) (search needs)
+decode-inner-loop-again-2 : (t : ℕ) → decode-inner-lts.Need-loop-again-2 (decode-inner-calls t)
+    (decode-inner-at t) decode-inner.Post decode-inner-Inv-loop decode-inner-μ-loop
+decode-inner-loop-again-2 t c = inner-takes _ _ _ _ _ _ _ _ _ _ _ _ _ _ _ _ _
+    (c .before .before .before .before .before .before .before .before .before .before .before .before .loop .inv) _
+    (c .before .before .before .before .before .before .before .before .before .before .before .next-field .ensures) _ _ _
+    (c .before .before .before .before .before .before .before .before .before .j .given .1) _ _
+    (c .before .before .before .before .before .decode-param .ensures) _ _ (c .before .after .given .1) (search needs) (search needs) (search needs)
+    (search needs)
 
 -- what `decode-param` calls, as its needs take it
 abbrev decode-param-calls : ℕ → decode-param-lts.Claims
@@ -156,7 +201,20 @@ decode-param-sub-decode-inner : (t : ℕ) → decode-param-lts.Need-sub-decode-i
 decode-param-sub-decode-inner t c = search (needs, field-laws)
 
 decode-param-decode-inner-requires : (t : ℕ) → decode-param-lts.Need-decode-inner-requires (decode-param-calls t) (decode-param-at t) decode-param.Post
-decode-param-decode-inner-requires t c κs = (search (needs, field-laws), (search (needs, field-laws), (search (needs, field-laws), search (needs, field-laws), search (needs, field-laws), search (needs, field-laws), search (needs, field-laws))))
+decode-param-decode-inner-requires t c κs = (
+  search (needs, field-laws),
+  (
+    search (needs, field-laws),
+    (
+      search (needs, field-laws),
+      search (needs, field-laws),
+      search (needs, field-laws),
+      search (needs, field-laws),
+      search
+          (needs, field-laws),
+    ),
+  ),
+)
 
 decode-param-same-length-3 : (t : ℕ) → decode-param-lts.Need-same-length-3 (decode-param-calls t) (decode-param-at t) decode-param.Post
 decode-param-same-length-3 t c = search (needs, field-laws)

@@ -15,50 +15,24 @@ abbrev μ-loop : tie.MeasureT-loop
 μ-loop mpdu text fields count first rows₀ n order₀ place₀ bit₀ next₀ rows order place bit next =
     length (rest text fields count 0 first order place)
 
-loop-holds : tie.Need-loop-holds Inv-loop μ-loop
-loop-holds c = search (needs, outer-laws)
-
-next-field-requires : tie.Need-next-field-requires Inv-loop μ-loop
-next-field-requires c κs = search (needs, outer-laws)
-
-enum-known-j : tie.Need-enum-known-j Inv-loop μ-loop
-enum-known-j c = search (needs, outer-laws)
-
-enum-told : tie.Need-enum-told Inv-loop μ-loop
-enum-told c = search (needs, outer-laws)
-
-same-length : tie.Need-same-length Inv-loop μ-loop
-same-length c = search (needs, outer-laws)
-
-returns : tie.Need-returns Inv-loop μ-loop
-returns c = search (needs, outer-laws)
-
 add-place : tie.Need-add-place Inv-loop μ-loop
-add-place c = next-fits _ _ _ _ _ _ _ (c .before .before .before .next-field .ensures) _ _ _ (c .before .j .given .1) (c .before .before .before .before .before .before .before .before .before .pre .0 .few) (c .before .before .before .before .before .before .before .before .before .pre .1 .0)
+add-place c =
+    let start = c .before .before .before .before .before .before .before .before .before in
+    next-fits _ _ _ _ _ _ _ (c .before .before .before .next-field .ensures) _ _ _ (c .before .j .given .1) (start .pre .0 .few) (start .pre .1 .0)
 
 decode-param-requires : tie.Need-decode-param-requires Inv-loop μ-loop
-decode-param-requires c κs = (search (needs, outer-laws), (next-in _ _ _ _ _ _ _ (c .before .before .before .before .next-field .ensures) _ _ _ (c .before .before .j .given .1) (c .before .before .before .before .before .before .before .before .before .before .pre .0 .few) (c .before .before .before .before .before .before .before .before .before .before .pre .1 .0), next-level _ _ _ _ _ _ _ (c .before .before .before .before .next-field .ensures) _ _ _ (c .before .before .j .given .1) (c .before .before .before .before .before .before .before .before .before .before .pre .0 .few) (c .before .before .before .before .before .before .before .before .before .before .pre .1 .0) _ refl, search (needs, outer-laws), search (needs, outer-laws)))
-
-enum-known-after : tie.Need-enum-known-after Inv-loop μ-loop
-enum-known-after c = search (needs, outer-laws)
-
-enum-told-2 : tie.Need-enum-told-2 Inv-loop μ-loop
-enum-told-2 c = search (needs, outer-laws)
-
-same-length-2 : tie.Need-same-length-2 Inv-loop μ-loop
-same-length-2 c = search (needs, outer-laws)
-
-returns-2 : tie.Need-returns-2 Inv-loop μ-loop
-returns-2 c = search (needs, outer-laws)
-
-add-bit : tie.Need-add-bit Inv-loop μ-loop
-add-bit c = search (needs, outer-laws)
-
-loop-less : tie.Need-loop-less Inv-loop μ-loop
-loop-less c = search (needs, outer-laws)
-
-loop-again : tie.Need-loop-again Inv-loop μ-loop
-loop-again c = search (needs, outer-laws)
+decode-param-requires c κs =
+    let start = c .before .before .before .before .before .before .before .before .before .before in (
+      search (needs, outer-laws),
+      (
+        next-in _ _ _ _ _ _ _ (c .before .before .before .before .next-field .ensures) _ _ _ (c .before .before .j .given .1)
+            (start .pre .0 .few) (start .pre .1 .0),
+        next-level _ _ _ _ _ _ _ (c .before .before .before .before .next-field .ensures) _ _ _
+            (c .before .before .j .given .1) (start .pre .0 .few) (start .pre .1 .0) _ refl,
+        search (needs, outer-laws),
+        search (needs, outer-laws),
+      ),
+    )
 
 pub walk-from-spec : {M : Type 1} → statement M
 walk-from-spec =
@@ -66,18 +40,18 @@ walk-from-spec =
     (tie.spec
     Inv-loop
     μ-loop
-    loop-holds
-    next-field-requires
-    enum-known-j
-    enum-told
-    same-length
-    returns
+    (λ c. search (needs, outer-laws))
+    (λ c κs. search (needs, outer-laws))
+    (λ c. search (needs, outer-laws))
+    (λ c. search (needs, outer-laws))
+    (λ c. search (needs, outer-laws))
+    (λ c. search (needs, outer-laws))
     add-place
     decode-param-requires
-    enum-known-after
-    enum-told-2
-    same-length-2
-    returns-2
-    add-bit
-    loop-less
-    loop-again)
+    (λ c. search (needs, outer-laws))
+    (λ c. search (needs, outer-laws))
+    (λ c. search (needs, outer-laws))
+    (λ c. search (needs, outer-laws))
+    (λ c. search (needs, outer-laws))
+    (λ c. search (needs, outer-laws))
+    (λ c. search (needs, outer-laws)))

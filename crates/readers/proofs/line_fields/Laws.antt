@@ -81,7 +81,8 @@ module _ (b : ℕ) (s : List ℕ) (k at left e : ℕ) (so-far : Left b s k at le
       past zero q = absurd (omega arith)
       past (suc n) q = refl
 
-  pub left-on : 0 < left → e ≤ length (take (length s - at) (drop at s)) → (e ≡ length (take (length s - at) (drop at s)) → ⊥) → Left b s k (at + e + 1) (left - 1)
+  pub left-on : 0 < left → e ≤ length (take (length s - at) (drop at s)) → (e ≡ length (take (length s - at) (drop at s)) → ⊥)
+      → Left b s k (at + e + 1) (left - 1)
   left-on h in-e not-end = record {
     at-in = step-inside b s at e (so-far .at-in) at-e in-e not-end;
     gets = so-far .gets ∙ ap (λ (ps : List (List ℕ)). getD ps left []) p ∙ get left h;
@@ -110,10 +111,12 @@ module _ (b : ℕ) (s : List ℕ) (k at left e : ℕ) (so-far : Left b s k at le
 
       go : Dec (e + 1 ≤ length (take (length s - at) (drop at s))) → IsPiece b k s (record { start = at; len = e })
       go (yes q) =
-          let p : split b (drop at s) ≡ take e (drop at s) ∷ split b (drop (at + e + 1) s) = parted b s at e (so-far .at-in) at-e in-e (λ z. omega arith) in
+          let p : split b (drop at s) ≡ take e (drop at s) ∷ split b (drop (at + e + 1) s) =
+          parted b s at e (so-far .at-in) at-e in-e (λ z. omega arith) in
           record {
             inside = omega (arith, so-far .at-in, l);
-            more = lt-ltb (at + e) (length s) (omega (arith, so-far .at-in, l)) ∙ sym (lt-ltb (suc k) (length (split b s)) (omega (arith, so-far .counts, ap length p, some-piece b (drop (at + e + 1) s))));
+            more = lt-ltb (at + e) (length s) (omega (arith, so-far .at-in, l))
+                ∙ sym (lt-ltb (suc k) (length (split b s)) (omega (arith, so-far .counts, ap length p, some-piece b (drop (at + e + 1) s))));
             says = sym (gets-first ∙ ap (λ (ps : List (List ℕ)). getD ps 0 []) p);
           }
       go (no q) =
@@ -121,7 +124,8 @@ module _ (b : ℕ) (s : List ℕ) (k at left e : ℕ) (so-far : Left b s k at le
           let p : split b (drop at s) ≡ drop at s ∷ [] = alone b s at e (so-far .at-in) at-e end in
           record {
             inside = omega (arith, so-far .at-in, l);
-            more = le-ltb (at + e) (length s) (omega (arith, so-far .at-in, l)) ∙ sym (le-ltb (suc k) (length (split b s)) (omega (arith, so-far .counts, ap length p)));
+            more = le-ltb (at + e) (length s) (omega (arith, so-far .at-in, l))
+                ∙ sym (le-ltb (suc k) (length (split b s)) (omega (arith, so-far .counts, ap length p)));
             says = take-all e (drop at s) (rw (length-drop at s) (omega (arith, l))) ∙ sym (gets-first ∙ ap (λ (ps : List (List ℕ)). getD ps 0 []) p);
           }
 
@@ -149,7 +153,8 @@ module _ (b : ℕ) (s : List ℕ) (at n e : ℕ) (so-far : Counted b s at n) (at
       at-in = step-inside b s at e (so-far .at-in) at-e in-e not-end;
       few = omega (arith, so-far .few);
       so =
-          let c : length (split b (drop at s)) ≡ suc (length (split b (drop (at + e + 1) s))) = ap length (parted b s at e (so-far .at-in) at-e in-e not-end) in
+          let c : length (split b (drop at s)) ≡ suc (length (split b (drop (at + e + 1) s))) =
+          ap length (parted b s at e (so-far .at-in) at-e in-e not-end) in
           omega (arith, so-far .so);
     }
 

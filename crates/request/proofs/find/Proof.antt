@@ -14,37 +14,16 @@ Inv-loop s b i₀ i = (i ≤ length s) × (cut b s ≡ i + cut b (drop i s))
 abbrev μ-loop : tie.MeasureT-loop
 μ-loop s b i₀ i = length s - i
 
-loop-holds : tie.Need-loop-holds Inv-loop μ-loop
-loop-holds c = search (needs, laws)
-
-shared-slice-read-if1 : tie.Need-shared-slice-read-if1 Inv-loop μ-loop
-shared-slice-read-if1 c = search (needs, laws)
-
-returns : tie.Need-returns Inv-loop μ-loop
-returns c = search (needs, laws)
-
-add-i : tie.Need-add-i Inv-loop μ-loop
-add-i c = search (needs, laws)
-
-loop-less : tie.Need-loop-less Inv-loop μ-loop
-loop-less c = search (needs, laws)
-
-loop-again : tie.Need-loop-again Inv-loop μ-loop
-loop-again c = search (needs, laws)
-
-returns-2 : tie.Need-returns-2 Inv-loop μ-loop
-returns-2 c = search (needs, laws)
-
 pub find-spec : {M : Type 1} → statement M
 find-spec =
     tie.close
     (tie.spec
     Inv-loop
     μ-loop
-    loop-holds
-    shared-slice-read-if1
-    returns
-    add-i
-    loop-less
-    loop-again
-    returns-2)
+    (λ c. search (needs, laws))
+    (λ c. search (needs, laws))
+    (λ c. search (needs, laws))
+    (λ c. search (needs, laws))
+    (λ c. search (needs, laws))
+    (λ c. search (needs, laws))
+    (λ c. search (needs, laws)))

@@ -4,14 +4,5 @@ use borrow.Author.Needs.{needs}
 use Rattle.request.proofs.is_dash.Statement.{statement}
 use Rattle.request.proofs.is_dash.Tie as tie
 
-shared-slice-read-result : tie.Need-shared-slice-read-result
-shared-slice-read-result c = search (needs, laws)
-
-returns : tie.Need-returns
-returns c = search (needs, laws)
-
-returns-2 : tie.Need-returns-2
-returns-2 c = search (needs, laws)
-
 pub is-dash-spec : {M : Type 1} → statement M
-is-dash-spec = tie.close (tie.spec shared-slice-read-result returns returns-2)
+is-dash-spec = tie.close (tie.spec (λ c. search (needs, laws)) (λ c. search (needs, laws)) (λ c. search (needs, laws)))

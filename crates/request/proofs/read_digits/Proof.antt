@@ -13,61 +13,22 @@ Inv-loop word v₀ i₀ v i = Reading word v i
 abbrev μ-loop : tie.MeasureT-loop
 μ-loop word v₀ i₀ v i = length word - i
 
-loop-holds : tie.Need-loop-holds Inv-loop μ-loop
-loop-holds c = search (needs, laws)
-
-shared-slice-read-b : tie.Need-shared-slice-read-b Inv-loop μ-loop
-shared-slice-read-b c = search (needs, laws)
-
-returns : tie.Need-returns Inv-loop μ-loop
-returns c = search (needs, laws)
-
-returns-2 : tie.Need-returns-2 Inv-loop μ-loop
-returns-2 c = search (needs, laws)
-
-cast-d : tie.Need-cast-d Inv-loop μ-loop
-cast-d c = search (needs, laws)
-
-sub-if3 : tie.Need-sub-if3 Inv-loop μ-loop
-sub-if3 c = search (needs, laws)
-
-returns-3 : tie.Need-returns-3 Inv-loop μ-loop
-returns-3 c = search (needs, laws)
-
-mul-v : tie.Need-mul-v Inv-loop μ-loop
-mul-v c = search (needs, laws)
-
-add-v : tie.Need-add-v Inv-loop μ-loop
-add-v c = search (needs, laws)
-
-add-i : tie.Need-add-i Inv-loop μ-loop
-add-i c = search (needs, laws)
-
-loop-less : tie.Need-loop-less Inv-loop μ-loop
-loop-less c = search (needs, laws)
-
-loop-again : tie.Need-loop-again Inv-loop μ-loop
-loop-again c = search (needs, laws)
-
-returns-4 : tie.Need-returns-4 Inv-loop μ-loop
-returns-4 c = search (needs, laws)
-
 pub read-digits-spec : {M : Type 1} → statement M
 read-digits-spec =
     tie.close
     (tie.spec
     Inv-loop
     μ-loop
-    loop-holds
-    shared-slice-read-b
-    returns
-    returns-2
-    cast-d
-    sub-if3
-    returns-3
-    mul-v
-    add-v
-    add-i
-    loop-less
-    loop-again
-    returns-4)
+    (λ c. search (needs, laws))
+    (λ c. search (needs, laws))
+    (λ c. search (needs, laws))
+    (λ c. search (needs, laws))
+    (λ c. search (needs, laws))
+    (λ c. search (needs, laws))
+    (λ c. search (needs, laws))
+    (λ c. search (needs, laws))
+    (λ c. search (needs, laws))
+    (λ c. search (needs, laws))
+    (λ c. search (needs, laws))
+    (λ c. search (needs, laws))
+    (λ c. search (needs, laws)))

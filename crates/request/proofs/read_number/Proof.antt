@@ -4,25 +4,8 @@ use borrow.Author.Needs.{needs}
 use Rattle.request.proofs.read_number.Statement.{statement}
 use Rattle.request.proofs.read_number.Tie as tie
 
-returns : tie.Need-returns
-returns c = search (needs, laws)
-
-shared-slice-read-if2 : tie.Need-shared-slice-read-if2
-shared-slice-read-if2 c = search (needs, laws)
-
-returns-2 : tie.Need-returns-2
-returns-2 c = search (needs, laws)
-
-returns-3 : tie.Need-returns-3
-returns-3 c = search (needs, laws)
-
-read-digits-requires : tie.Need-read-digits-requires
-read-digits-requires c κs = search (needs, laws)
-
-returns-4 : tie.Need-returns-4
-returns-4 c = search (needs, laws)
-
 pub read-number-spec : {M : Type 1} → statement M
 read-number-spec =
     tie.close
-    (tie.spec returns shared-slice-read-if2 returns-2 returns-3 read-digits-requires returns-4)
+    (tie.spec (λ c. search (needs, laws)) (λ c. search (needs, laws)) (λ c. search (needs, laws)) (λ c. search (needs, laws))
+    (λ c κs. search (needs, laws)) (λ c. search (needs, laws)))

@@ -4,14 +4,5 @@ use Rattle.screen.proofs.Laws.{laws}
 use Rattle.screen.proofs.fillable.Statement.{statement}
 use Rattle.screen.proofs.fillable.Tie as tie
 
-returns : tie.Need-returns
-returns c = search (needs, laws)
-
-returns-2 : tie.Need-returns-2
-returns-2 c = search (needs, laws)
-
-returns-3 : tie.Need-returns-3
-returns-3 c = search (needs, laws)
-
 pub fillable-spec : {M : Type 1} → statement M
-fillable-spec = tie.close (tie.spec returns returns-2 returns-3)
+fillable-spec = tie.close (tie.spec (λ c. search (needs, laws)) (λ c. search (needs, laws)) (λ c. search (needs, laws)))

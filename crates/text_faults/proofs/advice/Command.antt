@@ -12,7 +12,9 @@ use Rattle.text.specs.Text.{fields, field, upTo, optionalUpTo, name}
 use Rattle.text.specs.Place.{kindOf}
 use Rattle.text.specs.Records.{isSome}
 use Rattle.text.proofs.Judging.{split-some}
-use Rattle.command_text.specs.Form.{Record, group, variant, array, bitFlag, bitField, fieldEnum, const, bitmask, value, given, asciiOf, typeOf, known, paramForm, paramCondition, groupForm, variantForm, arrayForm, namedForm, bitsForm, bitmaskForm, groupOf, sizeOf, bitsOf, ofType, said, paramSaid, form}
+use Rattle.command_text.specs.Form.{Record, group, variant, array, bitFlag, bitField, fieldEnum, const, bitmask, value, given, asciiOf, typeOf, known}
+use Rattle.command_text.specs.Form.{paramForm, paramCondition, groupForm, variantForm, arrayForm, namedForm, bitsForm, bitmaskForm, groupOf, sizeOf, bitsOf}
+use Rattle.command_text.specs.Form.{ofType, said, paramSaid, form}
 use Rattle.command_text.specs.declared.Typed.{Typed}
 use Rattle.command_text.specs.declared.Typed.the-variants.{Is, Not}
 use Rattle.text_faults.specs.Form.{commandCount, wantOf}
@@ -57,48 +59,65 @@ module _ (f : List ℕ) (fs : List (List ℕ)) where
   Exact c = isFine (adviceOn (wantOf c) (commandCount c) fs) ≡ isSome (formAt c (f ∷ fs))
 
   exact-Q : Exact 0x51
-  exact-Q = sym (some-param (f ∷ fs) ∙ line-exact (wantOf 0x51) 5 f fs ((upTo 1 (at 0) && (known (typeOf (at 1)) && name (at 2))) && (optionalUpTo 255 (at 3) && optionalUpTo 255 (at 4))) (some-count 5 refl) (regroup (upTo 1 (at 0)) (known (typeOf (at 1))) (name (at 2)) (optionalUpTo 255 (at 3) && optionalUpTo 255 (at 4)) ∙ ap (λ (b : Bool). upTo 1 (at 0) && (known (typeOf (at 1)) && (name (at 2) && (optionalUpTo 255 (at 3) && b)))) (one (optionalUpTo 255 (at 4)))))
+  exact-Q = sym (some-param (f ∷ fs) ∙ line-exact (wantOf 0x51) 5 f fs
+      ((upTo 1 (at 0) && (known (typeOf (at 1)) && name (at 2))) && (optionalUpTo 255 (at 3) && optionalUpTo 255 (at 4))) (some-count 5 refl)
+      (regroup (upTo 1 (at 0)) (known (typeOf (at 1))) (name (at 2)) (optionalUpTo 255 (at 3) && optionalUpTo 255 (at 4))
+      ∙ ap (λ (b : Bool). upTo 1 (at 0) && (known (typeOf (at 1)) && (name (at 2) && (optionalUpTo 255 (at 3) && b)))) (one (optionalUpTo 255 (at 4)))))
 
   exact-G : Exact 0x47
-  exact-G = sym (some-said (groupForm (f ∷ fs)) _ ∙ line-exact (wantOf 0x47) 4 f fs (name (at 0) && (upTo 255 (at 1) && (upTo 255 (at 2) && upTo 255 (at 3)))) (some-count 4 refl) (four (name (at 0)) (upTo 255 (at 1)) (upTo 255 (at 2)) (upTo 255 (at 3))))
+  exact-G = sym (some-said (groupForm (f ∷ fs)) _ ∙ line-exact (wantOf 0x47) 4 f fs
+      (name (at 0) && (upTo 255 (at 1) && (upTo 255 (at 2) && upTo 255 (at 3)))) (some-count 4 refl)
+      (four (name (at 0)) (upTo 255 (at 1)) (upTo 255 (at 2)) (upTo 255 (at 3))))
 
   exact-R : Exact 0x52
-  exact-R = sym (some-said (variantForm (f ∷ fs)) _ ∙ line-exact (wantOf 0x52) 4 f fs (upTo 255 (at 0) && (upTo 255 (at 1) && (optionalUpTo 255 (at 2) && upTo 1 (at 3)))) (some-count 4 refl) (four (upTo 255 (at 0)) (upTo 255 (at 1)) (optionalUpTo 255 (at 2)) (upTo 1 (at 3))))
+  exact-R = sym (some-said (variantForm (f ∷ fs)) _ ∙ line-exact (wantOf 0x52) 4 f fs
+      (upTo 255 (at 0) && (upTo 255 (at 1) && (optionalUpTo 255 (at 2) && upTo 1 (at 3)))) (some-count 4 refl)
+      (four (upTo 255 (at 0)) (upTo 255 (at 1)) (optionalUpTo 255 (at 2)) (upTo 1 (at 3))))
 
   exact-A : Exact 0x41
-  exact-A = sym (some-said (arrayForm (f ∷ fs)) _ ∙ line-exact (wantOf 0x41) 2 f fs (upTo 255 (at 0) && upTo 1 (at 1)) (some-count 2 refl) (two (upTo 255 (at 0)) (upTo 1 (at 1))))
+  exact-A = sym (some-said (arrayForm (f ∷ fs)) _ ∙ line-exact (wantOf 0x41) 2 f fs (upTo 255 (at 0) && upTo 1 (at 1)) (some-count 2 refl)
+      (two (upTo 255 (at 0)) (upTo 1 (at 1))))
 
   exact-T : Exact 0x54
-  exact-T = sym (some-said (namedForm (f ∷ fs)) _ ∙ line-exact (wantOf 0x54) 2 f fs (upTo 255 (at 0) && name (at 1)) (some-count 2 refl) (two (upTo 255 (at 0)) (name (at 1))))
+  exact-T = sym (some-said (namedForm (f ∷ fs)) _ ∙ line-exact (wantOf 0x54) 2 f fs (upTo 255 (at 0) && name (at 1)) (some-count 2 refl)
+      (two (upTo 255 (at 0)) (name (at 1))))
 
   exact-S : Exact 0x53
-  exact-S = sym (some-said (bitsForm (f ∷ fs)) _ ∙ line-exact (wantOf 0x53) 3 f fs (upTo 255 (at 0) && (optionalUpTo 255 (at 1) && name (at 2))) (some-count 3 refl) (three (upTo 255 (at 0)) (optionalUpTo 255 (at 1)) (name (at 2))))
+  exact-S = sym (some-said (bitsForm (f ∷ fs)) _ ∙ line-exact (wantOf 0x53) 3 f fs (upTo 255 (at 0) && (optionalUpTo 255 (at 1) && name (at 2)))
+      (some-count 3 refl) (three (upTo 255 (at 0)) (optionalUpTo 255 (at 1)) (name (at 2))))
 
   exact-U : Exact 0x55
-  exact-U = sym (some-said (bitsForm (f ∷ fs)) _ ∙ line-exact (wantOf 0x55) 3 f fs (upTo 255 (at 0) && (optionalUpTo 255 (at 1) && name (at 2))) (some-count 3 refl) (three (upTo 255 (at 0)) (optionalUpTo 255 (at 1)) (name (at 2))))
+  exact-U = sym (some-said (bitsForm (f ∷ fs)) _ ∙ line-exact (wantOf 0x55) 3 f fs (upTo 255 (at 0) && (optionalUpTo 255 (at 1) && name (at 2)))
+      (some-count 3 refl) (three (upTo 255 (at 0)) (optionalUpTo 255 (at 1)) (name (at 2))))
 
   exact-K : Exact 0x4b
-  exact-K = sym (some-said (namedForm (f ∷ fs)) _ ∙ line-exact (wantOf 0x4b) 2 f fs (upTo 255 (at 0) && name (at 1)) (some-count 2 refl) (two (upTo 255 (at 0)) (name (at 1))))
+  exact-K = sym (some-said (namedForm (f ∷ fs)) _ ∙ line-exact (wantOf 0x4b) 2 f fs (upTo 255 (at 0) && name (at 1)) (some-count 2 refl)
+      (two (upTo 255 (at 0)) (name (at 1))))
 
   exact-M : Exact 0x4d
-  exact-M = sym (some-said (bitmaskForm (f ∷ fs)) _ ∙ line-exact (wantOf 0x4d) 1 f fs (optionalUpTo 255 (at 0)) (some-count 1 refl) (one (optionalUpTo 255 (at 0))))
+  exact-M = sym (some-said (bitmaskForm (f ∷ fs)) _ ∙ line-exact (wantOf 0x4d) 1 f fs (optionalUpTo 255 (at 0)) (some-count 1 refl)
+      (one (optionalUpTo 255 (at 0))))
 
   exact : (c : ℕ) → Exact c
   exact c = at-Q (eqb c 0x51) refl
     where
-      at-M : (b : Bool) → eqb c 0x4d ≡ b → eqb c 0x51 ≡ false → eqb c 0x47 ≡ false → eqb c 0x52 ≡ false → eqb c 0x41 ≡ false → eqb c 0x54 ≡ false → eqb c 0x53 ≡ false → eqb c 0x55 ≡ false → eqb c 0x4b ≡ false → Exact c
+      at-M : (b : Bool) → eqb c 0x4d ≡ b → eqb c 0x51 ≡ false → eqb c 0x47 ≡ false → eqb c 0x52 ≡ false → eqb c 0x41 ≡ false
+          → eqb c 0x54 ≡ false → eqb c 0x53 ≡ false → eqb c 0x55 ≡ false → eqb c 0x4b ≡ false → Exact c
       at-M true e h0 h1 h2 h3 h4 h5 h6 h7 = subst Exact (sym (eqb-true c 0x4d e)) exact-M
       at-M false e h0 h1 h2 h3 h4 h5 h6 h7 = rw (h0, h1, h2, h3, h4, h5, h6, h7, e)
 
-      at-K : (b : Bool) → eqb c 0x4b ≡ b → eqb c 0x51 ≡ false → eqb c 0x47 ≡ false → eqb c 0x52 ≡ false → eqb c 0x41 ≡ false → eqb c 0x54 ≡ false → eqb c 0x53 ≡ false → eqb c 0x55 ≡ false → Exact c
+      at-K : (b : Bool) → eqb c 0x4b ≡ b → eqb c 0x51 ≡ false → eqb c 0x47 ≡ false → eqb c 0x52 ≡ false → eqb c 0x41 ≡ false
+          → eqb c 0x54 ≡ false → eqb c 0x53 ≡ false → eqb c 0x55 ≡ false → Exact c
       at-K true e h0 h1 h2 h3 h4 h5 h6 = subst Exact (sym (eqb-true c 0x4b e)) exact-K
       at-K false e h0 h1 h2 h3 h4 h5 h6 = at-M (eqb c 0x4d) refl h0 h1 h2 h3 h4 h5 h6 e
 
-      at-U : (b : Bool) → eqb c 0x55 ≡ b → eqb c 0x51 ≡ false → eqb c 0x47 ≡ false → eqb c 0x52 ≡ false → eqb c 0x41 ≡ false → eqb c 0x54 ≡ false → eqb c 0x53 ≡ false → Exact c
+      at-U : (b : Bool) → eqb c 0x55 ≡ b → eqb c 0x51 ≡ false → eqb c 0x47 ≡ false → eqb c 0x52 ≡ false → eqb c 0x41 ≡ false
+          → eqb c 0x54 ≡ false → eqb c 0x53 ≡ false → Exact c
       at-U true e h0 h1 h2 h3 h4 h5 = subst Exact (sym (eqb-true c 0x55 e)) exact-U
       at-U false e h0 h1 h2 h3 h4 h5 = at-K (eqb c 0x4b) refl h0 h1 h2 h3 h4 h5 e
 
-      at-S : (b : Bool) → eqb c 0x53 ≡ b → eqb c 0x51 ≡ false → eqb c 0x47 ≡ false → eqb c 0x52 ≡ false → eqb c 0x41 ≡ false → eqb c 0x54 ≡ false → Exact c
+      at-S : (b : Bool) → eqb c 0x53 ≡ b → eqb c 0x51 ≡ false → eqb c 0x47 ≡ false → eqb c 0x52 ≡ false → eqb c 0x41 ≡ false
+          → eqb c 0x54 ≡ false → Exact c
       at-S true e h0 h1 h2 h3 h4 = subst Exact (sym (eqb-true c 0x53 e)) exact-S
       at-S false e h0 h1 h2 h3 h4 = at-U (eqb c 0x55) refl h0 h1 h2 h3 h4 e
 

@@ -12,7 +12,8 @@ use Rattle.text.specs.Text.{fields, field, decimal, upTo, optionalUpTo, name, p
 use Rattle.text.specs.Place.{kindOf}
 use Rattle.text.specs.Records.{isSome}
 use Rattle.text.proofs.Judging.{split-some}
-use Rattle.frame_text.specs.Form.{Record, frequency, base, header, validation, set, entry, value, names, typeOf, known, flags, frequencyForm, baseForm, headerForm, paramNumbers, paramForm, validationForm, setForm, entryForm, headerOf, ofType, said, paramSaid, form}
+use Rattle.frame_text.specs.Form.{Record, frequency, base, header, validation, set, entry, value, names, typeOf, known, flags, frequencyForm, baseForm}
+use Rattle.frame_text.specs.Form.{headerForm, paramNumbers, paramForm, validationForm, setForm, entryForm, headerOf, ofType, said, paramSaid, form}
 use Rattle.frame_text.specs.declared.Typed.{Typed}
 use Rattle.frame_text.specs.declared.Typed.the-variants.{Is, Not}
 use Rattle.text_faults.specs.Form.{frameCount, wantOf}
@@ -54,34 +55,48 @@ module _ (f : List ℕ) (fs : List (List ℕ)) where
   Exact c = isFine (adviceOn (wantOf c) (frameCount c) fs) ≡ isSome (formAt c (f ∷ fs))
 
   exact-F : Exact 0x46
-  exact-F = sym (some-said (frequencyForm (f ∷ fs)) _ ∙ line-exact (wantOf 0x46) 2 f fs (upTo 255 (at 0) && upTo 255 (at 1)) (some-count 2 refl) (two (upTo 255 (at 0)) (upTo 255 (at 1))))
+  exact-F = sym (some-said (frequencyForm (f ∷ fs)) _
+      ∙ line-exact (wantOf 0x46) 2 f fs (upTo 255 (at 0) && upTo 255 (at 1)) (some-count 2 refl) (two (upTo 255 (at 0)) (upTo 255 (at 1))))
 
   exact-B : Exact 0x42
   exact-B = sym (some-said (baseForm (f ∷ fs)) _ ∙ line-exact (wantOf 0x42) 1 f fs (upTo 255 (at 0)) (some-count 1 refl) (one (upTo 255 (at 0))))
 
   exact-H : Exact 0x48
-  exact-H = sym (some-said (headerForm (f ∷ fs)) _ ∙ line-exact (wantOf 0x48) 4 f fs (upTo 255 (at 0) && (optionalUpTo 255 (at 1) && (flags (at 2) && name (at 3)))) (some-count 4 refl) (four (upTo 255 (at 0)) (optionalUpTo 255 (at 1)) (flags (at 2)) (name (at 3))))
+  exact-H = sym (some-said (headerForm (f ∷ fs)) _ ∙ line-exact (wantOf 0x48) 4 f fs
+      (upTo 255 (at 0) && (optionalUpTo 255 (at 1) && (flags (at 2) && name (at 3)))) (some-count 4 refl)
+      (four (upTo 255 (at 0)) (optionalUpTo 255 (at 1)) (flags (at 2)) (name (at 3))))
 
   exact-P : Exact 0x50
-  exact-P = sym (some-param (f ∷ fs) ∙ line-exact (wantOf 0x50) 8 f fs ((decimal (at 0) && (upTo 65535 (at 1) && upTo 255 (at 2))) && (known (typeOf (at 3)) && (plain (at 4) && (optionalName (at 5) && (optionalPath (at 6) && optionalPath (at 7)))))) (some-count 8 refl) (regroup (decimal (at 0)) (upTo 65535 (at 1)) (upTo 255 (at 2)) (known (typeOf (at 3)) && (plain (at 4) && (optionalName (at 5) && (optionalPath (at 6) && optionalPath (at 7))))) ∙ ap (λ (b : Bool). decimal (at 0) && (upTo 65535 (at 1) && (upTo 255 (at 2) && (known (typeOf (at 3)) && (plain (at 4) && (optionalName (at 5) && (optionalPath (at 6) && b))))))) (one (optionalPath (at 7)))))
+  exact-P = sym (some-param (f ∷ fs) ∙ line-exact (wantOf 0x50) 8 f fs
+      ((decimal (at 0) && (upTo 65535 (at 1) && upTo 255 (at 2)))
+      && (known (typeOf (at 3)) && (plain (at 4) && (optionalName (at 5) && (optionalPath (at 6) && optionalPath (at 7)))))) (some-count 8 refl)
+      (regroup (decimal (at 0)) (upTo 65535 (at 1)) (upTo 255 (at 2))
+      (known (typeOf (at 3)) && (plain (at 4) && (optionalName (at 5) && (optionalPath (at 6) && optionalPath (at 7)))))
+      ∙ ap (λ (b : Bool). decimal (at 0) && (upTo 65535 (at 1)
+      && (upTo 255 (at 2) && (known (typeOf (at 3)) && (plain (at 4) && (optionalName (at 5) && (optionalPath (at 6) && b)))))))
+      (one (optionalPath (at 7)))))
 
   exact-V : Exact 0x56
-  exact-V = sym (some-said (validationForm (f ∷ fs)) _ ∙ line-exact (wantOf 0x56) 2 f fs (path (at 0) && upTo 65535 (at 1)) (some-count 2 refl) (two (path (at 0)) (upTo 65535 (at 1))))
+  exact-V = sym (some-said (validationForm (f ∷ fs)) _
+      ∙ line-exact (wantOf 0x56) 2 f fs (path (at 0) && upTo 65535 (at 1)) (some-count 2 refl) (two (path (at 0)) (upTo 65535 (at 1))))
 
   exact-D : Exact 0x44
   exact-D = sym (some-said (setForm (f ∷ fs)) _ ∙ line-exact (wantOf 0x44) 1 f fs (name (at 0)) (some-count 1 refl) (one (name (at 0))))
 
   exact-E : Exact 0x45
-  exact-E = sym (some-said (entryForm (f ∷ fs)) _ ∙ line-exact (wantOf 0x45) 2 f fs (upTo 65535 (at 0) && name (at 1)) (some-count 2 refl) (two (upTo 65535 (at 0)) (name (at 1))))
+  exact-E = sym (some-said (entryForm (f ∷ fs)) _ ∙ line-exact (wantOf 0x45) 2 f fs (upTo 65535 (at 0) && name (at 1)) (some-count 2 refl)
+      (two (upTo 65535 (at 0)) (name (at 1))))
 
   exact : (c : ℕ) → Exact c
   exact c = at-F (eqb c 0x46) refl
     where
-      at-E : (b : Bool) → eqb c 0x45 ≡ b → eqb c 0x46 ≡ false → eqb c 0x42 ≡ false → eqb c 0x48 ≡ false → eqb c 0x50 ≡ false → eqb c 0x56 ≡ false → eqb c 0x44 ≡ false → Exact c
+      at-E : (b : Bool) → eqb c 0x45 ≡ b → eqb c 0x46 ≡ false → eqb c 0x42 ≡ false → eqb c 0x48 ≡ false → eqb c 0x50 ≡ false
+          → eqb c 0x56 ≡ false → eqb c 0x44 ≡ false → Exact c
       at-E true e h0 h1 h2 h3 h4 h5 = subst Exact (sym (eqb-true c 0x45 e)) exact-E
       at-E false e h0 h1 h2 h3 h4 h5 = rw (h0, h1, h2, h3, h4, h5, e)
 
-      at-D : (b : Bool) → eqb c 0x44 ≡ b → eqb c 0x46 ≡ false → eqb c 0x42 ≡ false → eqb c 0x48 ≡ false → eqb c 0x50 ≡ false → eqb c 0x56 ≡ false → Exact c
+      at-D : (b : Bool) → eqb c 0x44 ≡ b → eqb c 0x46 ≡ false → eqb c 0x42 ≡ false → eqb c 0x48 ≡ false → eqb c 0x50 ≡ false
+          → eqb c 0x56 ≡ false → Exact c
       at-D true e h0 h1 h2 h3 h4 = subst Exact (sym (eqb-true c 0x44 e)) exact-D
       at-D false e h0 h1 h2 h3 h4 = at-E (eqb c 0x45) refl h0 h1 h2 h3 h4 e
 

@@ -67,9 +67,11 @@ module _ (want : ℕ → Want) (s : List ℕ) (at k e : ℕ) (so-far : Faultless
     pub fault-number-fits : length s * 1 < 2 ^ 63 → Fits w64 (k + 1)
     fault-number-fits l = omega (arith, fault-inside, so-far .few)
 
-  module _ (w : Want) (w-is : w ≡ want k) (f : Fault) (f-is : f ≡ faultOf w (take e (take (length s - at) (drop at s)))) (b : Bool) (b-is : b ≡ isRight f) where
+  module _ (w : Want) (w-is : w ≡ want k) (f : Fault) (f-is : f ≡ faultOf w (take e (take (length s - at) (drop at s)))) (b : Bool)
+      (b-is : b ≡ isRight f) where
     -- the fields begin with this one
-    begins : (fs : List (List ℕ)) → fields (drop at s) ≡ take e (drop at s) ∷ fs → firstFault want 1 (fields s) ≡ cond b (firstFault want (k + 1) fs) (Field k w f)
+    begins : (fs : List (List ℕ)) → fields (drop at s) ≡ take e (drop at s) ∷ fs
+        → firstFault want 1 (fields s) ≡ cond b (firstFault want (k + 1) fs) (Field k w f)
     begins fs h =
         let g : faultOf w (take e (drop at s)) ≡ f = sym (rw tail at f-is) in
         so-far .so ∙ rw (h, ← w-is, g, ← b-is)
@@ -77,7 +79,8 @@ module _ (want : ℕ → Want) (s : List ℕ) (at k e : ℕ) (so-far : Faultless
     pub fault-end : b ≡ true → e ≡ length (take (length s - at) (drop at s)) → Fine ≡ firstFault want 1 (fields s)
     fault-end t end = sym (begins [] (alone end) ∙ rw t)
 
-    pub fault-on : b ≡ true → e ≤ length (take (length s - at) (drop at s)) → (e ≡ length (take (length s - at) (drop at s)) → ⊥) → Faultless want s (at + e + 1) (k + 1)
+    pub fault-on : b ≡ true → e ≤ length (take (length s - at) (drop at s)) → (e ≡ length (take (length s - at) (drop at s)) → ⊥)
+        → Faultless want s (at + e + 1) (k + 1)
     fault-on t in-e not-end = record {
       at-in = fault-inside in-e not-end;
       few = omega (arith, so-far .few);
@@ -125,7 +128,8 @@ module _ (want : ℕ → Want) (n : ℕ) (s : List ℕ) (some : n ≡ 0 → ⊥)
 pub empty-line : (count : ℕ → ℕ) (l : List ℕ) → length l ≡ 0 → Empty ≡ lineAdvice count l
 empty-line count l h = rw (eq-eqb _ _ h)
 
-module _ (l : List ℕ) (some : length l ≡ 0 → ⊥) (c : ℕ) (c-is : c ≡ kindOf (fields l)) (n : ℕ) (r : Advice) (told : r ≡ adviceOn (wantOf c) n (after (fields l))) where
+module _ (l : List ℕ) (some : length l ≡ 0 → ⊥) (c : ℕ) (c-is : c ≡ kindOf (fields l)) (n : ℕ) (r : Advice)
+    (told : r ≡ adviceOn (wantOf c) n (after (fields l))) where
   pub frame-told : n ≡ frameCount c → r ≡ frameAdvice l
   frame-told e = rw (ne-eqb _ _ some, ← c-is, ← e) told
 

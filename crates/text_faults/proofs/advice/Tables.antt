@@ -42,7 +42,8 @@ all-from want (suc n) i fs h =
     ap (allRight want (i + 1)) d ∙ ap (λ (b : Bool). right (want (i + 1)) (getD fs i []) && b) (all-from want n (i + 1) fs (omega arith))
 
 -- n + 1 fields, of which those after the letter are as x says: that is what the table says
-pub line-exact : (want : ℕ → Want) (n : ℕ) (f : List ℕ) (fs : List (List ℕ)) (x : Bool) → (n ≡ 0 → ⊥) → x ≡ rightFrom want 0 n fs → (eqb (length (f ∷ fs)) (suc n) && x) ≡ isFine (adviceOn want n fs)
+pub line-exact : (want : ℕ → Want) (n : ℕ) (f : List ℕ) (fs : List (List ℕ)) (x : Bool) → (n ≡ 0 → ⊥) → x ≡ rightFrom want 0 n fs
+    → (eqb (length (f ∷ fs)) (suc n) && x) ≡ isFine (adviceOn want n fs)
 line-exact want n f fs x some e = sym (ap (λ (b : Bool). isFine (cond b Letter (byCount want n fs))) (ne-eqb n 0 some) ∙ go (eqb (length fs) n) refl)
   where
     go : (b : Bool) → eqb (length fs) n ≡ b → isFine (cond b (firstFault want 1 fs) (Count (length fs) n)) ≡ (eqb (length (f ∷ fs)) (suc n) && x)

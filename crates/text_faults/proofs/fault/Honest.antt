@@ -9,9 +9,11 @@ use Rattle.text.specs.Text.{split, decimal, missing, name}
 use Rattle.text.specs.Scan.{cut}
 use Rattle.text_faults.specs.Fault.{right, isRight, outside, whyNumber, whyName, whyPart, whyParts, whyPath, why, faultOf}
 use Rattle.text_faults.specs.declared.fault.Want.{Want}
-use Rattle.text_faults.specs.declared.fault.Want.the-variants.{Number, OptionalNumber, Level, Name, Plain, OptionalName, Path, OptionalPath, Flags, FrameType, CommandType}
+use Rattle.text_faults.specs.declared.fault.Want.the-variants.{Number, OptionalNumber, Level, Name, Plain, OptionalName, Path, OptionalPath, Flags}
+use Rattle.text_faults.specs.declared.fault.Want.the-variants.{FrameType, CommandType}
 use Rattle.text_faults.specs.declared.fault.Fault.{Fault}
-use Rattle.text_faults.specs.declared.fault.Fault.the-variants.{Right, Empty, Dash, NotDigit, LeadingZero, Over, TooLong, Unprintable, Dot, EmptyPart, DashPart, LongPart}
+use Rattle.text_faults.specs.declared.fault.Fault.the-variants.{Right, Empty, Dash, NotDigit, LeadingZero, Over, TooLong, Unprintable, Dot, EmptyPart}
+use Rattle.text_faults.specs.declared.fault.Fault.the-variants.{DashPart, LongPart}
 
 -- of two faults that aren't none, neither is
 neither : (b : Bool) (x y : Fault) → isRight x ≡ false → isRight y ≡ false → isRight (cond b x y) ≡ false
@@ -32,7 +34,8 @@ part-wrong at l =
 parts-wrong : (at : ℕ) (ps : List (List ℕ)) → isRight (whyParts at ps) ≡ false
 parts-wrong at [] = refl
 parts-wrong at (p ∷ []) = part-wrong at p
-parts-wrong at (p ∷ q ∷ ps) = neither (name p) (whyParts (at + length p + 1) (q ∷ ps)) (whyPart at p) (parts-wrong (at + length p + 1) (q ∷ ps)) (part-wrong at p)
+parts-wrong at (p ∷ q ∷ ps) =
+    neither (name p) (whyParts (at + length p + 1) (q ∷ ps)) (whyPart at p) (parts-wrong (at + length p + 1) (q ∷ ps)) (part-wrong at p)
 
 path-wrong : (l : List ℕ) → isRight (whyPath l) ≡ false
 path-wrong l = neither (ltb 120 (length l)) TooLong (whyParts 0 (split 0x2e l)) refl (parts-wrong 0 (split 0x2e l))

@@ -15,9 +15,11 @@ use Rattle.frame_text.specs.Form as frame
 use Rattle.command_text.specs.Form as command
 use Rattle.text_faults.specs.Fault.{right, outside, whyNumber, whyName, whyPlain, whyPart, whyParts, whyPath, why, faultOf}
 use Rattle.text_faults.specs.declared.fault.Want.{Want}
-use Rattle.text_faults.specs.declared.fault.Want.the-variants.{Number, OptionalNumber, Level, Name, Plain, OptionalName, Path, OptionalPath, Flags, FrameType, CommandType}
+use Rattle.text_faults.specs.declared.fault.Want.the-variants.{Number, OptionalNumber, Level, Name, Plain, OptionalName, Path, OptionalPath, Flags}
+use Rattle.text_faults.specs.declared.fault.Want.the-variants.{FrameType, CommandType}
 use Rattle.text_faults.specs.declared.fault.Fault.{Fault}
-use Rattle.text_faults.specs.declared.fault.Fault.the-variants.{Right, Empty, Dash, NotDigit, LeadingZero, Over, TooLong, Unprintable, Dot, EmptyPart, DashPart, LongPart, NoType, NoFlags}
+use Rattle.text_faults.specs.declared.fault.Fault.the-variants.{Right, Empty, Dash, NotDigit, LeadingZero, Over, TooLong, Unprintable, Dot, EmptyPart}
+use Rattle.text_faults.specs.declared.fault.Fault.the-variants.{DashPart, LongPart, NoType, NoFlags}
 
 -- ---- the first byte out of bounds
 module _ (lo hi : ℕ) (s : List ℕ) (i : ℕ) (inv : outside lo hi s ≡ i + outside lo hi (drop i s)) where
@@ -70,7 +72,19 @@ module _ (w : Want) (s : List ℕ) (r : Bool) where
   pub right-command-type : w ≡ CommandType → r ≡ command.known (command.typeOf s) → r ≡ right w s
   right-command-type e h = rw e h
 
-pub ruleset right-laws = (right-number, right-optional-number, right-level, right-name, right-plain, right-optional-name, right-path, right-optional-path, right-flags, right-frame-type, right-command-type)
+pub ruleset right-laws = (
+  right-number,
+  right-optional-number,
+  right-level,
+  right-name,
+  right-plain,
+  right-optional-name,
+  right-path,
+  right-optional-path,
+  right-flags,
+  right-frame-type,
+  right-command-type,
+)
 
 -- ---- why not
 module _ (s : List ℕ) (b : Bool) (is : b ≡ decimal s) where
@@ -112,17 +126,21 @@ module _ (s : List ℕ) (at : ℕ) (some : length s ≡ 0 → ⊥) (b : Bool) (i
   part-byte k f e h = rw (ne-eqb _ _ some, ← is, e, le-ltb _ _ h, f)
 
 -- the parts of a path
-parts-more : (at : ℕ) (p : List ℕ) (ps : List (List ℕ)) → (ps ≡ [] → ⊥) → whyParts at (p ∷ ps) ≡ cond (name p) (whyParts (at + length p + 1) ps) (whyPart at p)
+parts-more : (at : ℕ) (p : List ℕ) (ps : List (List ℕ)) → (ps ≡ [] → ⊥)
+    → whyParts at (p ∷ ps) ≡ cond (name p) (whyParts (at + length p + 1) ps) (whyPart at p)
 parts-more at p [] h = absurd (h refl)
 parts-more at p (q ∷ ps) h = refl
 
-module _ (s : List ℕ) (at e : ℕ) (inv : whyParts 0 (split 46 s) ≡ whyParts at (split 46 (drop at s))) (at-e : e ≡ cut 46 (take (length s - at) (drop at s))) where
-  pub parts-last : (r : Fault) → e ≡ length (take (length s - at) (drop at s)) → r ≡ whyPart at (take (length s - at) (drop at s)) → r ≡ whyParts 0 (split 46 s)
+module _ (s : List ℕ) (at e : ℕ) (inv : whyParts 0 (split 46 s) ≡ whyParts at (split 46 (drop at s)))
+    (at-e : e ≡ cut 46 (take (length s - at) (drop at s))) where
+  pub parts-last : (r : Fault) → e ≡ length (take (length s - at) (drop at s)) → r ≡ whyPart at (take (length s - at) (drop at s))
+      → r ≡ whyParts 0 (split 46 s)
   parts-last r l h =
       let p : split 46 (drop at s) ≡ drop at s ∷ [] = split-last 46 (drop at s) (rw tail at (sym at-e ∙ l)) in
       rw (inv, p) (rw tail at h)
 
-  module _ (in-e : e ≤ length (take (length s - at) (drop at s))) (not-end : e ≡ length (take (length s - at) (drop at s)) → ⊥) (b : Bool) (n : b ≡ name (take e (take (length s - at) (drop at s)))) where
+  module _ (in-e : e ≤ length (take (length s - at) (drop at s))) (not-end : e ≡ length (take (length s - at) (drop at s)) → ⊥) (b : Bool)
+      (n : b ≡ name (take e (take (length s - at) (drop at s)))) where
     inside : e < length (drop at s)
     inside = let v : e < length (take (length s - at) (drop at s)) = omega (arith, not-end) in rw tail at v
 
@@ -132,8 +150,10 @@ module _ (s : List ℕ) (at e : ℕ) (inv : whyParts 0 (split 46 s) ≡ whyParts
     named : b ≡ name (take e (drop at s))
     named = rw tail at n
 
-    decides : whyParts 0 (split 46 s) ≡ cond b (whyParts (at + length (take e (drop at s)) + 1) (split 46 (drop (e + 1) (drop at s)))) (whyPart at (take e (drop at s)))
-    decides = inv ∙ ap (whyParts at) parted ∙ parts-more at (take e (drop at s)) (split 46 (drop (e + 1) (drop at s))) (split-some 46 (drop (e + 1) (drop at s))) ∙ rw (← named)
+    decides : whyParts 0 (split 46 s) ≡ cond b (whyParts (at + length (take e (drop at s)) + 1) (split 46 (drop (e + 1) (drop at s))))
+        (whyPart at (take e (drop at s)))
+    decides = inv ∙ ap (whyParts at) parted ∙ parts-more at (take e (drop at s)) (split 46 (drop (e + 1) (drop at s)))
+        (split-some 46 (drop (e + 1) (drop at s))) ∙ rw (← named)
 
     pub parts-not : (r : Fault) → b ≡ false → r ≡ whyPart at (take e (take (length s - at) (drop at s))) → r ≡ whyParts 0 (split 46 s)
     parts-not r f h = rw (decides, f) (rw tail at h)
@@ -149,7 +169,8 @@ module _ (s : List ℕ) (at e : ℕ) (inv : whyParts 0 (split 46 s) ≡ whyParts
     parts-inside = let v : e < length s - at = rw length-drop at inside in omega arith
 
 -- the place of a part and its length make a number
-pub part-room : (s : List ℕ) (at e : ℕ) → at ≤ length s → e ≤ length (take (length s - at) (drop at s)) → length s < 2 ^ 64 → at + length (take e (take (length s - at) (drop at s))) < 2 ^ 64
+pub part-room : (s : List ℕ) (at e : ℕ) → at ≤ length s → e ≤ length (take (length s - at) (drop at s)) → length s < 2 ^ 64
+    → at + length (take e (take (length s - at) (drop at s))) < 2 ^ 64
 part-room s at e h l f =
     let c : length (take e (take (length s - at) (drop at s))) ≡ e = length-take-le e (take (length s - at) (drop at s)) l in
     let v : e ≤ length s - at = rw (tail, length-drop) at l in
@@ -199,7 +220,19 @@ module _ (w : Want) (s : List ℕ) where
   pub why-command-type : w ≡ CommandType → NoType ≡ why w s
   why-command-type e = rw e
 
-pub ruleset why-laws = (why-number, why-optional-number, why-level, why-name, why-plain, why-optional-name, why-path, why-optional-path, why-flags, why-frame-type, why-command-type)
+pub ruleset why-laws = (
+  why-number,
+  why-optional-number,
+  why-level,
+  why-name,
+  why-plain,
+  why-optional-name,
+  why-path,
+  why-optional-path,
+  why-flags,
+  why-frame-type,
+  why-command-type,
+)
 
 -- ---- what is told
 module _ (w : Want) (s : List ℕ) (b : Bool) (is : b ≡ right w s) where

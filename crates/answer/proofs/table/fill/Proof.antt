@@ -14,41 +14,17 @@ Inv-loop table₀ i₀ table i = (i ≤ length table₀) × ((length table ≡ l
 abbrev μ-loop : tie.MeasureT-loop
 μ-loop table₀ i₀ table i = length table₀ - i
 
-loop-holds : tie.Need-loop-holds Inv-loop μ-loop
-loop-holds c = search (needs, laws)
-
-mul-table : tie.Need-mul-table Inv-loop μ-loop
-mul-table c = search (needs, laws)
-
-slice-write-table : tie.Need-slice-write-table Inv-loop μ-loop
-slice-write-table c = search (needs, laws)
-
-add-i : tie.Need-add-i Inv-loop μ-loop
-add-i c = search (needs, laws)
-
-loop-less : tie.Need-loop-less Inv-loop μ-loop
-loop-less c = search (needs, laws)
-
-loop-again : tie.Need-loop-again Inv-loop μ-loop
-loop-again c = search (needs, laws)
-
-same-length : tie.Need-same-length Inv-loop μ-loop
-same-length c = search (needs, laws)
-
-returns : tie.Need-returns Inv-loop μ-loop
-returns c = search (needs, laws)
-
 pub fill-spec : {M : Type 1} → statement M
 fill-spec =
     tie.close
     (tie.spec
     Inv-loop
     μ-loop
-    loop-holds
-    mul-table
-    slice-write-table
-    add-i
-    loop-less
-    loop-again
-    same-length
-    returns)
+    (λ c. search (needs, laws))
+    (λ c. search (needs, laws))
+    (λ c. search (needs, laws))
+    (λ c. search (needs, laws))
+    (λ c. search (needs, laws))
+    (λ c. search (needs, laws))
+    (λ c. search (needs, laws))
+    (λ c. search (needs, laws)))

@@ -3,8 +3,5 @@ use borrow.Author.Needs.{needs}
 use Rattle.command_kept.proofs.Kept.is_full.Statement.{statement}
 use Rattle.command_kept.proofs.Kept.is_full.Tie as tie
 
-returns : tie.Need-returns
-returns c = search needs
-
 pub is-full-spec : {M : Type 1} → statement M
-is-full-spec = tie.close (tie.spec returns)
+is-full-spec = tie.close (tie.spec (λ c. search needs))

@@ -4,14 +4,5 @@ use Rattle.command_schema.proofs.Laws.{laws}
 use Rattle.command_schema.proofs.Loaded.rule.Statement.{statement}
 use Rattle.command_schema.proofs.Loaded.rule.Tie as tie
 
-returns : tie.Need-returns
-returns c = search (needs, laws)
-
-returns-2 : tie.Need-returns-2
-returns-2 c = search (needs, laws)
-
-returns-3 : tie.Need-returns-3
-returns-3 c = search (needs, laws)
-
 pub rule-spec : {M : Type 1} → statement M
-rule-spec = tie.close (tie.spec returns returns-2 returns-3)
+rule-spec = tie.close (tie.spec (λ c. search (needs, laws)) (λ c. search (needs, laws)) (λ c. search (needs, laws)))

@@ -4,14 +4,5 @@ use borrow.Author.Needs.{needs}
 use Rattle.command_schema.proofs.items.variable_length.Statement.{statement}
 use Rattle.command_schema.proofs.items.variable_length.Tie as tie
 
-returns : tie.Need-returns
-returns c = search (needs, laws)
-
-variant-length-requires : tie.Need-variant-length-requires
-variant-length-requires c κs = search (needs, laws)
-
-returns-2 : tie.Need-returns-2
-returns-2 c = search (needs, laws)
-
 pub variable-length-spec : {M : Type 1} → statement M
-variable-length-spec = tie.close (tie.spec returns variant-length-requires returns-2)
+variable-length-spec = tie.close (tie.spec (λ c. search (needs, laws)) (λ c κs. search (needs, laws)) (λ c. search (needs, laws)))

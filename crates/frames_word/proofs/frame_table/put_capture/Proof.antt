@@ -9,7 +9,8 @@ use Rattle.frames_word.proofs.frame_table.put_capture.Statement.{statem
 use Rattle.frames_word.proofs.frame_table.put_capture.Tie as tie
 
 abbrev Inv-loop : tie.InvT-loop
-Inv-loop text index block₀ payload₀ table₀ out₀ source₀ sheet₀ block payload table out source sheet = Inside block source × (verdict text ≡ Accepted)
+Inv-loop text index block₀ payload₀ table₀ out₀ source₀ sheet₀ block payload table out source sheet =
+    Inside block source × (verdict text ≡ Accepted)
 
 abbrev μ-loop : tie.MeasureT-loop
 μ-loop text index block₀ payload₀ table₀ out₀ source₀ sheet₀ block payload table out source sheet = source .left

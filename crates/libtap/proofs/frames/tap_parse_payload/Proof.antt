@@ -4,18 +4,6 @@ use borrow.Author.Needs.{needs}
 use Rattle.libtap.proofs.frames.tap_parse_payload.Statement.{statement}
 use Rattle.libtap.proofs.frames.tap_parse_payload.Tie as tie
 
-parse-payload-requires : tie.Need-parse-payload-requires
-parse-payload-requires c κs = search (needs, laws)
-
-tell-requires : tie.Need-tell-requires
-tell-requires c κs = search (needs, laws)
-
-same-length : tie.Need-same-length
-same-length c = search (needs, laws)
-
-returns : tie.Need-returns
-returns c = search (needs, laws)
-
 pub tap-parse-payload-spec : {M : Type 1} → statement M
 tap-parse-payload-spec =
-    tie.close (tie.spec parse-payload-requires tell-requires same-length returns)
+    tie.close (tie.spec (λ c κs. search (needs, laws)) (λ c κs. search (needs, laws)) (λ c. search (needs, laws)) (λ c. search (needs, laws)))

@@ -4,14 +4,5 @@ use borrow.Author.Needs.{needs}
 use Rattle.libtap.proofs.frames.tap_parse_record.Statement.{statement}
 use Rattle.libtap.proofs.frames.tap_parse_record.Tie as tie
 
-parse-record-requires : tie.Need-parse-record-requires
-parse-record-requires c κs = search (needs, laws)
-
-tell-frame-requires : tie.Need-tell-frame-requires
-tell-frame-requires c κs = search (needs, laws)
-
-returns : tie.Need-returns
-returns c = search (needs, laws)
-
 pub tap-parse-record-spec : {M : Type 1} → statement M
-tap-parse-record-spec = tie.close (tie.spec parse-record-requires tell-frame-requires returns)
+tap-parse-record-spec = tie.close (tie.spec (λ c κs. search (needs, laws)) (λ c κs. search (needs, laws)) (λ c. search (needs, laws)))

@@ -4,14 +4,5 @@ use borrow.Author.Needs.{needs}
 use Rattle.libtap.proofs.frames.tap_record_body.Statement.{statement}
 use Rattle.libtap.proofs.frames.tap_record_body.Tie as tie
 
-find-body-requires : tie.Need-find-body-requires
-find-body-requires c κs = search (needs, laws)
-
-sub-t7 : tie.Need-sub-t7
-sub-t7 c = search (needs, laws)
-
-returns : tie.Need-returns
-returns c = search (needs, laws)
-
 pub tap-record-body-spec : {M : Type 1} → statement M
-tap-record-body-spec = tie.close (tie.spec find-body-requires sub-t7 returns)
+tap-record-body-spec = tie.close (tie.spec (λ c κs. search (needs, laws)) (λ c. search (needs, laws)) (λ c. search (needs, laws)))

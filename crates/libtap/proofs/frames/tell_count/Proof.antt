@@ -4,35 +4,14 @@ use borrow.Author.Needs.{needs}
 use Rattle.libtap.proofs.frames.tell_count.Statement.{statement}
 use Rattle.libtap.proofs.frames.tell_count.Tie as tie
 
-enum-known-count : tie.Need-enum-known-count
-enum-known-count c = search (needs, laws)
-
-enum-known-count-2 : tie.Need-enum-known-count-2
-enum-known-count-2 c = search (needs, laws)
-
-number-requires : tie.Need-number-requires
-number-requires c κs = search (needs, laws)
-
-cast-t7 : tie.Need-cast-t7
-cast-t7 c = search (needs, laws)
-
-carried-requires : tie.Need-carried-requires
-carried-requires c κs = search (needs, laws)
-
-returns : tie.Need-returns
-returns c = search (needs, laws)
-
-returns-2 : tie.Need-returns-2
-returns-2 c = search (needs, laws)
-
 pub tell-count-spec : {M : Type 1} → statement M
 tell-count-spec =
     tie.close
     (tie.spec
-    enum-known-count
-    enum-known-count-2
-    number-requires
-    cast-t7
-    carried-requires
-    returns
-    returns-2)
+    (λ c. search (needs, laws))
+    (λ c. search (needs, laws))
+    (λ c κs. search (needs, laws))
+    (λ c. search (needs, laws))
+    (λ c κs. search (needs, laws))
+    (λ c. search (needs, laws))
+    (λ c. search (needs, laws)))

@@ -4,39 +4,15 @@ use borrow.Author.Needs.{needs}
 use Rattle.pti.proofs.payload.row_of.Statement.{statement}
 use Rattle.pti.proofs.payload.row_of.Tie as tie
 
-in-payload-requires : tie.Need-in-payload-requires
-in-payload-requires c κs = search (needs, laws)
-
-direction-number-requires : tie.Need-direction-number-requires
-direction-number-requires c κs = search (needs, laws)
-
-cast-t7 : tie.Need-cast-t7
-cast-t7 c = search (needs, laws)
-
-cast-t8 : tie.Need-cast-t8
-cast-t8 c = search (needs, laws)
-
-cast-t9 : tie.Need-cast-t9
-cast-t9 c = search (needs, laws)
-
-byte-of-requires : tie.Need-byte-of-requires
-byte-of-requires c κs = search (needs, laws)
-
-beams-number-requires : tie.Need-beams-number-requires
-beams-number-requires c κs = search (needs, laws)
-
-returns : tie.Need-returns
-returns c = search (needs, laws)
-
 pub row-of-spec : {M : Type 1} → statement M
 row-of-spec =
     tie.close
     (tie.spec
-    in-payload-requires
-    direction-number-requires
-    cast-t7
-    cast-t8
-    cast-t9
-    byte-of-requires
-    beams-number-requires
-    returns)
+    (λ c κs. search (needs, laws))
+    (λ c κs. search (needs, laws))
+    (λ c. search (needs, laws))
+    (λ c. search (needs, laws))
+    (λ c. search (needs, laws))
+    (λ c κs. search (needs, laws))
+    (λ c κs. search (needs, laws))
+    (λ c. search (needs, laws)))

@@ -9,11 +9,5 @@ write-frames-requires : tie.Need-write-frames-requires
 unfolding rates
 write-frames-requires c κs = (rates-right, search (needs, laws))
 
-same-length : tie.Need-same-length
-same-length c = search (needs, laws)
-
-returns : tie.Need-returns
-returns c = search (needs, laws)
-
 pub write-rows-spec : {M : Type 1} → statement M
-write-rows-spec = tie.close (tie.spec write-frames-requires same-length returns)
+write-rows-spec = tie.close (tie.spec write-frames-requires (λ c. search (needs, laws)) (λ c. search (needs, laws)))

@@ -4,11 +4,5 @@ use Rattle.radio.proofs.Laws.{laws}
 use Rattle.radio.proofs.beam.smaller.Statement.{statement}
 use Rattle.radio.proofs.beam.smaller.Tie as tie
 
-returns : tie.Need-returns
-returns c = search (needs, laws)
-
-returns-2 : tie.Need-returns-2
-returns-2 c = search (needs, laws)
-
 pub smaller-spec : {M : Type 1} → statement M
-smaller-spec = tie.close (tie.spec returns returns-2)
+smaller-spec = tie.close (tie.spec (λ c. search (needs, laws)) (λ c. search (needs, laws)))

@@ -9,8 +9,5 @@ rate-in-requires : tie.Need-rate-in-requires
 unfolding rates
 rate-in-requires c κs = rates-right
 
-returns : tie.Need-returns
-returns c = search (needs, laws)
-
 pub speed-for-spec : {M : Type 1} → statement M
-speed-for-spec = tie.close (tie.spec rate-in-requires returns)
+speed-for-spec = tie.close (tie.spec rate-in-requires (λ c. search (needs, laws)))
