@@ -20,6 +20,7 @@ use Rattle.frame_definition.specs.declared.Found.{Found}
 use Rattle.frame_definition.specs.declared.Found.the-variants as found
 use Rattle.frame_definition.specs.declared.NextCandidate.{NextCandidate}
 use Rattle.frame_definition.specs.declared.NextCandidate.the-variants as next
+use Rattle.header_fields.specs.Fields.{lineWidth}
 use Rattle.header_walk.specs.Walk.{Shaped}
 use Rattle.header.specs.Decode.{decoded, Decodes}
 use Rattle.header.specs.declared.Decoded.{Decoded}
@@ -79,7 +80,7 @@ pub base-at : (t : List ℕ) (key : ℕ) (r : Found) (p : Place) (n : ℕ) → F
 base-at t key r p n finds e = rw e at finds
 
 -- ---- the walk
-pub walk-shaped : (d fields : List ℕ) (count : ℕ) → count ≡ length fields / 12 → length d ≤ 2048 → count ≤ 128 → Shaped d fields count
+pub walk-shaped : (d fields : List ℕ) (count : ℕ) → count ≡ length fields / lineWidth → length d ≤ 2048 → count ≤ 128 → Shaped d fields count
 walk-shaped d fields count e s f = record { short = s; few = f; loaded = omega arith }
 
 pub ruleset laws = (

@@ -9,9 +9,9 @@ use header::Decoded;
 use header::decode_accepted;
 use header::decode_header;
 use header_candidates::read_base;
-use header_fields::WIDTH;
+use header_fields::LINE_WIDTH;
 use header_paths::BitOffset;
-use header_paths::ROW;
+use header_paths::SCRATCH_WIDTH;
 use header_walk::walk_from;
 use text::Place;
 use text::Verdict;
@@ -22,6 +22,7 @@ ghost use Rattle.text.specs.declared.Verdict.the-variants.{Accepted};
 ghost use Rattle.frame_text.specs.Rules.{verdict};
 ghost use Rattle.frame_definition.specs.Find.{FindsBase};
 ghost use Rattle.frame_definition.specs.declared.Found.the-variants.{At};
+ghost use Rattle.header_paths.specs.Scratch.{scratchWidth};
 ghost use Rattle.header_walk.specs.Walk.{Shaped};
 ghost use Rattle.header.specs.Decode.{decoded};
 ghost use Rattle.bench_walks.specs.Told.{told};
@@ -148,8 +149,8 @@ fn read_often(text: &[u8], mpdu: &[u8], key: u64, place: Place, n: usize, times:
     requires { ⌜ (verdict (now text) ≡ Accepted) × (length (now mpdu) ≤ 2048) ⌝ }
     requires { ⌜ FindsBase (now text) key (At place n) ⌝ }
 {
-    let mut fields = [0u64; 1536];
-    let mut scratch = [0u64; 768];
+    let mut fields = [0u64; 128 * LINE_WIDTH];
+    let mut scratch = [0u64; 128 * SCRATCH_WIDTH];
     let mut rows = 0;
     let mut k: u64 = 0;
     while k < times {
@@ -202,7 +203,7 @@ fn walk_often(
     times: u64,
 ) -> BenchWalked
     requires { ⌜ Shaped (now mpdu) (now fields) count ⌝ }
-    requires { ⌜ (first ≤ count) × (start ≤ length (now mpdu) * 8) × ((n + (count - first)) * 6 ≤ length (now scratch)) ⌝ }
+    requires { ⌜ (first ≤ count) × (start ≤ length (now mpdu) * 8) × ((n + (count - first)) * scratchWidth ≤ length (now scratch)) ⌝ }
 {
     let mut bit = start;
     let mut rows = n;
@@ -234,7 +235,7 @@ pub extern "C" fn bench_walk(
     times: u64,
 ) -> BenchWalked {
     let none = BenchWalked { bit: 0, rows: 0 };
-    let count = fields.len() / WIDTH;
+    let count = fields.len() / LINE_WIDTH;
     if 2048 < mpdu.len() {
         return none;
     }
@@ -250,7 +251,7 @@ pub extern "C" fn bench_walk(
     if 128 < n {
         return none;
     }
-    if scratch.len() < (n + (count - first)) * ROW {
+    if scratch.len() < (n + (count - first)) * SCRATCH_WIDTH {
         return none;
     }
     walk_often(text, mpdu, fields, count, first, start, scratch, n, times)

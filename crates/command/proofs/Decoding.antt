@@ -21,10 +21,11 @@ use Rattle.command_text.specs.Rules.{verdict}
 use Rattle.command_class.specs.Definition.{definition}
 use Rattle.command_class.proofs.Limits.{accepted-within}
 use Rattle.command_schema.specs.Heads.{headsOf, entriesOf}
-use Rattle.command_schema.specs.Loaded.{IsLoaded}
+use Rattle.command_schema.specs.Loaded.{loadedWidth, IsLoaded}
 use Rattle.command_schema.proofs.Heads.{definition-heads, heads-count}
 use Rattle.command_schema.proofs.Sizes.{heads-short}
 use Rattle.command_schema.proofs.Told.{entries-small, accepted-small}
+use Rattle.command_rules.specs.Rows.{rowWidth}
 use Rattle.command_rules.specs.Limits.{SmallEntries}
 use Rattle.command_rows.proofs.Laws.{written-full, written-table}
 use Rattle.command_rules.specs.Param.{inPayload}
@@ -39,12 +40,12 @@ use Rattle.command_rules.proofs.Bounds.{walk-most, walk-inside}
 use Rattle.command_rules.proofs.Sums.{walk-adds}
 
 -- ---- one pass
-pub body-rows : (w : Walked) (t t′ : List ℕ) (r : Taken) (p : PayloadOffset) → Gives w t 0 t′ r → length (w .rows) ≤ length t / 9
+pub body-rows : (w : Walked) (t t′ : List ℕ) (r : Taken) (p : PayloadOffset) → Gives w t 0 t′ r → length (w .rows) ≤ length t / rowWidth
     → p .0 ≡ inPayload (r .end .0) → Fills w t (Rows (r .count) p) t′
 unfolding within
 body-rows w t t′ r p wrote h ep =
     let q : p .0 ≡ inPayload (w .end) = rw (wrote .end) at ep in
-    record { answer = rw (le-leb (length (w .rows)) (length t / 9) h, wrote .count, ← q) refl; table-is = wrote .rows ∙ written-table t (w .rows) h }
+    record { answer = rw (le-leb (length (w .rows)) (length t / rowWidth) h, wrote .count, ← q) refl; table-is = wrote .rows ∙ written-table t (w .rows) h }
 
 -- ---- the two passes
 module _ (w : Walked) (t ys : List ℕ) (m : Taken) (first : Gives w [] 0 ys m) where
@@ -52,15 +53,15 @@ module _ (w : Walked) (t ys : List ℕ) (m : Taken) (first : Gives w [] 0 ys m) 
   nothing : ys ≡ []
   nothing = first .rows ∙ written-full [] 0 (w .rows) (omega arith)
 
-  pub body-needs : length (ys ++ t) / 9 < m .count → Fills w t (Refused (MoreRows (m .count))) (ys ++ t)
+  pub body-needs : length (ys ++ t) / rowWidth < m .count → Fills w t (Refused (MoreRows (m .count))) (ys ++ t)
   unfolding within
   body-needs h =
       let z = nothing in
       let n = first .count in
-      let l : length t / 9 < m .count = rw z at h in
-      record { answer = rw (lt-leb (length (w .rows)) (length t / 9) (omega arith), n) refl; table-is = rw z refl }
+      let l : length t / rowWidth < m .count = rw z at h in
+      record { answer = rw (lt-leb (length (w .rows)) (length t / rowWidth) (omega arith), n) refl; table-is = rw z refl }
 
-  pub body-fits : m .count ≤ length (ys ++ t) / 9 → length (w .rows) ≤ length (ys ++ t) / 9
+  pub body-fits : m .count ≤ length (ys ++ t) / rowWidth → length (w .rows) ≤ length (ys ++ t) / rowWidth
   body-fits h = let n = first .count in omega arith
 
   pub body-wrote : (r : Params) (t′ : List ℕ) → Fills w (ys ++ t) r t′ → Fills w t r t′
@@ -75,18 +76,18 @@ pub body-inside : (x l body : List ℕ) (count : ℕ) (t t′ : List ℕ) (r : T
 body-inside x l body count t t′ r loaded h w = let i = walk-inside body (entriesOf (headsOf x)) (entries-small x l count loaded) in let e =
     w .end in omega arith
 
--- a byte has at most 34 rows of 9 numbers
-pub body-sure : (x l body : List ℕ) (count : ℕ) (t : List ℕ) → IsLoaded x l count → length body * 306 ≤ length t
-    → length (walk body (entriesOf (headsOf x)) .rows) ≤ length t / 9
+-- a byte has at most 34 rows
+pub body-sure : (x l body : List ℕ) (count : ℕ) (t : List ℕ) → IsLoaded x l count → length body * (34 * rowWidth) ≤ length t
+    → length (walk body (entriesOf (headsOf x)) .rows) ≤ length t / rowWidth
 body-sure x l body count t loaded h = let m = walk-most body (entriesOf (headsOf x)) (entries-small x l count loaded) in omega arith
 
 pub ruleset body-laws = (body-rows, body-needs, body-fits, body-wrote, body-part, body-inside, body-sure)
 
 -- ---- the table that a text is loaded into
-pub loaded-all : (x l : List ℕ) → verdict x ≡ Accepted → length l ≡ 3072 → length (headsOf x) * 12 ≤ length l
+pub loaded-all : (x l : List ℕ) → verdict x ≡ Accepted → length l ≡ 256 * loadedWidth → length (headsOf x) * loadedWidth ≤ length l
 loaded-all x l accepted size = let c = heads-count 1 (records form (lines x)) in let w = accepted-within x accepted .1 .lines in omega arith
 
-pub loaded-short : (x l : List ℕ) → length x ≤ 120 → length l ≡ 288 → length (headsOf x) * 12 ≤ length l
+pub loaded-short : (x l : List ℕ) → length x ≤ 120 → length l ≡ 24 * loadedWidth → length (headsOf x) * loadedWidth ≤ length l
 loaded-short x l h size = let s = heads-short x in omega arith
 
 -- ---- by an accepted text
@@ -113,7 +114,7 @@ module _ (x payload t : List ℕ) where
     sums : (r : Params) → r ≡ within (walk (bodyOf payload) (definition x)) (length t) → AddsUp (definition x) payload r
     unfolding within
     sums (Refused why) e = tt
-    sums (Rows n p) e = go (leb (length (walk (bodyOf payload) (definition x) .rows)) (length t / 9)) e
+    sums (Rows n p) e = go (leb (length (walk (bodyOf payload) (definition x) .rows)) (length t / rowWidth)) e
       where
         go : (b : Bool) → Rows n p ≡ cond b (Rows (length (walk (bodyOf payload) (definition x) .rows))
             (record { 0 = inPayload (walk (bodyOf payload) (definition x) .end) })) (Refused (MoreRows (length (walk (bodyOf payload) (definition x) .rows))))

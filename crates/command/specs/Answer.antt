@@ -10,7 +10,7 @@ use Rattle.text.specs.declared.Verdict.{Verdict}
 use Rattle.text.specs.declared.Verdict.the-variants.{Accepted, Refused as NotAccepted}
 use Rattle.command_text.specs.Rules.{verdict}
 use Rattle.command_class.specs.Definition.{Entry, definition}
-use Rattle.command_rules.specs.Rows.{width, table}
+use Rattle.command_rules.specs.Rows.{rowWidth, table}
 use Rattle.command_rules.specs.declared.Row.{Row}
 use Rattle.command_rules.specs.Param.{inPayload}
 use Rattle.command_rules.specs.Walk.{Walked, walk}
@@ -25,7 +25,7 @@ bodyOf payload = drop 2 payload
 -- C18, R8: the answer, if a table of `room` numbers has rows enough
 unfoldable pub within : Walked → ℕ → Params
 within w room =
-    cond (leb (length (w .rows)) (room / width)) (Rows (length (w .rows)) (record { 0 = inPayload (w .end) })) (Refused (MoreRows (length (w .rows))))
+    cond (leb (length (w .rows)) (room / rowWidth)) (Rows (length (w .rows)) (record { 0 = inPayload (w .end) })) (Refused (MoreRows (length (w .rows))))
 
 -- R4, R5, R11: a payload that is too long or too short; else the answer by a definition
 unfoldable pub answerBy : List Entry → List ℕ → ℕ → Params

@@ -9,7 +9,8 @@ use command_groups::keep;
 use command_groups::keep_repetitions;
 use command_groups::param_at;
 use command_param::Param;
-use command_rows::WIDTH;
+use command_rows::ROW_WIDTH;
+use command_schema::LOADED_WIDTH;
 use records::BodyOffset;
 use records::PayloadOffset;
 use refusal::Refusal;
@@ -20,7 +21,8 @@ ghost use lib.ListN.{length};
 ghost use Rattle.text.specs.declared.Verdict.the-variants.{Accepted};
 ghost use Rattle.command_text.specs.Rules.{verdict};
 ghost use Rattle.command_schema.specs.Heads.{headsOf, entriesOf};
-ghost use Rattle.command_schema.specs.Loaded.{IsLoaded};
+ghost use Rattle.command_schema.specs.Loaded.{loadedWidth, IsLoaded};
+ghost use Rattle.command_rules.specs.Rows.{rowWidth};
 ghost use Rattle.command_rules.specs.Walk.{walk};
 ghost use Rattle.command_groups.specs.Steps.{Gives};
 ghost use Rattle.command.specs.Answer.{Fills, DecodesBy, Decodes};
@@ -29,17 +31,17 @@ pub use command_lengths::variable_len;
 pub use command_param::decode_param;
 pub use command_param::read_uint;
 
-// The numbers of the loaded definition: 12 for each of its 256 rows.
-const LOADED: usize = 3072;
+// The numbers of the loaded definition: it has at most 256 rows.
+const LOADED: usize = 256 * LOADED_WIDTH;
 
 // A text of so few bytes has at most 24 rows, as a Q or G has at least five: a small table does, and is laid out sooner.
 const SHORT: usize = 120;
 
 // The numbers of its rows.
-const LOADED_SHORT: usize = 288;
+const LOADED_SHORT: usize = 24 * LOADED_WIDTH;
 
 // The most numbers that a byte of the body makes: 34 rows, for a repetition, a parameter and 32 bit children.
-const MOST: usize = 306;
+const MOST: usize = 34 * ROW_WIDTH;
 
 // What a command is decoded into: the rows written, and where the remainder starts.
 pub enum Params {
@@ -108,7 +110,7 @@ fn walk_params(text: &[u8], loaded: &[u16], count: usize, body: &[u8], rows: &mu
 // Writes all rows of a body, for which the table has room.
 fn write_body(text: &[u8], loaded: &[u16], count: usize, body: &[u8], rows: &mut [u64]) -> Params
     requires { ⌜ (IsLoaded (now text) (now loaded) count) × (length (now body) < 65536)
-        × (length (walk (now body) (entriesOf (headsOf (now text))) .rows) ≤ length (now rows) / 9) ⌝ }
+        × (length (walk (now body) (entriesOf (headsOf (now text))) .rows) ≤ length (now rows) / rowWidth) ⌝ }
     ensures { λ r. ⌜ Fills (walk (now (body .entry)) (entriesOf (headsOf (now (text .entry))))) (now (rows .entry)) r (now (rows .exit)) ⌝ }
 {
     let taken = walk_params(text, loaded, count, body, rows);
@@ -129,7 +131,7 @@ fn decode_body(text: &[u8], loaded: &[u16], count: usize, body: &[u8], rows: &mu
     }
     let none: usize = 0;
     let counted = walk_params(text, loaded, count, body, &mut rows[..none]);
-    if rows.len() / WIDTH < counted.count {
+    if rows.len() / ROW_WIDTH < counted.count {
         return Params::Refused(Refusal::MoreRows(counted.count));
     }
     write_body(text, loaded, count, body, rows)
@@ -137,7 +139,7 @@ fn decode_body(text: &[u8], loaded: &[u16], count: usize, body: &[u8], rows: &mu
 
 // Loads the text into a table that has room for it, and decodes a body by it.
 fn decode_by(text: &[u8], loaded: &mut [u16], body: &[u8], rows: &mut [u64]) -> Params
-    requires { ⌜ (verdict (now text) ≡ Accepted) × (length (headsOf (now text)) * 12 ≤ length (now loaded)) × (length (now body) < 65536) ⌝ }
+    requires { ⌜ (verdict (now text) ≡ Accepted) × (length (headsOf (now text)) * loadedWidth ≤ length (now loaded)) × (length (now body) < 65536) ⌝ }
     ensures { λ r. ⌜ Fills (walk (now (body .entry)) (entriesOf (headsOf (now (text .entry))))) (now (rows .entry)) r (now (rows .exit)) ⌝ }
 {
     let count = command_schema::load(text, loaded);

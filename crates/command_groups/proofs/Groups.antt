@@ -12,7 +12,7 @@ use Rattle.records.specs.declared.BodyOffset.{BodyOffset}
 use Rattle.command_class.specs.Definition.{Parameter}
 use Rattle.command_lengths.specs.Entries.{entries}
 use Rattle.command_rules.specs.Lengths.{repeats}
-use Rattle.command_rules.specs.declared.BitOffset.{BitOffset}
+use Rattle.command_rules.specs.declared.BitShift.{BitShift}
 use Rattle.command_schema.specs.Heads.{headsOf, membersOf}
 use Rattle.command_schema.specs.Loaded.{IsLoaded}
 use Rattle.command_schema.proofs.Told.{members-small}
@@ -219,7 +219,7 @@ module _ (body : List ℕ) (qs : List Parameter) (line most start n : ℕ) (t₀
 pub ruleset turns-laws = (turns-start, turns-end, turns-low, turns-next-low, turns-nothing, turns-fits, turns-take)
 
 -- a group in a part of the table: from row k on
-pub group-part : (x body ns : List ℕ) (line i most left offset mask : ℕ) (shift : BitOffset) (at n : ℕ) (t ys : List ℕ) (k rest : ℕ) (r : Repeated)
+pub group-part : (x body ns : List ℕ) (line i most left offset mask : ℕ) (shift : BitShift) (at n : ℕ) (t ys : List ℕ) (k rest : ℕ) (r : Repeated)
     → GivesGroup (repetitions body line (membersOf (drop i (headsOf x))) most 0 at n) (take (length t - rest) (drop rest t)) 0 ys r
     → rest ≡ rowAt k (length t)
     → most ≡ repeats offset mask shift (entries ns) left → left ≡ length body - at

@@ -1,7 +1,7 @@
 // A group of a command: its members, its repetitions, and how often it repeats; and the entries that a list keeps.
 // Each function writes the rows for which there is room in its part of the table, and counts all.
 use command_param::Param;
-use command_rules::BitOffset;
+use command_rules::BitShift;
 use command_rules::Row;
 use command_schema::Loaded;
 use records::BodyOffset;
@@ -331,13 +331,7 @@ pub fn group_at(
         (now (rows .entry)) k (now (rows .exit)) r ⌝ }
 {
     let rest = command_param::remaining(body, at);
-    let most = command_lengths::repeats_of(
-        g.paramoffs,
-        g.sizemask,
-        BitOffset(g.sizeoffs),
-        es,
-        rest,
-    );
+    let most = command_lengths::repeats_of(g.paramoffs, g.sizemask, BitShift(g.sizeoffs), es, rest);
     let part = command_rows::row_at(k, rows.len());
     read_group(
         text,

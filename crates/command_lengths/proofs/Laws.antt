@@ -16,7 +16,7 @@ use Rattle.command_lengths.specs.Entries.{earlier, entries, given}
 use Rattle.command_rules.specs.Lengths.{meets, holds, masked, byEntry, wanted, cut, sizeOf, counted, repeats, entryAt}
 use Rattle.command_rules.specs.declared.Earlier.{Earlier}
 use Rattle.command_rules.specs.declared.Earlier.the-variants.{Value, NoValue, NoEntry}
-use Rattle.command_rules.specs.declared.BitOffset.{BitOffset}
+use Rattle.command_rules.specs.declared.BitShift.{BitShift}
 use Rattle.command_rules.specs.declared.Rule.{Rule}
 use Rattle.command_rules.specs.declared.Rule.the-variants.{Fixed, Open, Counted}
 use Rattle.command_rules.specs.declared.Wanted.{Wanted}
@@ -78,13 +78,13 @@ module _ (offset mask : ℕ) (es : List Earlier) where
 
 -- ---- lengths
 
-pub masked-far : (b mask : ℕ) (shift : BitOffset) → b < 2 ^ 16 → 15 < shift .0 → 0 ≡ masked b mask shift
+pub masked-far : (b mask : ℕ) (shift : BitShift) → b < 2 ^ 16 → 15 < shift .0 → 0 ≡ masked b mask shift
 masked-far b mask shift h u =
     let a = and-le-l b mask in
     let p : 2 ^ 16 ≤ 2 ^ (shift .0) = pow-mono {i = 16} (omega arith) in
     sym (div-eq-of-lt (lt-of-lt-of-le (lt-of-le-of-lt a h) p))
 
-module _ (e : Earlier) (mask : ℕ) (shift : BitOffset) where
+module _ (e : Earlier) (mask : ℕ) (shift : BitShift) where
   pub by-value : (b r : ℕ) → e ≡ Value b → r ≡ masked b mask shift → Exactly r ≡ byEntry mask shift e
   by-value b r q w = rw (q, w)
 
@@ -110,7 +110,7 @@ module _ (rule : Rule) (es : List Earlier) where
   pub wanted-open : rule ≡ Open → Rest ≡ wanted rule es
   wanted-open q = rw q
 
-  pub wanted-counted : (k mask : ℕ) (shift : BitOffset) (e : Earlier) (r : Wanted) → rule ≡ Counted k mask shift → e ≡ entryAt es k
+  pub wanted-counted : (k mask : ℕ) (shift : BitShift) (e : Earlier) (r : Wanted) → rule ≡ Counted k mask shift → e ≡ entryAt es k
       → r ≡ byEntry mask shift e → r ≡ wanted rule es
   wanted-counted k mask shift e r q ee er = er ∙ ap (byEntry mask shift) ee ∙ rw q
 
@@ -145,7 +145,7 @@ module _ (offset mask : ℕ) (rule : Rule) (es : List Earlier) (rest : ℕ) wher
 
 -- ---- groups
 
-module _ (offset mask : ℕ) (shift : BitOffset) (es : List Earlier) (rest : ℕ) where
+module _ (offset mask : ℕ) (shift : BitShift) (es : List Earlier) (rest : ℕ) where
   pub repeats-255 : offset ≡ 255 → rest ≡ repeats offset mask shift es rest
   unfolding repeats
   repeats-255 h = rw (eq-eqb offset 255 h)
@@ -183,7 +183,7 @@ pub size-first : (offset mask : Option ℕ) (rule : Rule) (es : List Earlier) (r
 unfolding sizeOf
 size-first offset mask rule es rest = rw (holds-first offset mask es, wanted-first rule es) refl
 
-pub repeats-first : (offset mask : ℕ) (shift : BitOffset) (es : List Earlier) (rest : ℕ)
+pub repeats-first : (offset mask : ℕ) (shift : BitShift) (es : List Earlier) (rest : ℕ)
     → repeats offset mask shift (take 256 es) rest ≡ repeats offset mask shift es rest
 unfolding repeats
 repeats-first offset mask shift es rest = ap (λ (e : Earlier). cond (eqb offset 255 || eqb mask 0) rest (counted mask shift e)) (entry-first es offset)

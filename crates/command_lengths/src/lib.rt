@@ -2,7 +2,7 @@
 // command_class/decode.rs.
 // Of an entry later lengths, conditions and counts want only whether it has a value, and its low byte: `es` are the first 256 entries of a list,
 // one number each, 256 for an entry without value. A number of a definition that may be missing is 256 where it is.
-use command_rules::BitOffset;
+use command_rules::BitShift;
 use command_rules::Earlier;
 use command_rules::Rule;
 use command_rules::Size;
@@ -61,7 +61,7 @@ pub fn is_present(offset: u16, mask: u16, es: &[u16]) -> bool
 }
 
 // A number masked and shifted.
-pub fn mask_shift(b: u16, mask: u16, shift: BitOffset) -> u16
+pub fn mask_shift(b: u16, mask: u16, shift: BitShift) -> u16
     ensures { λ r. ⌜ r ≡ masked b mask shift ⌝ }
 {
     if 15 < shift.0 {
@@ -70,7 +70,7 @@ pub fn mask_shift(b: u16, mask: u16, shift: BitOffset) -> u16
     (b & mask) >> shift.0
 }
 
-fn entry_len(e: Earlier, mask: u16, shift: BitOffset) -> Wanted
+fn entry_len(e: Earlier, mask: u16, shift: BitShift) -> Wanted
     ensures { λ r. ⌜ r ≡ byEntry mask shift e ⌝ }
 {
     match e {
@@ -123,7 +123,7 @@ pub fn size_of(offset: u16, mask: u16, rule: Rule, es: &[u16], rest: usize) -> S
     Size::Missing
 }
 
-fn entry_count(e: Earlier, mask: u16, shift: BitOffset) -> u16
+fn entry_count(e: Earlier, mask: u16, shift: BitShift) -> u16
     ensures { λ r. ⌜ r ≡ counted mask shift e ⌝ }
 {
     match e {
@@ -134,7 +134,7 @@ fn entry_count(e: Earlier, mask: u16, shift: BitOffset) -> u16
 }
 
 // How often a group repeats at most.
-pub fn repeats_of(offset: u16, mask: u16, shift: BitOffset, es: &[u16], rest: usize) -> usize
+pub fn repeats_of(offset: u16, mask: u16, shift: BitShift, es: &[u16], rest: usize) -> usize
     ensures { λ r. ⌜ r ≡ repeats offset mask shift (entries (now (es .entry))) rest ⌝ }
 {
     if offset == 255 {

@@ -20,6 +20,7 @@ use Rattle.command_class.specs.Find.{from, among, Says, IsRead}
 use Rattle.command_class.specs.declared.Row.{Row as Line}
 use Rattle.command_class.specs.declared.Read.{Read}
 use Rattle.command_class.proofs.Finding.{among-laws}
+use Rattle.command_rules.specs.Rows.{rowWidth}
 use Rattle.command_rules.specs.Lengths.{masked}
 use Rattle.command_schema.specs.Loaded.{after, Stands}
 use Rattle.command_schema.specs.declared.Loaded.{Loaded}
@@ -89,7 +90,7 @@ module _ (t : List ℕ) (q : Loaded) (b parent start : ℕ) (stands : Stands t q
   total-is : q .bits ≡ length (bitRows b parent start (under (from t (after q))))
   total-is = stands .bits ∙ sym (bits-count b parent start (under (from t (after q))))
 
-  pub children-full : (d : List ℕ) → length d < 9 → Writes d 0 (bitRows b parent start (under (from t (after q)))) d (q .bits)
+  pub children-full : (d : List ℕ) → length d < rowWidth → Writes d 0 (bitRows b parent start (under (from t (after q)))) d (q .bits)
   children-full d h = record { rows = sym (written-full d 0 (bitRows b parent start (under (from t (after q)))) (omega arith)); count = total-is }
 
   pub children-start : (d : List ℕ) (p : Place) → p ≡ after q → q .bits < 65536 → Children t p b parent start (q .bits) d d p 0

@@ -10,6 +10,7 @@ use borrow.Author.Tests.{eq-eqb, ne-eqb}
 use Rattle.command_class.specs.Definition.{under}
 use Rattle.command_class.specs.Find.{from}
 use Rattle.command_lengths.specs.Entries.{entries, given, earlier}
+use Rattle.command_rules.specs.Rows.{rowWidth}
 use Rattle.command_rules.specs.Lengths.{sizeOf}
 use Rattle.command_rules.specs.declared.Rule.{Rule}
 use Rattle.command_rules.specs.declared.Size.{Size}
@@ -61,7 +62,7 @@ part-children t q bs d ys start parent rest b c w er eb h =
 pub ruleset row-laws = (row-is, no-children, part-children)
 
 -- ---- its own row in the table
-pub own-full : (d : List ℕ) (row : Row) → length d < 9 → d ≡ written d 0 (row ∷ [])
+pub own-full : (d : List ℕ) (row : Row) → length d < rowWidth → d ≡ written d 0 (row ∷ [])
 own-full d row h = sym (written-full d 0 (row ∷ []) (omega arith))
 
 pub own-written : (d d′ : List ℕ) (row row′ : Row) → d′ ≡ written d 0 (row ∷ []) → row ≡ row′ → d′ ≡ written d 0 (row′ ∷ [])

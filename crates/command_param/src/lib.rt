@@ -1,8 +1,8 @@
 // One Q of a command: whether it exists, its value, its row and its bit children. Counterpart of `read_uint`, `decode_bits` and `decode_param` of
 // command_class/decode.rs.
 use command_class::Row as Line;
-use command_rows::WIDTH;
-use command_rules::BitOffset;
+use command_rows::ROW_WIDTH;
+use command_rules::BitShift;
 use command_rules::Row;
 use command_rules::Size;
 use command_rules::Uint;
@@ -152,7 +152,7 @@ fn bit_value(line: Line, b: u16) -> u64
     ensures { λ r. ⌜ r ≡ bitNumber b line ⌝ }
 {
     if line.kind != b'T' {
-        return command_lengths::mask_shift(b, line.mask, BitOffset(line.shift)) as u64;
+        return command_lengths::mask_shift(b, line.mask, BitShift(line.shift)) as u64;
     }
     if b & line.mask == 0 {
         return 0;
@@ -204,7 +204,7 @@ fn decode_bits(
     ensures { λ r. ⌜ r < 65536 ⌝ }
 {
     let total = q.bits as usize;
-    if rows.len() < WIDTH {
+    if rows.len() < ROW_WIDTH {
         return total;
     }
     let mut place = q.next();
@@ -258,7 +258,7 @@ fn write_own(
     ensures { λ _. ⌜ now (rows .exit) ≡ written (now (rows .entry)) 0
         (rowOf (fieldIn (now (text .entry)) q) parent (start .0) (now (bytes .entry)) ∷ []) ⌝ }
 {
-    if rows.len() < WIDTH {
+    if rows.len() < ROW_WIDTH {
         return;
     }
     command_rows::write_row(rows, 0, param_row(text, q, bytes, start, parent));

@@ -4,16 +4,16 @@ use mathlib.Core.List.{List, map}
 use Prim.Native.Nat.{ℕ}
 use lib.ListN.{length}
 use Rattle.rows.specs.Parts.{puts, cutAt}
-use Rattle.command_rules.specs.Rows.{width, numbers}
+use Rattle.command_rules.specs.Rows.{rowWidth, numbers}
 use Rattle.command_rules.specs.declared.Row.{Row}
 
 -- the table with rows written from row k on, those for which there is room
 unfoldable pub written : List ℕ → ℕ → List Row → List ℕ
-written t k rs = puts width t k (map numbers rs)
+written t k rs = puts rowWidth t k (map numbers rs)
 
 -- where row k begins, or the table's end if that comes first
 unfoldable pub rowAt : ℕ → ℕ → ℕ
-rowAt k n = cutAt width k n
+rowAt k n = cutAt rowWidth k n
 
 -- c rows are written from row k on, those for which there is room
 pub record Writes (t : List ℕ) (k : ℕ) (rs : List Row) (t′ : List ℕ) (c : ℕ) : Type 0 where

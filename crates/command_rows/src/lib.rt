@@ -7,10 +7,29 @@ ghost use Prim.Native.Nat.{_≤_, _<_, _^_};
 ghost use Rattle.command_rows.specs.Rows.{written, rowAt};
 ghost use Rattle.command_rules.specs.Rows.{numbers};
 
-// The numbers of a row.
-pub const WIDTH: usize = 9;
+// The columns of a row: C16 of docs/RULES.md.
+pub const KIND: usize = 0;
 
-fn numbers_of(row: Row) -> [u64; 9]
+pub const LINE: usize = 1;
+
+pub const PARENT: usize = 2;
+
+pub const START: usize = 3;
+
+pub const END: usize = 4;
+
+pub const VALUED: usize = 5;
+
+pub const VALUE: usize = 6;
+
+pub const NAMED: usize = 7;
+
+pub const NUMBER: usize = 8;
+
+// The numbers of a row.
+pub const ROW_WIDTH: usize = NUMBER + 1;
+
+fn numbers_of(row: Row) -> [u64; ROW_WIDTH]
     ensures { λ r. ⌜ r ≡ numbers row ⌝ }
 {
     [
@@ -31,7 +50,7 @@ pub fn write_row(table: &mut [u64], k: usize, row: Row)
     requires { ⌜ k < 2 ^ 56 ⌝ }
     ensures { λ _. ⌜ now (table .exit) ≡ written (now (table .entry)) k (row ∷ []) ⌝ }
 {
-    rows::put_row(table, k * WIDTH, &numbers_of(row));
+    rows::put_row(table, k * ROW_WIDTH, &numbers_of(row));
 }
 
 // Where row k begins in a table of so many numbers, or the table's end if that comes first.
@@ -40,6 +59,6 @@ pub fn row_at(k: usize, length: usize) -> usize
     ensures { λ r. ⌜ r ≡ rowAt k length ⌝ }
     ensures { λ r. ⌜ r ≤ length ⌝ }
 {
-    let at = k * WIDTH;
+    let at = k * ROW_WIDTH;
     if at <= length { at } else { length }
 }

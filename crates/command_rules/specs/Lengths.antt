@@ -8,7 +8,7 @@ use lib.Dec.{eqb, leb, ltb}
 use lib.ListN.{getD}
 use Rattle.command_rules.specs.declared.Earlier.{Earlier}
 use Rattle.command_rules.specs.declared.Earlier.the-variants.{Value, NoValue, NoEntry}
-use Rattle.command_rules.specs.declared.BitOffset.{BitOffset}
+use Rattle.command_rules.specs.declared.BitShift.{BitShift}
 use Rattle.command_rules.specs.declared.Rule.{Rule}
 use Rattle.command_rules.specs.declared.Rule.the-variants.{Fixed, Open, Counted}
 use Rattle.command_rules.specs.declared.Wanted.{Wanted}
@@ -37,11 +37,11 @@ holds none mask es = true
 -- ---- lengths
 
 -- C6, C11, C13: some bits of a byte, as a number
-abbrev pub masked : ℕ → ℕ → BitOffset → ℕ
+abbrev pub masked : ℕ → ℕ → BitShift → ℕ
 masked b mask shift = bitAnd b mask / 2 ^ (shift .0)
 
 -- C6: the length by the entry that an R means
-abbrev pub byEntry : ℕ → BitOffset → Earlier → Wanted
+abbrev pub byEntry : ℕ → BitShift → Earlier → Wanted
 byEntry mask shift (Value b) = Exactly (masked b mask shift)
 byEntry mask shift NoValue = Exactly (masked 0 mask shift)
 byEntry mask shift NoEntry = Rest
@@ -71,11 +71,11 @@ sizeOf offset mask rule es rest = cond (exists offset mask rule es rest) (Bytes 
 -- ---- groups
 
 -- C13: how often by the entry
-abbrev pub counted : ℕ → BitOffset → Earlier → ℕ
+abbrev pub counted : ℕ → BitShift → Earlier → ℕ
 counted mask shift (Value b) = masked b mask shift
 counted mask shift NoValue = 0
 counted mask shift NoEntry = 0
 
 -- C13: at most how often. A repetition that goes on takes a byte or more, so as long as something is left is at most once a byte.
-unfoldable pub repeats : ℕ → ℕ → BitOffset → List Earlier → ℕ → ℕ
+unfoldable pub repeats : ℕ → ℕ → BitShift → List Earlier → ℕ → ℕ
 repeats offset mask shift es rest = cond (eqb offset 255 || eqb mask 0) rest (counted mask shift (entryAt es offset))

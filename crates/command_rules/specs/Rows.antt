@@ -5,8 +5,8 @@ use Rattle.rows.specs.Rows.{laid}
 use Rattle.command_rules.specs.declared.Row.{Row}
 
 -- the numbers of a row
-abbrev pub width : ℕ
-width = 9
+abbrev pub rowWidth : ℕ
+rowWidth = 9
 
 -- C16: the nine numbers, in their order
 abbrev pub numbers : Row → List ℕ

@@ -2,7 +2,7 @@
 // the rules speak of; no code.
 
 // A bit's place in a byte, from its lowest.
-pub struct BitOffset(pub u16);
+pub struct BitShift(pub u16);
 
 // What an offset finds: an entry's low byte, an entry without value, or no such entry.
 pub enum Earlier {
@@ -18,7 +18,7 @@ pub enum Rule {
     Counted {
         offset: u16,
         mask: u16,
-        shift: BitOffset,
+        shift: BitShift,
     },
 }
 

@@ -19,7 +19,7 @@ use Rattle.command_rules.specs.declared.Rule.the-variants.{Fixed, Open, Counted
 use Rattle.command_rules.specs.Field.{arrayRule, variantRule, variableRule, ruleOf, arrayAscii, variantAscii, isConst, isNamed}
 use Rattle.command_schema.specs.Gathered.{withVariant, withArray, withBitmask, withBits, notedRow, bitmaskIn, arraySaid, arrayIn, variantSaid}
 use Rattle.command_schema.specs.Gathered.{variantIn, lengthNumber}
-use Rattle.command_schema.specs.Loaded.{numbers, ruleIn, isMember, isOuter, loadedParam}
+use Rattle.command_schema.specs.Loaded.{loadedWidth, numbers, ruleIn, isMember, isOuter, loadedParam}
 use Rattle.command_schema.specs.declared.Loaded.{Loaded}
 use Rattle.command_schema.specs.declared.items.Gathered.{Gathered}
 use Rattle.command_schema.specs.declared.items.ArrayAttrib.{ArrayAttrib}
@@ -49,8 +49,8 @@ module _ (l : Loaded) where
   pub outer-level : l .kind ≡ 81 → eqb (l .level) 0 ≡ isOuter l
   outer-level h = rw (eq-eqb (l .kind) 81 h)
 
-pub row-stored : (d : List ℕ) (i : ℕ) (l : Loaded) (ns d′ : List ℕ) → ns ≡ numbers l → d′ ≡ put d (i * 12) ns
-    → d′ ≡ put d (i * 12) (numbers l)
+pub row-stored : (d : List ℕ) (i : ℕ) (l : Loaded) (ns d′ : List ℕ) → ns ≡ numbers l → d′ ≡ put d (i * loadedWidth) ns
+    → d′ ≡ put d (i * loadedWidth) (numbers l)
 row-stored d i l ns d′ en ed = rw en at ed
 
 -- ---- what is gathered

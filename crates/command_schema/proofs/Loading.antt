@@ -28,7 +28,7 @@ use Rattle.command_lengths.specs.Entries.{given}
 use Rattle.command_rules.specs.Field.{first, asVariant, asArray, asBitmask, ruleOf, isNamed}
 use Rattle.command_schema.specs.Heads.{Head, isQ, isG, onto, heads, headsOf}
 use Rattle.command_schema.specs.Gathered.{gatheredNone, gathered, Gathers, bitmaskIn, arrayIn, variantIn, lengthNumber}
-use Rattle.command_schema.specs.Loaded.{SmallHeads, numbers, loadedAt, TellsQ, Tells, Told, IsLoaded, loadedParam, loadedGroup, Stores}
+use Rattle.command_schema.specs.Loaded.{loadedWidth, SmallHeads, numbers, loadedAt, TellsQ, Tells, Told, IsLoaded, loadedParam, loadedGroup, Stores}
 use Rattle.command_rules.specs.Limits.{countBits}
 use Rattle.command_schema.specs.declared.Loaded.{Loaded}
 use Rattle.command_schema.specs.declared.items.Under.{Under}
@@ -56,46 +56,46 @@ module _ (d : List ℕ) (at : ℕ) (vs : List ℕ) (room : at + length vs ≤ le
   kept : (k : ℕ) → k < at → getD (put d at vs) k 0 ≡ getD d k 0
   kept k h = rw written (List·getD-append (take at d) (vs ++ drop (at + length vs) d) 0 k (rw front h)) ∙ getD-take at d k 0 h
 
-module _ (d : List ℕ) (n : ℕ) (l : Loaded) (room : n * 12 + 12 ≤ length d) where
+module _ (d : List ℕ) (n : ℕ) (l : Loaded) (room : n * loadedWidth + loadedWidth ≤ length d) where
   -- the row that was written
-  loaded-new : loadedAt (put d (n * 12) (numbers l)) n ≡ l
+  loaded-new : loadedAt (put d (n * loadedWidth) (numbers l)) n ≡ l
   unfolding loadedAt
   loaded-new =
       rw (
         at-0,
-        got d (n * 12) (numbers l) room 1 (omega arith),
-        got d (n * 12) (numbers l) room 2 (omega arith),
-        got d (n * 12) (numbers l) room 3 (omega arith),
-        got d (n * 12) (numbers l) room 4 (omega arith),
-        got d (n * 12) (numbers l) room 5 (omega arith),
-        got d (n * 12) (numbers l) room 6 (omega arith),
-        got d (n * 12) (numbers l) room 7 (omega arith),
-        got d (n * 12) (numbers l) room 8 (omega arith),
-        got d (n * 12) (numbers l) room 9 (omega arith),
-        got d (n * 12) (numbers l) room 10 (omega arith),
-        got d (n * 12) (numbers l) room 11 (omega arith),
+        got d (n * loadedWidth) (numbers l) room 1 (omega arith),
+        got d (n * loadedWidth) (numbers l) room 2 (omega arith),
+        got d (n * loadedWidth) (numbers l) room 3 (omega arith),
+        got d (n * loadedWidth) (numbers l) room 4 (omega arith),
+        got d (n * loadedWidth) (numbers l) room 5 (omega arith),
+        got d (n * loadedWidth) (numbers l) room 6 (omega arith),
+        got d (n * loadedWidth) (numbers l) room 7 (omega arith),
+        got d (n * loadedWidth) (numbers l) room 8 (omega arith),
+        got d (n * loadedWidth) (numbers l) room 9 (omega arith),
+        got d (n * loadedWidth) (numbers l) room 10 (omega arith),
+        got d (n * loadedWidth) (numbers l) room 11 (omega arith),
       ) refl
     where
-      at-0 : getD (put d (n * 12) (numbers l)) (n * 12) 0 ≡ l .kind
-      at-0 = rw add-zero at (got d (n * 12) (numbers l) room 0 (omega arith))
+      at-0 : getD (put d (n * loadedWidth) (numbers l)) (n * loadedWidth) 0 ≡ l .kind
+      at-0 = rw add-zero at (got d (n * loadedWidth) (numbers l) room 0 (omega arith))
 
   -- the rows before it
-  loaded-old : (k : ℕ) → k < n → loadedAt (put d (n * 12) (numbers l)) k ≡ loadedAt d k
+  loaded-old : (k : ℕ) → k < n → loadedAt (put d (n * loadedWidth) (numbers l)) k ≡ loadedAt d k
   unfolding loadedAt
   loaded-old k h =
       rw (
-        kept d (n * 12) (numbers l) room (k * 12) (omega arith),
-        kept d (n * 12) (numbers l) room (k * 12 + 1) (omega arith),
-        kept d (n * 12) (numbers l) room (k * 12 + 2) (omega arith),
-        kept d (n * 12) (numbers l) room (k * 12 + 3) (omega arith),
-        kept d (n * 12) (numbers l) room (k * 12 + 4) (omega arith),
-        kept d (n * 12) (numbers l) room (k * 12 + 5) (omega arith),
-        kept d (n * 12) (numbers l) room (k * 12 + 6) (omega arith),
-        kept d (n * 12) (numbers l) room (k * 12 + 7) (omega arith),
-        kept d (n * 12) (numbers l) room (k * 12 + 8) (omega arith),
-        kept d (n * 12) (numbers l) room (k * 12 + 9) (omega arith),
-        kept d (n * 12) (numbers l) room (k * 12 + 10) (omega arith),
-        kept d (n * 12) (numbers l) room (k * 12 + 11) (omega arith),
+        kept d (n * loadedWidth) (numbers l) room (k * loadedWidth) (omega arith),
+        kept d (n * loadedWidth) (numbers l) room (k * loadedWidth + 1) (omega arith),
+        kept d (n * loadedWidth) (numbers l) room (k * loadedWidth + 2) (omega arith),
+        kept d (n * loadedWidth) (numbers l) room (k * loadedWidth + 3) (omega arith),
+        kept d (n * loadedWidth) (numbers l) room (k * loadedWidth + 4) (omega arith),
+        kept d (n * loadedWidth) (numbers l) room (k * loadedWidth + 5) (omega arith),
+        kept d (n * loadedWidth) (numbers l) room (k * loadedWidth + 6) (omega arith),
+        kept d (n * loadedWidth) (numbers l) room (k * loadedWidth + 7) (omega arith),
+        kept d (n * loadedWidth) (numbers l) room (k * loadedWidth + 8) (omega arith),
+        kept d (n * loadedWidth) (numbers l) room (k * loadedWidth + 9) (omega arith),
+        kept d (n * loadedWidth) (numbers l) room (k * loadedWidth + 10) (omega arith),
+        kept d (n * loadedWidth) (numbers l) room (k * loadedWidth + 11) (omega arith),
       ) refl
 
 -- one row more tells one head more
@@ -205,7 +205,7 @@ pub record Loading (t d₀ d : List ℕ) (p : Place) (n : ℕ) : Type 0 where
   pub count : n ≡ length done
   pub all : headsOf t ≡ done ++ heads (from t p)
   pub told : Told t d 0 done
-  pub size : length (headsOf t) * 12 ≤ length d
+  pub size : length (headsOf t) * loadedWidth ≤ length d
   pub small : SmallHeads (headsOf t)
   pub same : length d ≡ length d₀
   pub readable : Readable rules t p
@@ -213,8 +213,8 @@ pub record Loading (t d₀ d : List ℕ) (p : Place) (n : ℕ) : Type 0 where
   pub most : n ≤ 256
   pub short : length t ≤ 60000
 
-pub loading-start : (t d : List ℕ) (p : Place) → verdict t ≡ Accepted → length (headsOf t) * 12 ≤ length d → p ≡ record { at = 0; line = 1 }
-    → Loading t d d p 0
+pub loading-start : (t d : List ℕ) (p : Place) → verdict t ≡ Accepted → length (headsOf t) * loadedWidth ≤ length d
+    → p ≡ record { at = 0; line = 1 } → Loading t d d p 0
 loading-start t d p e size q =
     let w = accepted-within t e in
     record {
@@ -280,14 +280,14 @@ module _ (t d₀ d : List ℕ) (p : Place) (n : ℕ) (k : Loading t d₀ d p n) 
           ap length (k .all ∙ ap (λ (hs : List Head). k .done ++ hs) left) ∙ length-append (k .done) (h ∷ heads (from t next)) in
           omega arith
 
-      one-more : (l : Loaded) (d′ : List ℕ) → Tells t l h → d′ ≡ put d (n * 12) (numbers l) → Readable rules t next
+      one-more : (l : Loaded) (d′ : List ℕ) → Tells t l h → d′ ≡ put d (n * loadedWidth) (numbers l) → Readable rules t next
           → Loading t d₀ d′ next (n + 1)
       one-more l d′ tells e readable =
           let c = k .count in
           let s = k .size in
           let f = k .few in
           let r = room in
-          let rows : n * 12 + 12 ≤ length d = omega arith in
+          let rows : n * loadedWidth + loadedWidth ≤ length d = omega arith in
           let new : loadedAt d′ n ≡ l = rw e (loaded-new d n l rows) in
           let place : 0 + length (k .done) ≡ n = omega arith in
           record {
@@ -311,7 +311,7 @@ module _ (t d₀ d : List ℕ) (p : Place) (n : ℕ) (k : Loading t d₀ d p n) 
       q-left = rw (is-read .lines, said) refl
 
       q-more : (u : Under) (l : Loaded) (d′ : List ℕ) → Gathers t (read .next) u → l ≡ loadedParam (read .row) p (read .next) (u .gathered)
-          → d′ ≡ put d (n * 12) (numbers l) → Loading t d₀ d′ (u .next) (n + 1)
+          → d′ ≡ put d (n * loadedWidth) (numbers l) → Loading t d₀ d′ (u .next) (n + 1)
       q-more u l d′ gathers el ed =
           let all-fit : AllFit (record { line = p .line; says = is-read .said } ∷ from t (read .next)) = rw (is-read .lines) at (from-fit t p) in
           let says : Says (param q) (read .row) = subst (λ (x : Record). Says x (read .row)) said (is-read .says) in
@@ -344,7 +344,7 @@ module _ (t d₀ d : List ℕ) (p : Place) (n : ℕ) (k : Loading t d₀ d p n) 
       unfolding heads
       g-left = rw (is-read .lines, said) refl
 
-      g-more : (l : Loaded) (d′ : List ℕ) → l ≡ loadedGroup (read .row) p → d′ ≡ put d (n * 12) (numbers l)
+      g-more : (l : Loaded) (d′ : List ℕ) → l ≡ loadedGroup (read .row) p → d′ ≡ put d (n * loadedWidth) (numbers l)
           → Loading t d₀ d′ (read .next) (n + 1)
       g-more l d′ el ed =
           let says : Says (group g) (read .row) = subst (λ (x : Record). Says x (read .row)) said (is-read .says) in
@@ -358,13 +358,13 @@ module _ (t d₀ d : List ℕ) (p : Place) (n : ℕ) (k : Loading t d₀ d p n) 
       pub loading-g-room : n < 256
       loading-g-room = let f = k .few in omega (arith, room _ (read .next) (g-left (the-g .0) (the-g .1)))
 
-      pub loading-g : (l : Loaded) (d′ : List ℕ) → l ≡ loadedGroup (read .row) p → d′ ≡ put d (n * 12) (numbers l)
+      pub loading-g : (l : Loaded) (d′ : List ℕ) → l ≡ loadedGroup (read .row) p → d′ ≡ put d (n * loadedWidth) (numbers l)
           → Loading t d₀ d′ (read .next) (n + 1)
       loading-g l d′ el ed = g-more (the-g .0) (the-g .1) l d′ el ed
 
 -- a Q is stored
 pub stored : (t : List ℕ) (p : Place) (row : Row) (next : Place) (i : ℕ) (d : List ℕ) (u : Under) (l : Loaded) (d′ : List ℕ) → Gathers t next u
-    → l ≡ loadedParam row p next (u .gathered) → d′ ≡ put d (i * 12) (numbers l)
+    → l ≡ loadedParam row p next (u .gathered) → d′ ≡ put d (i * loadedWidth) (numbers l)
     → Stores t p row next i d (u .next) d′
 stored t p row next i d u l d′ gathers el ed = record { under-it = u; gathers = gathers; place = refl; table = rw el at ed }
 

@@ -36,6 +36,10 @@ SmallHeads (h ∷ hs) = SmallHead h × SmallHeads hs
 
 -- ---- a loaded row
 
+-- the numbers of a row
+abbrev pub loadedWidth : ℕ
+loadedWidth = 12
+
 -- its numbers, in the order of the table
 abbrev pub numbers : Loaded → List ℕ
 numbers l =
@@ -46,18 +50,18 @@ numbers l =
 unfoldable pub loadedAt : List ℕ → ℕ → Loaded
 loadedAt d i =
     record {
-      kind = getD d (i * 12) 0;
-      level = getD d (i * 12 + 1) 0;
-      line = getD d (i * 12 + 2) 0;
-      at = getD d (i * 12 + 3) 0;
-      optionaloffs = getD d (i * 12 + 4) 0;
-      optionalmask = getD d (i * 12 + 5) 0;
-      length = getD d (i * 12 + 6) 0;
-      paramoffs = getD d (i * 12 + 7) 0;
-      sizemask = getD d (i * 12 + 8) 0;
-      sizeoffs = getD d (i * 12 + 9) 0;
-      bits = getD d (i * 12 + 10) 0;
-      named = getD d (i * 12 + 11) 0;
+      kind = getD d (i * loadedWidth) 0;
+      level = getD d (i * loadedWidth + 1) 0;
+      line = getD d (i * loadedWidth + 2) 0;
+      at = getD d (i * loadedWidth + 3) 0;
+      optionaloffs = getD d (i * loadedWidth + 4) 0;
+      optionalmask = getD d (i * loadedWidth + 5) 0;
+      length = getD d (i * loadedWidth + 6) 0;
+      paramoffs = getD d (i * loadedWidth + 7) 0;
+      sizemask = getD d (i * loadedWidth + 8) 0;
+      sizeoffs = getD d (i * loadedWidth + 9) 0;
+      bits = getD d (i * loadedWidth + 10) 0;
+      named = getD d (i * loadedWidth + 11) 0;
     }
 
 -- what it says of a Q's length
@@ -121,7 +125,7 @@ Told t d i (h ∷ hs) = Tells t (loadedAt d i) h × Told t d (i + 1) hs
 pub record IsLoaded (t d : List ℕ) (n : ℕ) : Type 0 where
   pub count : n ≡ length (headsOf t)
   pub few : n ≤ 256
-  pub size : n * 12 ≤ length d
+  pub size : n * loadedWidth ≤ length d
   pub small : SmallHeads (headsOf t)
   pub told : Told t d 0 (headsOf t)
 
@@ -168,4 +172,4 @@ pub record Stores (t : List ℕ) (p : Place) (row : Row) (next : Place) (i : ℕ
   pub under-it : Under
   pub gathers : Gathers t next under-it
   pub place : r ≡ under-it .next
-  pub table : d′ ≡ put d (i * 12) (numbers (loadedParam row p next (under-it .gathered)))
+  pub table : d′ ≡ put d (i * loadedWidth) (numbers (loadedParam row p next (under-it .gathered)))

@@ -7,7 +7,7 @@ use crate::items::gather;
 use crate::items::length_of;
 use crate::items::named_of;
 use command_class::Row;
-use command_rules::BitOffset;
+use command_rules::BitShift;
 use command_rules::Rule;
 use text::Place;
 ghost use mathlib.Core.Path.{_≡_};
@@ -18,10 +18,11 @@ ghost use Rattle.text.specs.declared.Verdict.the-variants.{Accepted};
 ghost use Rattle.rows.specs.Rows.{put};
 ghost use Rattle.command_text.specs.Rules.{rules, verdict};
 ghost use Rattle.command_schema.specs.Heads.{headsOf};
-ghost use Rattle.command_schema.specs.Loaded.{numbers, loadedAt, ruleIn, isMember, isOuter, after, IsLoaded, loadedParam, loadedGroup, Stores};
+ghost use Rattle.command_schema.specs.Loaded.{loadedWidth, numbers, loadedAt, ruleIn, isMember, isOuter, after, IsLoaded, loadedParam, loadedGroup};
+ghost use Rattle.command_schema.specs.Loaded.{Stores};
 
 // The numbers of a loaded row.
-const COLUMNS: usize = 12;
+pub const LOADED_WIDTH: usize = 12;
 
 // A Q or a G as it is loaded. Offsets, masks and shifts have the source's XML names.
 pub struct Loaded {
@@ -80,7 +81,7 @@ impl Loaded {
         Rule::Counted {
             offset: self.paramoffs,
             mask: self.sizemask,
-            shift: BitOffset(self.sizeoffs),
+            shift: BitShift(self.sizeoffs),
         }
     }
 
@@ -94,7 +95,7 @@ impl Loaded {
         }
     }
 
-    fn numbers(self) -> [u16; 12]
+    fn numbers(self) -> [u16; LOADED_WIDTH]
         ensures { λ r. ⌜ r ≡ numbers self ⌝ }
     {
         [
@@ -134,17 +135,17 @@ fn store(table: &mut [u16], at: usize, row: &[u16])
 // Writes row i of a table.
 fn store_row(table: &mut [u16], i: usize, row: Loaded)
     requires { ⌜ i < 256 ⌝ }
-    ensures { λ _. ⌜ now (table .exit) ≡ put (now (table .entry)) (i * 12) (numbers row) ⌝ }
+    ensures { λ _. ⌜ now (table .exit) ≡ put (now (table .entry)) (i * loadedWidth) (numbers row) ⌝ }
 {
-    store(table, i * COLUMNS, &row.numbers());
+    store(table, i * LOADED_WIDTH, &row.numbers());
 }
 
 // Row i of a table.
 pub fn loaded_at(table: &[u16], i: usize) -> Loaded
-    requires { ⌜ (i < 256) × (i * 12 + 12 ≤ length (now table)) ⌝ }
+    requires { ⌜ (i < 256) × (i * loadedWidth + loadedWidth ≤ length (now table)) ⌝ }
     ensures { λ r. ⌜ r ≡ loadedAt (now (table .entry)) i ⌝ }
 {
-    let at = i * COLUMNS;
+    let at = i * LOADED_WIDTH;
     Loaded {
         kind: table[at],
         level: table[at + 1],
@@ -224,7 +225,7 @@ fn load_with_items(
 
 // Loads an accepted text into a table that has room for it, and returns how many rows it has.
 pub fn load(text: &[u8], table: &mut [u16]) -> usize
-    requires { ⌜ (verdict (now text) ≡ Accepted) × (length (headsOf (now text)) * 12 ≤ length (now table)) ⌝ }
+    requires { ⌜ (verdict (now text) ≡ Accepted) × (length (headsOf (now text)) * loadedWidth ≤ length (now table)) ⌝ }
     ensures { λ r. ⌜ IsLoaded (now (text .entry)) (now (table .exit)) r ⌝ }
 {
     let mut place = Place::start();

@@ -12,19 +12,19 @@ use files::capture::next_item;
 use frame_line::frame_row::put_header;
 use frame_line::frame_row::put_row;
 use pti::parse_payload;
+use pti::payload::BEAMS;
 use pti::payload::Frames;
+use pti::payload::ROW_WIDTH;
 use refusal::Refusal;
 use writer::Buffer;
 use writer::flush;
 ghost use mathlib.Core.Path.{_≡_};
 ghost use Prim.Native.Nat.{_≤_, _*_};
 ghost use lib.ListN.{length};
+ghost use Rattle.pti.specs.Payload.{rowWidth};
 ghost use Rattle.text.specs.declared.Verdict.the-variants.{Accepted};
 ghost use Rattle.frame_text.specs.Rules.{verdict};
 ghost use Rattle.files.specs.Capture.{Inside};
-
-// The numbers of a frame's row.
-const WIDTH: usize = 8;
 
 // The table of a payload's frames: 3,000 rows. A record with a frame has at least 22 bytes, so a payload has no more than 2,978 frames.
 pub type Table = [u64; 24000];
@@ -38,10 +38,10 @@ fn put_frame(
     out: &mut Buffer,
     sheet: Sheet,
 ) -> Sheet
-    requires { ⌜ 8 ≤ length (now row) ⌝ }
+    requires { ⌜ rowWidth ≤ length (now row) ⌝ }
     requires { ⌜ verdict (now text) ≡ Accepted ⌝ }
 {
-    let next = sheet.with_frame(row[5]);
+    let next = sheet.with_frame(row[BEAMS]);
     let at = put_row(
         out,
         next.at,
@@ -66,14 +66,14 @@ fn put_frames(
     out: &mut Buffer,
     sheet: Sheet,
 ) -> Sheet
-    requires { ⌜ n * 8 ≤ length (now table) ⌝ }
+    requires { ⌜ n * rowWidth ≤ length (now table) ⌝ }
     requires { ⌜ verdict (now text) ≡ Accepted ⌝ }
 {
     let mut shown = sheet;
     let mut i: usize = 0;
     while i < n {
-        let from = i * WIDTH;
-        let to = from + WIDTH;
+        let from = i * ROW_WIDTH;
+        let to = from + ROW_WIDTH;
         shown = put_frame(text, index, payload, &table[from..to], out, shown);
         i += 1;
     }

@@ -26,7 +26,7 @@ use Rattle.header_fields.specs.Fields.{fieldsIn, untyped}
 use Rattle.header_rules.specs.Data.{P, Field, total}
 use Rattle.header_rules.specs.Walk.{reading}
 use Rattle.header_rules.specs.Answer.{refused, answer}
-use Rattle.header_rules.specs.Table.{tableOf}
+use Rattle.header_rules.specs.Table.{rowWidth, tableOf}
 use Rattle.header_rules.specs.Trees.{trees}
 use Rattle.header_rules.specs.Loaded.{shown}
 use Rattle.header_rules.proofs.Walked.{flat-rows, flat-bit}
@@ -50,23 +50,23 @@ module _ (t d : List ℕ) (speed : ℕ) (fields scratch : List ℕ) (c : Candida
   rows-read : length (headingRead t fields scratch c read .rows) ≡ read .rows
   rows-read = length-map (rowsIn scratch (read .rows)) (shown (fieldsIn t fields (read .count)) (definition t .sets)) ∙ length-rowsIn scratch (read .rows)
 
-  pub show-more : length table / 7 < read .rows → Shows t d speed fields scratch c read table (Refused (MoreRows (read .rows))) table
+  pub show-more : length table / rowWidth < read .rows → Shows t d speed fields scratch c read table (Refused (MoreRows (read .rows))) table
   show-more h =
-      let e : fitted (length table / 7) (headingRead t fields scratch c read) ≡ more-rows (read .rows) =
-      rw (rows-read, lt-leb (read .rows) (length table / 7) h) refl in
+      let e : fitted (length table / rowWidth) (headingRead t fields scratch c read) ≡ more-rows (read .rows) =
+      rw (rows-read, lt-leb (read .rows) (length table / rowWidth) h) refl in
       rw e (record { answer = refl; rows = refl })
 
-  pub show-all : (offset : ℕ) (ok : Bool) (table′ : List ℕ) → read .rows ≤ length table / 7 → offset ≡ offsetOf (read .bit .0)
+  pub show-all : (offset : ℕ) (ok : Bool) (table′ : List ℕ) → read .rows ≤ length table / rowWidth → offset ≡ offsetOf (read .bit .0)
       → ok ≡ right d speed
       → table′ ≡ laid table (map (shown (fieldsIn t fields (read .count)) (definition t .sets)) (rowsIn scratch (read .rows)))
       → Shows t d speed fields scratch c read table (Header
       (record { number = c .number; key = c .key; flags = c .flags; payload = offset; right = ok; rows = read .rows })) table′
   show-all offset ok table′ h is-offset is-ok is-table =
-      let e : fitted (length table / 7) (headingRead t fields scratch c read) ≡ header (headingRead t fields scratch c read) =
-      rw (rows-read, le-leb (read .rows) (length table / 7) h) refl in
+      let e : fitted (length table / rowWidth) (headingRead t fields scratch c read) ≡ header (headingRead t fields scratch c read) =
+      rw (rows-read, le-leb (read .rows) (length table / rowWidth) h) refl in
       rw e (record { answer = rw (is-offset, is-ok, rows-read) refl; rows = is-table })
 
-  pub rows-fit : read .rows ≤ length table / 7 → read .rows * 7 ≤ length table
+  pub rows-fit : read .rows ≤ length table / rowWidth → read .rows * rowWidth ≤ length table
   rows-fit h = omega arith
 
 -- ---- the base

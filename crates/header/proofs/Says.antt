@@ -9,6 +9,7 @@ use borrow.Author.Tests.{le-ltb}
 use Rattle.refusal.specs.declared.Refusal.the-variants.{NoCandidate}
 use Rattle.frame_definition.specs.Definition.{Definition, Base, definition}
 use Rattle.crc.specs.Crc.{right}
+use Rattle.header_rules.specs.Table.{rowWidth}
 use Rattle.header_rules.specs.Told.{Heading, Told, no-base, no-candidate, more-rows, header, headingOf, told}
 use Rattle.header_rules.specs.Says.{Demanded}
 use Rattle.header_rules.specs.Says as told
@@ -64,11 +65,11 @@ module _ (t d : List ℕ) (region speed : ℕ) (table : List ℕ) where
         answer = e;
         rows = rows;
         says = λ w.
-            subst (Says (definition t) d (length table / 7) (keyOf t region speed) (right d speed)) (sym (e ∙ within-is w))
-            (says-of (definition t) d (length table / 7) (keyOf t region speed) (right d speed) (toldOf t d region speed (length table))
-            (told-says (definition t) d (length table / 7) (keyOf t region speed) (toldOf t d region speed (length table)) refl));
+            subst (Says (definition t) d (length table / rowWidth) (keyOf t region speed) (right d speed)) (sym (e ∙ within-is w))
+            (says-of (definition t) d (length table / rowWidth) (keyOf t region speed) (right d speed) (toldOf t d region speed (length table))
+            (told-says (definition t) d (length table / rowWidth) (keyOf t region speed) (toldOf t d region speed (length table)) refl));
         demand = λ w b is enough.
             subst (Demand (definition t) d (keyOf t region speed) (right d speed) b) (sym (e ∙ within-is w))
-            (demand-of (definition t) d (length table / 7) (keyOf t region speed) (right d speed) b (toldOf t d region speed (length table))
-            (told-demanded (definition t) d (length table / 7) (keyOf t region speed) b is enough (toldOf t d region speed (length table)) refl));
+            (demand-of (definition t) d (length table / rowWidth) (keyOf t region speed) (right d speed) b (toldOf t d region speed (length table))
+            (told-demanded (definition t) d (length table / rowWidth) (keyOf t region speed) b is enough (toldOf t d region speed (length table)) refl));
       }

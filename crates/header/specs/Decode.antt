@@ -17,7 +17,7 @@ use Rattle.frame_definition.specs.Definition.{Definition, Base, definition, bas
 use Rattle.crc.specs.Crc.{right}
 use Rattle.header_rules.specs.Data.{Field, Candidate}
 use Rattle.header_rules.specs.Demand.{First, None, Some}
-use Rattle.header_rules.specs.Table.{tableOf}
+use Rattle.header_rules.specs.Table.{rowWidth, tableOf}
 use Rattle.header_rules.specs.Trees.{trees}
 use Rattle.header_rules.specs.Told.{Heading, Told, no-base, no-candidate, more-rows, header, headingOf, candidatesOf, told}
 use Rattle.header_rules.specs.Says.{Fits, Needs, NoneHolds}
@@ -61,7 +61,7 @@ keyOf t region speed = baseKey region speed (definition t)
 
 -- what is told, for a table of so many numbers: a row has seven
 abbrev pub toldOf : List ℕ → List ℕ → ℕ → ℕ → ℕ → Told
-toldOf t d region speed room = told (definition t) d (room / 7) (keyOf t region speed)
+toldOf t d region speed room = told (definition t) d (room / rowWidth) (keyOf t region speed)
 
 -- H20, R10: what `decode_header` answers: first the text decides, then the length, then what is told
 abbrev pub decoded : List ℕ → List ℕ → ℕ → ℕ → ℕ → Decoded
@@ -121,7 +121,7 @@ pub record Demand (def : Definition) (d : List ℕ) (key : ℕ) (ok : Bool) (b :
 pub record Decodes (t d : List ℕ) (region speed : ℕ) (table : List ℕ) (r : Decoded) (table′ : List ℕ) : Type 0 where
   pub answer : r ≡ decoded t d region speed (length table)
   pub rows : table′ ≡ tableAfter table (toldOf t d region speed (length table)) r
-  pub says : Within t d → Says (definition t) d (length table / 7) (keyOf t region speed) (right d speed) r
+  pub says : Within t d → Says (definition t) d (length table / rowWidth) (keyOf t region speed) (right d speed) r
   pub demand : Within t d → (b : Base) → firstBase (keyOf t region speed) (definition t .bases) ≡ some b
-      → Enough (definition t) d (length table / 7) (keyOf t region speed) b
+      → Enough (definition t) d (length table / rowWidth) (keyOf t region speed) b
       → Demand (definition t) d (keyOf t region speed) (right d speed) b r

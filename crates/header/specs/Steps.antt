@@ -6,12 +6,13 @@ use lib.ListN.{length}
 use Rattle.frame_definition.specs.Definition.{Numbered, definition}
 use Rattle.frame_definition.specs.declared.Candidate.{Candidate}
 use Rattle.crc.specs.Crc.{right}
-use Rattle.header_fields.specs.Fields.{fieldsIn}
+use Rattle.header_fields.specs.Fields.{lineWidth, fieldsIn}
+use Rattle.header_rules.specs.Table.{rowWidth}
 use Rattle.header_rules.specs.Answer.{answer}
 use Rattle.header_rules.specs.Loaded.{shown}
 use Rattle.header_rules.specs.Trees.{trees}
 use Rattle.header_rules.specs.Told.{Heading, Told, offsetOf, fitted, ofAnswer, candidatesOf, told}
-use Rattle.header_paths.specs.Scratch.{rowsIn}
+use Rattle.header_paths.specs.Scratch.{scratchWidth, rowsIn}
 use Rattle.header_candidates.specs.declared.Read.{Read}
 use Rattle.header.specs.declared.Decoded.{Decoded}
 use Rattle.header.specs.Decode.{ofTold, tableAfter}
@@ -23,8 +24,8 @@ pub record Gives (d : List ℕ) (speed : ℕ) (x : Told) (table : List ℕ) (r :
 
 -- what was read lies in the tables, and in an MPDU of at most 2,048 bytes
 pub record Ready (fields scratch : List ℕ) (read : Read) : Type 0 where
-  pub lines : read .count * 12 ≤ length fields
-  pub rows : read .rows * 6 ≤ length scratch
+  pub lines : read .count * lineWidth ≤ length fields
+  pub rows : read .rows * scratchWidth ≤ length scratch
   pub bit-in : read .bit .0 ≤ 16384
 
 -- the heading of a candidate that was read
@@ -42,12 +43,12 @@ headingRead t fields scratch c read =
     }
 
 abbrev pub Shows : List ℕ → List ℕ → ℕ → List ℕ → List ℕ → Candidate → Read → List ℕ → Decoded → List ℕ → Type 0
-Shows t d speed fields scratch c read table r table′ = Gives d speed (fitted (length table / 7) (headingRead t fields scratch c read)) table r table′
+Shows t d speed fields scratch c read table r table′ = Gives d speed (fitted (length table / rowWidth) (headingRead t fields scratch c read)) table r table′
 
 -- the first candidate that holds, behind the base's P lines bs
 abbrev pub Picks : List ℕ → List ℕ → ℕ → ℕ → List Numbered → List ℕ → Decoded → List ℕ → Type 0
 Picks t d speed key bs table r table′ =
-    Gives d speed (ofAnswer (definition t .sets) d (length table / 7) (answer 7 d (trees bs) (candidatesOf key (definition t)))) table r table′
+    Gives d speed (ofAnswer (definition t .sets) d (length table / rowWidth) (answer 7 d (trees bs) (candidatesOf key (definition t)))) table r table′
 
 abbrev pub Reads : List ℕ → List ℕ → ℕ → ℕ → List ℕ → Decoded → List ℕ → Type 0
-Reads t d speed key table r table′ = Gives d speed (told (definition t) d (length table / 7) key) table r table′
+Reads t d speed key table r table′ = Gives d speed (told (definition t) d (length table / rowWidth) key) table r table′

@@ -10,8 +10,10 @@ use header_candidates::Choice;
 use header_candidates::Read;
 use header_candidates::choose;
 use header_candidates::read_base;
+use header_fields::LINE_WIDTH;
 use header_paths::BitOffset;
-use header_rows::COLUMNS;
+use header_paths::SCRATCH_WIDTH;
+use header_rows::ROW_WIDTH;
 use header_rows::write_rows;
 use refusal::Refusal;
 use text::Place;
@@ -70,7 +72,7 @@ fn show(
         (now (rows .exit)) ⌝ }
 {
     let n = read.rows;
-    if rows.len() / COLUMNS < n {
+    if rows.len() / ROW_WIDTH < n {
         return Decoded::Refused(Refusal::MoreRows(n));
     }
     write_rows(text, fields, read.count, scratch, n, rows);
@@ -132,8 +134,8 @@ fn read_header(
     requires { ⌜ FindsBase (now text) key (At start n) ⌝ }
     ensures { λ r. ⌜ Reads (now (text .entry)) (now (mpdu .entry)) speed key (now (rows .entry)) r (now (rows .exit)) ⌝ }
 {
-    let mut fields = [0u64; 1536];
-    let mut scratch = [0u64; 768];
+    let mut fields = [0u64; 128 * LINE_WIDTH];
+    let mut scratch = [0u64; 128 * SCRATCH_WIDTH];
     let base = read_base(text, mpdu, start, n, &mut fields, &mut scratch);
     pick(
         text,

@@ -22,7 +22,7 @@ use Rattle.frame_definition.proofs.Leveled.{candidates-leveled}
 use Rattle.frame_definition.specs.declared.Candidate.{Candidate}
 use Rattle.frame_definition.specs.declared.NextCandidate.{NextCandidate}
 use Rattle.frame_definition.specs.declared.NextCandidate.the-variants as next
-use Rattle.header_fields.specs.Fields.{fieldsFrom, fieldsIn, untyped}
+use Rattle.header_fields.specs.Fields.{lineWidth, fieldsFrom, fieldsIn, untyped}
 use Rattle.header_fields.specs.Load.{Loads}
 use Rattle.header_fields.proofs.Laws.{fields-length}
 use Rattle.header_rules.specs.Data.{P}
@@ -36,7 +36,7 @@ use Rattle.header_rules.specs.Decide.{ruledOut}
 use Rattle.header_rules.proofs.Walked.{flat-meets}
 use Rattle.header_rules.proofs.Decide.{base-refutes}
 use Rattle.header_rules.specs.Told.{candidatesOf}
-use Rattle.header_paths.specs.Scratch.{rowsIn}
+use Rattle.header_paths.specs.Scratch.{scratchWidth, rowsIn}
 use Rattle.header_walk.specs.Walk.{Walks}
 use Rattle.header_walk.specs.declared.Walked.{Walked}
 use Rattle.header_candidates.specs.Read.{Roomy, baseOf, HoldsBase, ReadsBase, Kept, ReadsBehind}
@@ -150,11 +150,11 @@ tries-ruled t d p n fields scratch base b holds test e =
 
 -- what is read fits the tables
 pub own-lines : (t d : List ℕ) (own : List Numbered) (fields₀ : List ℕ) (base : Read) (fields scratch : List ℕ) (r : Read)
-    → ReadsBehind t d own fields₀ base fields scratch r → 1536 ≤ length fields → r .count * 12 ≤ length fields
+    → ReadsBehind t d own fields₀ base fields scratch r → 128 * lineWidth ≤ length fields → r .count * lineWidth ≤ length fields
 own-lines t d own fields₀ base fields scratch r read room = omega (arith, read .both .few)
 
 pub own-rows : (t d : List ℕ) (own : List Numbered) (fields₀ : List ℕ) (base : Read) (fields scratch : List ℕ) (r : Read)
-    → ReadsBehind t d own fields₀ base fields scratch r → 768 ≤ length scratch → r .rows * 6 ≤ length scratch
+    → ReadsBehind t d own fields₀ base fields scratch r → 128 * scratchWidth ≤ length scratch → r .rows * scratchWidth ≤ length scratch
 own-rows t d own fields₀ base fields scratch r read room = omega (arith, read .both .rows-few)
 
 -- ---- candidate by candidate: what is left decides

@@ -4,16 +4,16 @@ use mathlib.Core.List.{List, _++_, map}
 use Prim.Native.Nat.{ℕ, _*_, _≤_}
 use lib.ListN.{length}
 use Rattle.frame_definition.specs.Definition.{Numbered}
-use Rattle.header_fields.specs.Fields.{fieldsIn, untyped}
+use Rattle.header_fields.specs.Fields.{lineWidth, fieldsIn, untyped}
 use Rattle.header_rules.specs.Loaded.{baseWalked, ownWalked}
-use Rattle.header_paths.specs.Scratch.{rowsIn}
+use Rattle.header_paths.specs.Scratch.{scratchWidth, rowsIn}
 use Rattle.header_candidates.specs.declared.Read.{Read}
 
 -- room for 128 lines and for 128 rows, and an MPDU within its limit
 pub record Roomy (d fields scratch : List ℕ) : Type 0 where
   pub short : length d ≤ 2048
-  pub lines : 1536 ≤ length fields
-  pub rows : 768 ≤ length scratch
+  pub lines : 128 * lineWidth ≤ length fields
+  pub rows : 128 * scratchWidth ≤ length scratch
 
 -- the P lines of the base that are loaded
 abbrev pub baseOf : List ℕ → List ℕ → Read → List Numbered

@@ -20,31 +20,32 @@ use Rattle.frame_definition.specs.Find.{from, meant, IsParam, FindsParam}
 use Rattle.frame_definition.specs.declared.Field.{Field}
 use Rattle.frame_definition.specs.declared.NextParam.{NextParam}
 use Rattle.frame_definition.specs.declared.NextParam.the-variants.{At, Nothing}
-use Rattle.header_fields.specs.Fields.{paramAt, fieldsFrom, fieldsIn, untyped}
+use Rattle.header_fields.specs.Fields.{lineWidth, paramAt, fieldsFrom, fieldsIn, untyped}
 use Rattle.header_fields.specs.Load.{lineOf, Loads}
 
 -- ---- the lines of a table
 
 -- two tables that have the same numbers up to there
-same-line : (text t u : List ℕ) (i : ℕ) → ((k : ℕ) → k < i * 12 + 12 → getD t k 0 ≡ getD u k 0) → paramAt text t i ≡ paramAt text u i
+same-line : (text t u : List ℕ) (i : ℕ) → ((k : ℕ) → k < i * lineWidth + lineWidth → getD t k 0 ≡ getD u k 0)
+    → paramAt text t i ≡ paramAt text u i
 unfolding paramAt
 same-line text t u i h =
     rw (
-      h (i * 12) (omega arith),
-      h (i * 12 + 1) (omega arith),
-      h (i * 12 + 2) (omega arith),
-      h (i * 12 + 3) (omega arith),
-      h (i * 12 + 3 + 1) (omega arith),
-      h (i * 12 + 5) (omega arith),
-      h (i * 12 + 5 + 1) (omega arith),
-      h (i * 12 + 7) (omega arith),
-      h (i * 12 + 7 + 1) (omega arith),
-      h (i * 12 + 9) (omega arith),
-      h (i * 12 + 9 + 1) (omega arith),
-      h (i * 12 + 11) (omega arith),
+      h (i * lineWidth + 0) (omega arith),
+      h (i * lineWidth + 1) (omega arith),
+      h (i * lineWidth + 2) (omega arith),
+      h (i * lineWidth + 3) (omega arith),
+      h (i * lineWidth + 3 + 1) (omega arith),
+      h (i * lineWidth + 5) (omega arith),
+      h (i * lineWidth + 5 + 1) (omega arith),
+      h (i * lineWidth + 7) (omega arith),
+      h (i * lineWidth + 7 + 1) (omega arith),
+      h (i * lineWidth + 9) (omega arith),
+      h (i * lineWidth + 9 + 1) (omega arith),
+      h (i * lineWidth + 11) (omega arith),
     )
 
-same-lines : (text t u : List ℕ) (n i : ℕ) → ((k : ℕ) → k < (i + n) * 12 → getD t k 0 ≡ getD u k 0)
+same-lines : (text t u : List ℕ) (n i : ℕ) → ((k : ℕ) → k < (i + n) * lineWidth → getD t k 0 ≡ getD u k 0)
     → fieldsFrom text t i n ≡ fieldsFrom text u i n
 unfolding fieldsFrom
 same-lines text t u zero i h = refl
@@ -67,34 +68,34 @@ fields-length text t zero i = refl
 fields-length text t (suc n) i = ap suc (fields-length text t n (i + 1))
 
 -- ---- a line that is written
-module _ (text t : List ℕ) (at : ℕ) (f : Field) (n : ℕ) (room : (at + 1) * 12 ≤ length t) where
+module _ (text t : List ℕ) (at : ℕ) (f : Field) (n : ℕ) (room : (at + 1) * lineWidth ≤ length t) where
   abbrev written : List ℕ
-  written = sets t (at * 12) (lineOf f n)
+  written = sets t (at * lineWidth) (lineOf f n)
 
-  number : (k j : ℕ) → k ≡ at * 12 + j → j < 12 → getD written k 0 ≡ getD (lineOf f n) j 0
-  number k j e h = rw e (read-row t (at * 12) (lineOf f n) j (omega arith) h)
+  number : (k j : ℕ) → k ≡ at * lineWidth + j → j < lineWidth → getD written k 0 ≡ getD (lineOf f n) j 0
+  number k j e h = rw e (read-row t (at * lineWidth) (lineOf f n) j (omega arith) h)
 
   the-line : paramAt text written at ≡ untyped (record { number = n; says = meant text f })
   unfolding paramAt
   the-line =
       rw (
-        number (at * 12) 0 (omega arith) (omega arith),
-        number (at * 12 + 1) 1 refl (omega arith),
-        number (at * 12 + 2) 2 refl (omega arith),
-        number (at * 12 + 3) 3 refl (omega arith),
-        number (at * 12 + 3 + 1) 4 (omega arith) (omega arith),
-        number (at * 12 + 5) 5 refl (omega arith),
-        number (at * 12 + 5 + 1) 6 (omega arith) (omega arith),
-        number (at * 12 + 7) 7 refl (omega arith),
-        number (at * 12 + 7 + 1) 8 (omega arith) (omega arith),
-        number (at * 12 + 9) 9 refl (omega arith),
-        number (at * 12 + 9 + 1) 10 (omega arith) (omega arith),
-        number (at * 12 + 11) 11 refl (omega arith),
+        number (at * lineWidth + 0) 0 refl (omega arith),
+        number (at * lineWidth + 1) 1 refl (omega arith),
+        number (at * lineWidth + 2) 2 refl (omega arith),
+        number (at * lineWidth + 3) 3 refl (omega arith),
+        number (at * lineWidth + 3 + 1) 4 (omega arith) (omega arith),
+        number (at * lineWidth + 5) 5 refl (omega arith),
+        number (at * lineWidth + 5 + 1) 6 (omega arith) (omega arith),
+        number (at * lineWidth + 7) 7 refl (omega arith),
+        number (at * lineWidth + 7 + 1) 8 (omega arith) (omega arith),
+        number (at * lineWidth + 9) 9 refl (omega arith),
+        number (at * lineWidth + 9 + 1) 10 (omega arith) (omega arith),
+        number (at * lineWidth + 11) 11 refl (omega arith),
       )
 
   -- the lines before it are as they were
   lines-kept : (m : ℕ) → m ≤ at → fieldsIn text written m ≡ fieldsIn text t m
-  lines-kept m h = same-lines text written t m 0 (λ k low. read-before t (at * 12) (lineOf f n) k (omega arith))
+  lines-kept m h = same-lines text written t m 0 (λ k low. read-before t (at * lineWidth) (lineOf f n) k (omega arith))
 
   line-added : fieldsIn text written (at + 1) ≡ fieldsIn text t at ++ (untyped (record { number = n; says = meant text f }) ∷ [])
   line-added =
@@ -112,11 +113,11 @@ pub record Loading (text : List ℕ) (p₀ : Place) (n₀ : ℕ) (t₀ : List �
       ++ map untyped (params n₀ (below (from text p₀)))
   pub kept : fieldsIn text t at₀ ≡ fieldsIn text t₀ at₀
   pub behind : at₀ ≤ at
-  pub room : (at + length (params n (below (from text p)))) * 12 ≤ length t
+  pub room : (at + length (params n (below (from text p)))) * lineWidth ≤ length t
   pub same : length t ≡ length t₀
 
 pub loading-starts : (text : List ℕ) (p : Place) (n : ℕ) (t : List ℕ) (at : ℕ) → Readable rules text p
-    → (at + length (params n (below (from text p)))) * 12 ≤ length t → Loading text p n t at t p n at
+    → (at + length (params n (below (from text p)))) * lineWidth ≤ length t → Loading text p n t at t p n at
 loading-starts text p n t at readable room =
     record { readable = readable; low = omega arith; left = refl; lines = refl; kept = refl; behind = omega arith; room = room; same = refl }
 
@@ -139,8 +140,8 @@ module _ (text : List ℕ) (p₀ : Place) (n₀ : ℕ) (t₀ : List ℕ) (at₀ 
     pub loading-on : length text - q .at < length text - p .at
     loading-on = omega (arith, is .on, is .readable .inn .at-in)
 
-    pub line-room : (at + 1) * 12 ≤ length t
-    line-room = let room : (at + suc (length (params (suc n) (below (from text q))))) * 12 ≤ length t = rw (is .first) at (w .room) in omega arith
+    pub line-room : (at + 1) * lineWidth ≤ length t
+    line-room = let room : (at + suc (length (params (suc n) (below (from text q))))) * lineWidth ≤ length t = rw (is .first) at (w .room) in omega arith
 
     pub number-fits : n₀ ≤ length text → length text * 1 < 2 ^ 63 → Fits w64 (n + 1)
     number-fits few short = omega (arith, w .low, w .readable .inn .at-in)
@@ -148,22 +149,22 @@ module _ (text : List ℕ) (p₀ : Place) (n₀ : ℕ) (t₀ : List ℕ) (at₀ 
     pub line-fits : length t * 8 < 2 ^ 63 → Fits w64 (at + 1)
     line-fits short = omega (arith, line-room)
 
-    pub place-fits : length t * 8 < 2 ^ 63 → Fits w64 (at * 12)
+    pub place-fits : length t * 8 < 2 ^ 63 → Fits w64 (at * lineWidth)
     place-fits short = omega (arith, line-room)
 
-    module _ (line t′ : List ℕ) (is-line : line ≡ lineOf f n) (is-t : t′ ≡ put t (at * 12) line) where
-      the-table : t′ ≡ sets t (at * 12) (lineOf f n)
-      the-table = (rw is-line at is-t) ∙ put-room t (lineOf f n) (at * 12) (omega (arith, line-room))
+    module _ (line t′ : List ℕ) (is-line : line ≡ lineOf f n) (is-t : t′ ≡ put t (at * lineWidth) line) where
+      the-table : t′ ≡ sets t (at * lineWidth) (lineOf f n)
+      the-table = (rw is-line at is-t) ∙ put-room t (lineOf f n) (at * lineWidth) (omega (arith, line-room))
 
       pub loading-same : length t′ ≡ length t₀
-      loading-same = ap length the-table ∙ length-sets t (at * 12) (lineOf f n) ∙ w .same
+      loading-same = ap length the-table ∙ length-sets t (at * lineWidth) (lineOf f n) ∙ w .same
 
       pub loading-more : Loading text p₀ n₀ t₀ at₀ t′ q (n + 1) (at + 1)
       loading-more =
-          let size : length t′ ≡ length t = ap length the-table ∙ length-sets t (at * 12) (lineOf f n) in
+          let size : length t′ ≡ length t = ap length the-table ∙ length-sets t (at * lineWidth) (lineOf f n) in
           let left : at + suc (length (params (suc n) (below (from text q)))) ≡ at₀ + length (params n₀ (below (from text p₀))) =
           rw (is .first) at (w .left) in
-          let room : (at + suc (length (params (suc n) (below (from text q))))) * 12 ≤ length t = rw (is .first) at (w .room) in
+          let room : (at + suc (length (params (suc n) (below (from text q))))) * lineWidth ≤ length t = rw (is .first) at (w .room) in
           let lines : fieldsIn text t at ++ (untyped (record { number = n; says = meant text f }) ∷ map untyped (params (suc n) (below (from text q))))
           ≡ fieldsIn text t₀ at₀ ++ map untyped (params n₀ (below (from text p₀))) = rw (is .first) at (w .lines) in
           let added : fieldsIn text t′ (at + 1) ≡ fieldsIn text t at ++ (untyped (record { number = n; says = meant text f }) ∷ []) =

@@ -1,5 +1,4 @@
--- Loaded P lines, one flat list of them, twelve numbers a line. Level, order and bits; where the name, the define set, the optional path and the size path
--- stand in the text, each by its start and its length, of no bytes where it is missing; the number among the P lines of the text.
+-- Loaded P lines: a table of them, line by line.
 use mathlib.Core.List.{List, [], _∷_}
 use Prim.Native.Nat.{ℕ, zero, suc, _+_, _*_}
 use lib.ListN.{getD}
@@ -14,20 +13,51 @@ use Rattle.frame_definition.specs.Find.{heard}
 abbrev pub partAt : List ℕ → ℕ → Part
 partAt t k = record { start = getD t k 0; len = getD t (k + 1) 0 }
 
+-- the numbers of a line
+abbrev pub lineWidth : ℕ
+lineWidth = 12
+
+-- the columns of the line at a place: level, order and bits
+abbrev pub levelIn : List ℕ → ℕ → ℕ
+levelIn t i = getD t (i * lineWidth + 0) 0
+
+abbrev pub orderIn : List ℕ → ℕ → ℕ
+orderIn t i = getD t (i * lineWidth + 1) 0
+
+abbrev pub bitsIn : List ℕ → ℕ → ℕ
+bitsIn t i = getD t (i * lineWidth + 2) 0
+
+-- where the name, the define set, the optional path and the size path stand in the text, of no bytes where it is missing
+abbrev pub nameIn : List ℕ → ℕ → Part
+nameIn t i = partAt t (i * lineWidth + 3)
+
+abbrev pub setIn : List ℕ → ℕ → Part
+setIn t i = partAt t (i * lineWidth + 5)
+
+abbrev pub optionalIn : List ℕ → ℕ → Part
+optionalIn t i = partAt t (i * lineWidth + 7)
+
+abbrev pub sizeIn : List ℕ → ℕ → Part
+sizeIn t i = partAt t (i * lineWidth + 9)
+
+-- the number among the P lines of the text
+abbrev pub numberIn : List ℕ → ℕ → ℕ
+numberIn t i = getD t (i * lineWidth + 11) 0
+
 -- the P line at a place; its type is no part of the walk
 unfoldable pub paramAt : List ℕ → List ℕ → ℕ → Numbered
 paramAt text t i =
     record {
-      number = getD t (i * 12 + 11) 0;
+      number = numberIn t i;
       says = record {
-        level = getD t (i * 12) 0;
-        order = getD t (i * 12 + 1) 0;
-        bits = getD t (i * 12 + 2) 0;
+        level = levelIn t i;
+        order = orderIn t i;
+        bits = bitsIn t i;
         type = Hex;
-        name = partOf text (partAt t (i * 12 + 3));
-        set = heard (λ l. l) text (partAt t (i * 12 + 5));
-        optional = heard names text (partAt t (i * 12 + 7));
-        size = heard names text (partAt t (i * 12 + 9));
+        name = partOf text (nameIn t i);
+        set = heard (λ l. l) text (setIn t i);
+        optional = heard names text (optionalIn t i);
+        size = heard names text (sizeIn t i);
       };
     }
 

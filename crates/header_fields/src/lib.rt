@@ -11,13 +11,31 @@ ghost use Rattle.text.specs.Records.{Readable};
 ghost use Rattle.frame_text.specs.Rules.{rules};
 ghost use Rattle.frame_definition.specs.Definition.{below, params};
 ghost use Rattle.frame_definition.specs.Find.{from};
+ghost use Rattle.header_fields.specs.Fields.{lineWidth};
 ghost use Rattle.header_fields.specs.Load.{lineOf, Loads};
 
+// The columns of a line. A part of the text takes two: its start, and behind that its length.
+pub const LEVEL: usize = 0;
+
+pub const ORDER: usize = 1;
+
+pub const BITS: usize = 2;
+
+pub const NAME: usize = 3;
+
+pub const SET: usize = 5;
+
+pub const OPTIONAL: usize = 7;
+
+pub const SIZE: usize = 9;
+
+pub const NUMBER: usize = 11;
+
 // The numbers of a line.
-pub const WIDTH: usize = 12;
+pub const LINE_WIDTH: usize = NUMBER + 1;
 
 // The line of a P that has this number.
-fn line_of(field: Field, number: usize) -> [u64; 12]
+fn line_of(field: Field, number: usize) -> [u64; LINE_WIDTH]
     ensures { λ r. ⌜ r ≡ lineOf field number ⌝ }
 {
     let name = field.name;
@@ -44,7 +62,7 @@ fn line_of(field: Field, number: usize) -> [u64; 12]
 // holds. Returns how many it holds then.
 pub fn load_params(text: &[u8], start: Place, n: usize, fields: &mut [u64], at: usize) -> usize
     requires { ⌜ (Readable rules (now text) start) × (n ≤ length (now text)) ⌝ }
-    requires { ⌜ (at + length (params n (below (from (now text) start)))) * 12 ≤ length (now fields) ⌝ }
+    requires { ⌜ (at + length (params n (below (from (now text) start)))) * lineWidth ≤ length (now fields) ⌝ }
     ensures { λ r. ⌜ Loads (now (text .entry)) start n (now (fields .entry)) at r (now (fields .exit)) ⌝ }
 {
     let mut place = start;
@@ -59,7 +77,7 @@ pub fn load_params(text: &[u8], start: Place, n: usize, fields: &mut [u64], at: 
             return next;
         };
         let line = line_of(field, number);
-        put_row(fields, next * WIDTH, &line);
+        put_row(fields, next * LINE_WIDTH, &line);
         number += 1;
         next += 1;
         place = after;

@@ -8,9 +8,10 @@ use native.Mathlib.Nat.{add-zero, zero-add}
 use native.Mathlib.Numerals.{add-one}
 use native.Mathlib.Omega.{arith}
 use lib.Dec.{eqb}
-use lib.ListN.{length, getD, take, drop}
+use lib.ListN.{length}
 use lib.Seq.{sets, length-sets}
 use borrow.Author.Tests.{eq-eqb, ne-eqb}
+use Rattle.text.specs.Place.{partOf}
 use Rattle.text.specs.Records.{Readable}
 use Rattle.text.specs.declared.Place.{Place}
 use Rattle.text.specs.declared.Under.{Under}
@@ -21,12 +22,12 @@ use Rattle.frame_definition.specs.Definition.{Numbered, Set, below, entries, de
 use Rattle.frame_definition.specs.Find.{from, FindsSet}
 use Rattle.rows.specs.Rows.{put, flat, laid}
 use Rattle.rows.proofs.Laws.{sets-append, put-room, sets-laid}
-use Rattle.header_fields.specs.Fields.{paramAt, fieldsFrom, fieldsIn}
+use Rattle.header_fields.specs.Fields.{setIn, numberIn, paramAt, fieldsFrom, fieldsIn}
 use Rattle.header_rules.specs.Data.{Name}
 use Rattle.header_rules.specs.Loaded.{numberAt, shown}
 use Rattle.header_rules.specs.Level.{saidAt}
 use Rattle.header_rules.specs.Rows.{Row, rowValue}
-use Rattle.header_rules.specs.Table.{entryOf, symbolOf}
+use Rattle.header_rules.specs.Table.{rowWidth, entryOf, symbolOf}
 use Rattle.header_paths.specs.Scratch.{rowIn, rowsIn, tells}
 use Rattle.header_paths.specs.declared.Row as told
 use Rattle.header_paths.proofs.Fields.{said-in, said-out}
@@ -63,20 +64,18 @@ module _ (x t : List ℕ) (n : ℕ) (row : told.Row) where
   symbol-past h = let e : set-of ≡ none = ap (λ (p : Param). p .set) (said-out x t n (row .place) h) in rw e refl
 
   module _ (inside : row .place < n) where
-    the-set : set-of ≡ cond (eqb (getD t (row .place * 12 + 5 + 1) 0) 0) none
-        (some (take (getD t (row .place * 12 + 5 + 1) 0) (drop (getD t (row .place * 12 + 5) 0) x)))
+    the-set : set-of ≡ cond (eqb (setIn t (row .place) .len) 0) none (some (partOf x (setIn t (row .place))))
     unfolding paramAt
     the-set = ap (λ (p : Param). p .set) (said-in x t n (row .place) inside)
 
-    pub symbol-unset : getD t (row .place * 12 + 5 + 1) 0 ≡ 0 → 0 ≡ symbolOf (definition x .sets) set-of (rowValue (tells row))
-    symbol-unset h = let e : set-of ≡ none = the-set ∙ rw (eq-eqb (getD t (row .place * 12 + 5 + 1) 0) 0 h) refl in rw e refl
+    pub symbol-unset : setIn t (row .place) .len ≡ 0 → 0 ≡ symbolOf (definition x .sets) set-of (rowValue (tells row))
+    symbol-unset h = let e : set-of ≡ none = the-set ∙ rw (eq-eqb (setIn t (row .place) .len) 0 h) refl in rw e refl
 
-    pub symbol-is : (name : List ℕ) (r : ℕ) → (getD t (row .place * 12 + 5 + 1) 0 ≡ 0 → ⊥) → row .valued ≡ 1
-        → name ≡ take (getD t (row .place * 12 + 5 + 1) 0) (drop (getD t (row .place * 12 + 5) 0) x)
-        → r ≡ entryOf (firstSet name (definition x .sets)) (row .value)
+    pub symbol-is : (name : List ℕ) (r : ℕ) → (setIn t (row .place) .len ≡ 0 → ⊥) → row .valued ≡ 1
+        → name ≡ partOf x (setIn t (row .place)) → r ≡ entryOf (firstSet name (definition x .sets)) (row .value)
         → r ≡ symbolOf (definition x .sets) set-of (rowValue (tells row))
     symbol-is name r h v part is =
-        let e : set-of ≡ some name = the-set ∙ rw (ne-eqb (getD t (row .place * 12 + 5 + 1) 0) 0 h, part) refl in
+        let e : set-of ≡ some name = the-set ∙ rw (ne-eqb (setIn t (row .place) .len) 0 h, part) refl in
         let u : rowValue (tells row) ≡ some (row .value) = rw (eq-eqb (row .valued) 1 v) refl in
         rw (e, u) is
 
@@ -96,7 +95,7 @@ number-none x t (suc n) i (suc j) h = number-none x t n (i + 1) j (omega arith)
 pub number-past : (t : List ℕ) (n place : ℕ) → n ≤ place → (x : List ℕ) → 0 ≡ numberAt (fieldsIn x t n) place
 number-past t n place h x = sym (number-none x t n 0 place h)
 
-pub number-is : (t : List ℕ) (n place : ℕ) → place < n → (x : List ℕ) → getD t (place * 12 + 11) 0 ≡ numberAt (fieldsIn x t n) place
+pub number-is : (t : List ℕ) (n place : ℕ) → place < n → (x : List ℕ) → numberIn t place ≡ numberAt (fieldsIn x t n) place
 unfolding paramAt
 number-is t n place h x = sym (rw zero-add at (number-from x t n 0 place h))
 
@@ -116,7 +115,7 @@ row-put x t n s k row numbers rows at rows′ is-row is-numbers is =
 
 -- ---- row by row: the table so far
 module _ (ps : List Numbered) (ss : List Set) where
-  wide : (rs : List Row) → length (flat (map (shown ps ss) rs)) ≡ length rs * 7
+  wide : (rs : List Row) → length (flat (map (shown ps ss) rs)) ≡ length rs * rowWidth
   unfolding shown
   wide [] = refl
   wide (r ∷ rs) = omega (arith, wide rs)
@@ -135,26 +134,28 @@ module _ (ps : List Numbered) (ss : List Set) where
   unfolding rowsIn
   writing-starts t s n = record { so-far = refl; within = omega arith; same = refl }
 
-  module _ (t₀ t s : List ℕ) (n k : ℕ) (w : Writing t₀ t s n k) (room : n * 7 ≤ length t₀) where
+  module _ (t₀ t s : List ℕ) (n k : ℕ) (w : Writing t₀ t s n k) (room : n * rowWidth ≤ length t₀) where
     pub written : n ≤ k → t ≡ laid t₀ (map (shown ps ss) (rowsIn s n))
     written h =
         let e : k ≡ n = omega (arith, w .within) in
         (rw e at (w .so-far)) ∙ sets-laid t₀ (map (shown ps ss) (rowsIn s n)) (omega (arith, wide (rowsIn s n), length-rowsIn s n))
 
-    pub writing-more : k < n → (t′ : List ℕ) → t′ ≡ put t (k * 7) (shown ps ss (rowIn s k)) → Writing t₀ t′ s n (k + 1)
+    pub writing-more : k < n → (t′ : List ℕ) → t′ ≡ put t (k * rowWidth) (shown ps ss (rowIn s k)) → Writing t₀ t′ s n (k + 1)
     unfolding rowsIn shown
     writing-more h t′ is-t =
-        let put-t : t′ ≡ sets t (k * 7) (shown ps ss (rowIn s k)) = is-t ∙ put-room t (shown ps ss (rowIn s k)) (k * 7) (omega (arith, w .same)) in
-        let front : length (flat (map (shown ps ss) (rowsIn s k))) ≡ k * 7 = wide (rowsIn s k) ∙ ap (λ (m : ℕ). m * 7) (length-rowsIn s k) in
-        let place : 0 + length (flat (map (shown ps ss) (rowsIn s k))) ≡ k * 7 = omega arith in
+        let put-t : t′ ≡ sets t (k * rowWidth) (shown ps ss (rowIn s k)) =
+        is-t ∙ put-room t (shown ps ss (rowIn s k)) (k * rowWidth) (omega (arith, w .same)) in
+        let front : length (flat (map (shown ps ss) (rowsIn s k))) ≡ k * rowWidth =
+        wide (rowsIn s k) ∙ ap (λ (m : ℕ). m * rowWidth) (length-rowsIn s k) in
+        let place : 0 + length (flat (map (shown ps ss) (rowsIn s k))) ≡ k * rowWidth = omega arith in
         record {
           so-far =
-              put-t ∙ ap (λ (u : List ℕ). sets u (k * 7) (shown ps ss (rowIn s k))) (w .so-far)
+              put-t ∙ ap (λ (u : List ℕ). sets u (k * rowWidth) (shown ps ss (rowIn s k))) (w .so-far)
               ∙ (rw place at (sym (sets-append t₀ 0 (flat (map (shown ps ss) (rowsIn s k))) (shown ps ss (rowIn s k)))))
               ∙ ap (sets t₀ 0) (sym (flat-snoc (rowsIn s k) (rowIn s k)))
               ∙ ap (λ (m : ℕ). sets t₀ 0 (flat (map (shown ps ss) (rowsIn s m)))) (sym (add-one k));
           within = omega arith;
-          same = ap length put-t ∙ length-sets t (k * 7) (shown ps ss (rowIn s k)) ∙ w .same;
+          same = ap length put-t ∙ length-sets t (k * rowWidth) (shown ps ss (rowIn s k)) ∙ w .same;
         }
 
 pub ruleset laws = (

@@ -1,7 +1,8 @@
 // The rows of a header's answer: what the scratch rows tell, with the P's number for its place, and with the symbol.
 use frame_definition::find_entry;
 use frame_definition::find_set;
-use header_fields::WIDTH;
+use header_fields::LINE_WIDTH;
+use header_fields::SET;
 use header_paths::Row;
 use header_paths::part_of;
 use header_paths::row_at;
@@ -14,16 +15,31 @@ ghost use lib.ListN.{length};
 ghost use Rattle.text.specs.declared.Verdict.the-variants.{Accepted};
 ghost use Rattle.frame_text.specs.Rules.{verdict};
 ghost use Rattle.frame_definition.specs.Definition.{definition, firstSet};
-ghost use Rattle.header_fields.specs.Fields.{fieldsIn};
+ghost use Rattle.header_fields.specs.Fields.{lineWidth, fieldsIn};
 ghost use Rattle.header_rules.specs.Loaded.{numberAt, shown};
 ghost use Rattle.header_rules.specs.Level.{saidAt};
 ghost use Rattle.header_rules.specs.Rows.{rowValue};
-ghost use Rattle.header_rules.specs.Table.{entryOf, symbolOf};
-ghost use Rattle.header_paths.specs.Scratch.{rowIn, rowsIn, tells};
+ghost use Rattle.header_rules.specs.Table.{rowWidth, entryOf, symbolOf};
+ghost use Rattle.header_paths.specs.Scratch.{scratchWidth, rowIn, rowsIn, tells};
 ghost use Rattle.rows.specs.Rows.{put, laid};
 
+// The columns of a row: H18 of docs/RULES.md.
+pub const NUMBER: usize = 0;
+
+pub const PARENT: usize = 1;
+
+pub const START: usize = 2;
+
+pub const BITS: usize = 3;
+
+pub const VALUED: usize = 4;
+
+pub const VALUE: usize = 5;
+
+pub const SYMBOL: usize = 6;
+
 // The numbers of a row.
-pub const COLUMNS: usize = 7;
+pub const ROW_WIDTH: usize = SYMBOL + 1;
 
 // The number, from 1, of the first E with a value for its key in the first D of a name, or 0.
 fn find_symbol(text: &[u8], name: &[u8], value: u64) -> u64
@@ -39,7 +55,7 @@ fn find_symbol(text: &[u8], name: &[u8], value: u64) -> u64
 // The symbol of a row, whose P is at its place among the loaded lines.
 fn symbol_of(text: &[u8], fields: &[u64], count: usize, row: Row) -> u64
     requires { ⌜ verdict (now text) ≡ Accepted ⌝ }
-    requires { ⌜ count * 12 ≤ length (now fields) ⌝ }
+    requires { ⌜ count * lineWidth ≤ length (now fields) ⌝ }
     ensures { λ r.
         let ps = fieldsIn (now (text .entry)) (now (fields .entry)) count in
         ⌜ r ≡ symbolOf (definition (now (text .entry)) .sets) (saidAt ps (row .place) .set) (rowValue (tells row)) ⌝ }
@@ -50,7 +66,7 @@ fn symbol_of(text: &[u8], fields: &[u64], count: usize, row: Row) -> u64
     if count as u64 <= row.place {
         return 0;
     }
-    let at = row.place as usize * WIDTH + 5;
+    let at = row.place as usize * LINE_WIDTH + SET;
     let len = fields[at + 1];
     if len == 0 {
         return 0;
@@ -60,19 +76,19 @@ fn symbol_of(text: &[u8], fields: &[u64], count: usize, row: Row) -> u64
 
 // The number of the P at a place.
 fn number_of(fields: &[u64], count: usize, place: u64) -> u64
-    requires { ⌜ count * 12 ≤ length (now fields) ⌝ }
+    requires { ⌜ count * lineWidth ≤ length (now fields) ⌝ }
     ensures { λ r. ⌜ ((x : List ℕ) → r ≡ numberAt (fieldsIn x (now (fields .entry)) count) place) ⌝ }
 {
     if count as u64 <= place {
         return 0;
     }
-    fields[place as usize * WIDTH + 11]
+    fields[place as usize * LINE_WIDTH + header_fields::NUMBER]
 }
 
 // The row of the answer.
-fn row_of(text: &[u8], fields: &[u64], count: usize, row: Row) -> [u64; 7]
+fn row_of(text: &[u8], fields: &[u64], count: usize, row: Row) -> [u64; ROW_WIDTH]
     requires { ⌜ verdict (now text) ≡ Accepted ⌝ }
-    requires { ⌜ count * 12 ≤ length (now fields) ⌝ }
+    requires { ⌜ count * lineWidth ≤ length (now fields) ⌝ }
     ensures { λ r.
         let ps = fieldsIn (now (text .entry)) (now (fields .entry)) count in
         ⌜ r ≡ shown ps (definition (now (text .entry)) .sets) (tells row) ⌝ }
@@ -92,14 +108,15 @@ fn row_of(text: &[u8], fields: &[u64], count: usize, row: Row) -> [u64; 7]
 // Writes the row of the answer that the scratch row k tells.
 fn write_row(text: &[u8], fields: &[u64], count: usize, scratch: &[u64], k: usize, rows: &mut [u64])
     requires { ⌜ verdict (now text) ≡ Accepted ⌝ }
-    requires { ⌜ (count * 12 ≤ length (now fields)) × ((k + 1) * 6 ≤ length (now scratch)) × (k * 7 ≤ length (now rows)) ⌝ }
+    requires { ⌜ (count * lineWidth ≤ length (now fields)) × ((k + 1) * scratchWidth ≤ length (now scratch))
+        × (k * rowWidth ≤ length (now rows)) ⌝ }
     ensures { λ _.
         let ps = fieldsIn (now (text .entry)) (now (fields .entry)) count in
-        ⌜ now (rows .exit) ≡ put (now (rows .entry)) (k * 7) (shown ps (definition (now (text .entry)) .sets) (rowIn (now (scratch .entry)) k)) ⌝ }
+        ⌜ now (rows .exit) ≡ put (now (rows .entry)) (k * rowWidth) (shown ps (definition (now (text .entry)) .sets) (rowIn (now (scratch .entry)) k)) ⌝ }
 {
     let row = row_at(scratch, k);
     let numbers = row_of(text, fields, count, row);
-    put_row(rows, k * COLUMNS, &numbers);
+    put_row(rows, k * ROW_WIDTH, &numbers);
 }
 
 // Writes the rows of the answer that the first n scratch rows tell, one after the other.
@@ -112,7 +129,7 @@ pub fn write_rows(
     rows: &mut [u64],
 )
     requires { ⌜ verdict (now text) ≡ Accepted ⌝ }
-    requires { ⌜ (count * 12 ≤ length (now fields)) × (n * 6 ≤ length (now scratch)) × (n * 7 ≤ length (now rows)) ⌝ }
+    requires { ⌜ (count * lineWidth ≤ length (now fields)) × (n * scratchWidth ≤ length (now scratch)) × (n * rowWidth ≤ length (now rows)) ⌝ }
     ensures { λ _.
         let ps = fieldsIn (now (text .entry)) (now (fields .entry)) count in
         ⌜ now (rows .exit) ≡ laid (now (rows .entry)) (map (shown ps (definition (now (text .entry)) .sets)) (rowsIn (now (scratch .entry)) n)) ⌝ }

@@ -1,4 +1,4 @@
--- H17 to H19 (docs/RULES.md): the rows of the answer, seven numbers each.
+-- H17 to H19 (docs/RULES.md): the rows of the answer.
 use mathlib.Core.List.{List, [], _∷_, _++_}
 use mathlib.Core.Option.{Option, none, some}
 use Prim.Native.Nat.{ℕ, zero, suc, _+_}
@@ -21,6 +21,10 @@ symbolOf sets (some name) (some v) = entryOf (firstSet name sets) v
 abbrev pub isSome : Option ℕ → ℕ
 isSome none = 0
 isSome (some v) = 1
+
+-- H18: the numbers of a row
+abbrev pub rowWidth : ℕ
+rowWidth = 7
 
 -- H18: the row of a field whose parent's row + 1 is given
 unfoldable pub numbersOf : {K G : Type 0} → List ℕ → List Set → ℕ → Seen (Node K) G → List ℕ

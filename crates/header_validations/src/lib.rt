@@ -15,12 +15,12 @@ ghost use Rattle.frame_text.specs.Form.{names};
 ghost use Rattle.frame_text.specs.Rules.{rules};
 ghost use Rattle.frame_definition.specs.Definition.{below, validations};
 ghost use Rattle.frame_definition.specs.Find.{from};
-ghost use Rattle.header_fields.specs.Fields.{fieldsIn};
+ghost use Rattle.header_fields.specs.Fields.{lineWidth, fieldsIn};
 ghost use Rattle.header_rules.specs.Rows.{flatValue};
 ghost use Rattle.header_rules.specs.Decide.{ruledOut};
 ghost use Rattle.header_rules.specs.Flat.{flatMeets};
 ghost use Rattle.header_rules.specs.Loaded.{nameOf};
-ghost use Rattle.header_paths.specs.Scratch.{rowsIn};
+ghost use Rattle.header_paths.specs.Scratch.{scratchWidth, rowsIn};
 ghost use Rattle.header_paths.specs.Lookup.{valued};
 ghost use Rattle.header_validations.specs.Validations.{met, other};
 
@@ -33,7 +33,7 @@ fn find_path(
     n: usize,
     path: Part,
 ) -> Valued
-    requires { ⌜ (count * 12 ≤ length (now fields)) × (n * 6 ≤ length (now rows)) ⌝ }
+    requires { ⌜ (count * lineWidth ≤ length (now fields)) × (n * scratchWidth ≤ length (now rows)) ⌝ }
     ensures { λ r.
         let ps = fieldsIn (now (text .entry)) (now (fields .entry)) count in
         ⌜ r ≡ valued (flatValue (nameOf ps) (rowsIn (now (rows .entry)) n) (names (partOf (now (text .entry)) path)) 0) ⌝ }
@@ -70,7 +70,7 @@ pub fn meets_all(
     n: usize,
 ) -> bool
     requires { ⌜ Readable rules (now text) start ⌝ }
-    requires { ⌜ (count * 12 ≤ length (now fields)) × (n * 6 ≤ length (now rows)) ⌝ }
+    requires { ⌜ (count * lineWidth ≤ length (now fields)) × (n * scratchWidth ≤ length (now rows)) ⌝ }
     ensures { λ r.
         let ps = fieldsIn (now (text .entry)) (now (fields .entry)) count in
         ⌜ r ≡ flatMeets (nameOf ps) (rowsIn (now (rows .entry)) n) (validations (below (from (now (text .entry)) start))) ⌝ }
@@ -103,7 +103,7 @@ pub fn is_ruled_out(
     n: usize,
 ) -> bool
     requires { ⌜ Readable rules (now text) start ⌝ }
-    requires { ⌜ (count * 12 ≤ length (now fields)) × (n * 6 ≤ length (now rows)) ⌝ }
+    requires { ⌜ (count * lineWidth ≤ length (now fields)) × (n * scratchWidth ≤ length (now rows)) ⌝ }
     ensures { λ r.
         let ps = fieldsIn (now (text .entry)) (now (fields .entry)) count in
         ⌜ r ≡ ruledOut (nameOf ps) (rowsIn (now (rows .entry)) n) (validations (below (from (now (text .entry)) start))) ⌝ }

@@ -5,13 +5,13 @@ use mathlib.Core.List.{List, [], _∷_, _++_}
 use mathlib.Core.Option.{Option, none, some}
 use Prim.Native.Nat.{ℕ, _+_, _-_, _*_, _/_, _≤_, _<_}
 use native.Mathlib.Omega.{arith}
-use lib.ListN.{length, getD, take, drop}
+use lib.ListN.{length}
 use lib.Dec.{leb, ltb, eqb}
 use borrow.Author.Tests.{eq-eqb, ne-eqb, le-leb, lt-leb, lt-ltb, le-ltb, leb-true, leb-false, ltb-true, not-true, not-false}
 use Rattle.laws.proofs.Bools.{and-right}
 use Rattle.frame_text.specs.Form.{Param, names}
 use Rattle.frame_definition.specs.Definition.{Numbered}
-use Rattle.header_fields.specs.Fields.{paramAt, fieldsIn}
+use Rattle.header_fields.specs.Fields.{bitsIn, optionalIn, sizeIn, paramAt, fieldsIn}
 use Rattle.bits.specs.Bits.{bitsAt, hasBits, bitsRead}
 use Rattle.bits.specs.declared.Bits.{Bits}
 use Rattle.bits.specs.declared.Bits.the-variants.{Value, Declined}
@@ -22,7 +22,7 @@ use Rattle.header_rules.specs.Table.{isSome}
 use Rattle.header_rules.specs.Flat.{rowAt, flatWidth, flatExists}
 use Rattle.header_rules.specs.Loaded.{lineOf, nameOf, insideOf}
 use Rattle.header_rules.specs.Level.{saidAt}
-use Rattle.header_paths.specs.Scratch.{rowsIn, tells}
+use Rattle.header_paths.specs.Scratch.{scratchWidth, rowsIn, tells}
 use Rattle.header_paths.specs.declared.Row as told
 use Rattle.header_paths.specs.Lookup.{valued}
 use Rattle.header_paths.specs.declared.Valued.{Valued}
@@ -31,6 +31,7 @@ use Rattle.header_paths.proofs.Fields.{said-in}
 use Rattle.header_paths.proofs.Scratch.{numbers, rowsIn-sets}
 use Rattle.rows.specs.Rows.{put}
 use Rattle.rows.proofs.Laws.{put-room}
+use Rattle.text.specs.Place.{partOf}
 use Rattle.header_walk.specs.declared.Extent.{Extent}
 use Rattle.header_walk.specs.declared.Extent.the-variants as extent
 use Rattle.header_walk.specs.Steps.{wanted, width, fitting, extentOf, Lays}
@@ -51,25 +52,24 @@ module _ (x t : List ℕ) (n i p : ℕ) (done : List Row) where
   wanted-is : i < n
       → wanted (fieldsIn x t n) i p done
       ≡ wantedBy (λ path. flatValue (nameOf (fieldsIn x t n)) done path p)
-      (cond (eqb (getD t (i * 12 + 7 + 1) 0) 0) none (some (names (take (getD t (i * 12 + 7 + 1) 0) (drop (getD t (i * 12 + 7) 0) x)))))
+      (cond (eqb (optionalIn t i .len) 0) none (some (names (partOf x (optionalIn t i)))))
   unfolding wanted paramAt
   wanted-is h = ap (λ (q : Param). wantedBy (λ path. flatValue (nameOf (fieldsIn x t n)) done path p) (q .optional)) (said-in x t n i h)
 
-  pub wanted-free : i < n → getD t (i * 12 + 7 + 1) 0 ≡ 0 → true ≡ wanted (fieldsIn x t n) i p done
-  wanted-free h z = sym (wanted-is h ∙ rw (eq-eqb (getD t (i * 12 + 7 + 1) 0) 0 z) refl)
+  pub wanted-free : i < n → optionalIn t i .len ≡ 0 → true ≡ wanted (fieldsIn x t n) i p done
+  wanted-free h z = sym (wanted-is h ∙ rw (eq-eqb (optionalIn t i .len) 0 z) refl)
 
   module _ (path : List ℕ) (v : Valued) (ev : v ≡ valued (flatValue (nameOf (fieldsIn x t n)) done (names path) p))
-      (ep : path ≡ take (getD t (i * 12 + 7 + 1) 0) (drop (getD t (i * 12 + 7) 0) x)) where
-    wanted-path : i < n → (getD t (i * 12 + 7 + 1) 0 ≡ 0 → ⊥)
+      (ep : path ≡ partOf x (optionalIn t i)) where
+    wanted-path : i < n → (optionalIn t i .len ≡ 0 → ⊥)
         → wanted (fieldsIn x t n) i p done ≡ ltb 0 (orZero (flatValue (nameOf (fieldsIn x t n)) done (names path) p))
-    wanted-path h z = wanted-is h ∙ rw (ne-eqb (getD t (i * 12 + 7 + 1) 0) 0 z, ep) refl
+    wanted-path h z = wanted-is h ∙ rw (ne-eqb (optionalIn t i .len) 0 z, ep) refl
 
-    pub wanted-none : v ≡ valued.Nothing → i < n → (getD t (i * 12 + 7 + 1) 0 ≡ 0 → ⊥) → false ≡ wanted (fieldsIn x t n) i p done
+    pub wanted-none : v ≡ valued.Nothing → i < n → (optionalIn t i .len ≡ 0 → ⊥) → false ≡ wanted (fieldsIn x t n) i p done
     wanted-none e h z =
         sym (wanted-path h z ∙ ap (λ (k : ℕ). ltb 0 k) (value-none (flatValue (nameOf (fieldsIn x t n)) done (names path) p) (sym e ∙ ev)))
 
-    pub wanted-some : (k : ℕ) → v ≡ valued.Value k → i < n → (getD t (i * 12 + 7 + 1) 0 ≡ 0 → ⊥)
-        → ltb 0 k ≡ wanted (fieldsIn x t n) i p done
+    pub wanted-some : (k : ℕ) → v ≡ valued.Value k → i < n → (optionalIn t i .len ≡ 0 → ⊥) → ltb 0 k ≡ wanted (fieldsIn x t n) i p done
     wanted-some k e h z =
         sym (wanted-path h z ∙ ap (λ (k : ℕ). ltb 0 k) (value-some (flatValue (nameOf (fieldsIn x t n)) done (names path) p) k (sym e ∙ ev)))
 
@@ -77,29 +77,29 @@ module _ (x t : List ℕ) (n i p : ℕ) (done : List Row) where
 
   width-is : i < n
       → width (fieldsIn x t n) i p done
-      ≡ widthBy (getD t (i * 12 + 2) 0) (λ path. flatValue (nameOf (fieldsIn x t n)) done path p)
-      (cond (eqb (getD t (i * 12 + 9 + 1) 0) 0) none (some (names (take (getD t (i * 12 + 9 + 1) 0) (drop (getD t (i * 12 + 9) 0) x)))))
+      ≡ widthBy (bitsIn t i) (λ path. flatValue (nameOf (fieldsIn x t n)) done path p)
+      (cond (eqb (sizeIn t i .len) 0) none (some (names (partOf x (sizeIn t i)))))
   unfolding width paramAt
   width-is h = ap (λ (q : Param). widthBy (q .bits) (λ path. flatValue (nameOf (fieldsIn x t n)) done path p) (q .size)) (said-in x t n i h)
 
-  pub width-plain : (left r : ℕ) → r ≡ fitting (getD t (i * 12 + 2) 0) left → i < n → getD t (i * 12 + 9 + 1) 0 ≡ 0
+  pub width-plain : (left r : ℕ) → r ≡ fitting (bitsIn t i) left → i < n → sizeIn t i .len ≡ 0
       → r ≡ fitting (width (fieldsIn x t n) i p done) left
-  width-plain left r e h z = e ∙ ap (λ (w : ℕ). fitting w left) (sym (width-is h ∙ rw (eq-eqb (getD t (i * 12 + 9 + 1) 0) 0 z) refl))
+  width-plain left r e h z = e ∙ ap (λ (w : ℕ). fitting w left) (sym (width-is h ∙ rw (eq-eqb (sizeIn t i .len) 0 z) refl))
 
   module _ (path : List ℕ) (left : ℕ) (v : Valued) (ev : v ≡ valued (flatValue (nameOf (fieldsIn x t n)) done (names path) p))
-      (ep : path ≡ take (getD t (i * 12 + 9 + 1) 0) (drop (getD t (i * 12 + 9) 0) x)) where
-    width-path : i < n → (getD t (i * 12 + 9 + 1) 0 ≡ 0 → ⊥)
+      (ep : path ≡ partOf x (sizeIn t i)) where
+    width-path : i < n → (sizeIn t i .len ≡ 0 → ⊥)
         → width (fieldsIn x t n) i p done ≡ 8 * orZero (flatValue (nameOf (fieldsIn x t n)) done (names path) p)
-    width-path h z = width-is h ∙ rw (ne-eqb (getD t (i * 12 + 9 + 1) 0) 0 z, ep) refl
+    width-path h z = width-is h ∙ rw (ne-eqb (sizeIn t i .len) 0 z, ep) refl
 
-    pub width-none : v ≡ valued.Nothing → i < n → (getD t (i * 12 + 9 + 1) 0 ≡ 0 → ⊥) → 0 ≡ fitting (width (fieldsIn x t n) i p done) left
+    pub width-none : v ≡ valued.Nothing → i < n → (sizeIn t i .len ≡ 0 → ⊥) → 0 ≡ fitting (width (fieldsIn x t n) i p done) left
     unfolding fitting
     width-none e h z =
         let o = value-none (flatValue (nameOf (fieldsIn x t n)) done (names path) p) (sym e ∙ ev) in
         let w : width (fieldsIn x t n) i p done ≡ 0 = width-path h z ∙ omega arith in
         rw (w, le-leb 0 left (omega arith)) refl
 
-    pub width-over : (k : ℕ) → v ≡ valued.Value k → i < n → (getD t (i * 12 + 9 + 1) 0 ≡ 0 → ⊥) → left / 8 < k
+    pub width-over : (k : ℕ) → v ≡ valued.Value k → i < n → (sizeIn t i .len ≡ 0 → ⊥) → left / 8 < k
         → 0 ≡ fitting (width (fieldsIn x t n) i p done) left
     unfolding fitting
     width-over k e h z l =
@@ -107,7 +107,7 @@ module _ (x t : List ℕ) (n i p : ℕ) (done : List Row) where
         let w : width (fieldsIn x t n) i p done ≡ 8 * k = width-path h z ∙ omega arith in
         rw (w, lt-leb (8 * k) left (omega arith)) refl
 
-    pub width-sized : (k : ℕ) → v ≡ valued.Value k → i < n → (getD t (i * 12 + 9 + 1) 0 ≡ 0 → ⊥) → k ≤ left / 8
+    pub width-sized : (k : ℕ) → v ≡ valued.Value k → i < n → (sizeIn t i .len ≡ 0 → ⊥) → k ≤ left / 8
         → k * 8 ≡ fitting (width (fieldsIn x t n) i p done) left
     unfolding fitting
     width-sized k e h z l =
@@ -263,9 +263,9 @@ module _ (d : List ℕ) (i p s w : ℕ) (r : Bits) (er : r ≡ bitsRead d s w) w
       go false q = refl
 
 -- its six numbers in the table
-pub row-written : (t t′ : List ℕ) (n : ℕ) (r : told.Row) → t′ ≡ put t (n * 6) (numbers (tells r)) → (n + 1) * 6 ≤ length t
-    → rowsIn t′ (n + 1) ≡ rowsIn t n ++ (tells r ∷ [])
-row-written t t′ n r e h = rw (e, put-room t (numbers (tells r)) (n * 6) (omega arith)) (rowsIn-sets t n (tells r) h)
+pub row-written : (t t′ : List ℕ) (n : ℕ) (r : told.Row) → t′ ≡ put t (n * scratchWidth) (numbers (tells r))
+    → (n + 1) * scratchWidth ≤ length t → rowsIn t′ (n + 1) ≡ rowsIn t n ++ (tells r ∷ [])
+row-written t t′ n r e h = rw (e, put-room t (numbers (tells r)) (n * scratchWidth) (omega arith)) (rowsIn-sets t n (tells r) h)
 
 pub ruleset row-laws = (row-valued, row-wide, row-written)
 

@@ -5,18 +5,18 @@ use mathlib.Core.List.{List, [], _∷_}
 use Prim.Native.Nat.{ℕ, zero, suc, _+_, _-_, _*_, _≤_, _<_}
 use native.Mathlib.Numerals.{sub-one}
 use native.Mathlib.Omega.{arith}
-use lib.ListN.{length, getD, length-append}
+use lib.ListN.{length, length-append}
 use mir.Syntax.{w64}
 use mir.Val.{Fits}
 use borrow.Author.Tests.{le-leb, lt-leb}
 use Rattle.frame_text.specs.Form.{Param}
 use Rattle.frame_definition.specs.Definition.{Numbered}
-use Rattle.header_fields.specs.Fields.{paramAt, fieldsIn}
+use Rattle.header_fields.specs.Fields.{levelIn, paramAt, fieldsIn}
 use Rattle.header_rules.specs.Rows.{Row}
 use Rattle.header_rules.specs.Flat.{rowAt, flatField, flatPacked, flatListed}
 use Rattle.header_rules.specs.Flat as flat
 use Rattle.header_rules.specs.Loaded.{insideOf, since, innerOf, outerFrom, walkedFrom}
-use Rattle.header_paths.specs.Scratch.{rowsIn}
+use Rattle.header_paths.specs.Scratch.{scratchWidth, rowsIn}
 use Rattle.header_paths.specs.declared.order.Next.{Next}
 use Rattle.header_paths.specs.declared.order.Next.the-variants.{At, Done}
 use Rattle.header_paths.specs.Order.{listFrom, IsNext}
@@ -96,7 +96,7 @@ module _ (ps : List Numbered) (d u u′ : List ℕ) (left i s p n : ℕ) (r : Ex
         record { answer = rw (answer-is, q, f .count) refl; rows = rw q (f .rows) }
 
 -- a table with room for a field has room for its row, and for those inside it behind that
-pub row-room : (ps : List Numbered) (i n l : ℕ) → (n + ext ps i) * 6 ≤ l → (n + 1) * 6 ≤ l
+pub row-room : (ps : List Numbered) (i n l : ℕ) → (n + ext ps i) * scratchWidth ≤ l → (n + 1) * scratchWidth ≤ l
 row-room ps i n l h = let e = ext-pos ps i in omega arith
 
 -- ---- the answer of a field
@@ -142,7 +142,7 @@ module _ (t : List ℕ) (count level i order place : ℕ) (r : Next) (er : IsNex
   pub next-in : j < count
   next-in = chosen [] t count level i order place r er j o w e few i≤n .within
 
-  pub next-level : (left : ℕ) → level + left ≡ 7 → getD t (j * 12) 0 + left ≡ 7
+  pub next-level : (left : ℕ) → level + left ≡ 7 → levelIn t j + left ≡ 7
   next-level left h = let q = chosen [] t count level i order place r er j o w e few i≤n .level-is in omega arith
 
   pub next-fits : Fits w64 (j + 1)
@@ -155,25 +155,25 @@ pub record Going (x t d : List ℕ) (count left i end width n : ℕ) (u₀ u : L
   pub rows : packed (fieldsIn x t count) d (λ j s rs. fieldDone (fieldsIn x t count) d left j s n rs) (rest x t count level (i + 1) order place) bit room
       (rowsIn u next)
       ≡ innerDone (fieldsIn x t count) d left i end width (rowsIn u₀ n)
-  pub fits : (next + sumExt (fieldsIn x t count) (rest x t count level (i + 1) order place)) * 6 ≤ length u
+  pub fits : (next + sumExt (fieldsIn x t count) (rest x t count level (i + 1) order place)) * scratchWidth ≤ length u
   pub level-is : level + left ≡ 7
   pub room-left : room ≤ bit
   pub bit-in : bit ≤ length d * 8
   pub place-in : place ≤ 128
   pub same : length u ≡ length u₀
 
-inner-is : (x t : List ℕ) (count i : ℕ) → i < count → innerOf (fieldsIn x t count) i ≡ listFrom (fieldsIn x t count) (getD t (i * 12) 0 + 1) (i + 1)
+inner-is : (x t : List ℕ) (count i : ℕ) → i < count → innerOf (fieldsIn x t count) i ≡ listFrom (fieldsIn x t count) (levelIn t i + 1) (i + 1)
 unfolding innerOf insideOf listFrom paramAt
 inner-is x t count i h = ap (λ (q : Param). listFrom (fieldsIn x t count) (q .level + 1) (i + 1)) (said-in x t count i h)
 
 module _ (x t d : List ℕ) (count left i end width n : ℕ) (u₀ : List ℕ) where
-  pub going-starts : (n + ext (fieldsIn x t count) i) * 6 ≤ length u₀ + 6 → i < count → getD t (i * 12) 0 + left + 1 ≡ 7 → width ≤ end
-      → end ≤ length d * 8
+  pub going-starts : (n + ext (fieldsIn x t count) i) * scratchWidth ≤ length u₀ + scratchWidth → i < count → levelIn t i + left + 1 ≡ 7
+      → width ≤ end → end ≤ length d * 8
       → Going x t d count left i end width n u₀ u₀ (7 - left) 0 0 width end n
   unfolding innerDone
   going-starts h h2 l h3 h4 =
       let a = sum-inner (fieldsIn x t count) i in
-      let k : 7 - left ≡ getD t (i * 12) 0 + 1 = omega arith in
+      let k : 7 - left ≡ levelIn t i + 1 = omega arith in
       let b : rest x t count (7 - left) (i + 1) 0 0 ≡ innerOf (fieldsIn x t count) i =
       from-zero (fieldsIn x t count) (listFrom (fieldsIn x t count) (7 - left) (i + 1)) ∙ rw k (sym (inner-is x t count i h2)) in
       record {
@@ -204,7 +204,7 @@ module _ (x t d : List ℕ) (count left i end width n : ℕ) (u₀ : List ℕ) w
       unfolding flatPacked
       inner-full l few h = ended (rw (is few h .then, is few h .bits-is, lt-leb w room l) at (g .rows))
 
-      pub inner-room : count ≤ 128 → i < count → (next + ext (fieldsIn x t count) j) * 6 ≤ length u
+      pub inner-room : count ≤ 128 → i < count → (next + ext (fieldsIn x t count) j) * scratchWidth ≤ length u
       unfolding sumExt
       inner-room few h = let q = rw (is few h .then) at (g .fits) in omega arith
 
@@ -303,8 +303,8 @@ module _ (x t d : List ℕ) (count first start n : ℕ) (u₀ : List ℕ) where
       at-j : count ≤ 128 → first ≤ count → Chosen x t count 0 first order place j o w
       at-j few h = chosen x t count 0 first order place r er j o w e few h
 
-      pub listing-room : count ≤ 128 → first ≤ count → (n + (count - first)) * 6 ≤ length u₀
-          → (next + ext (fieldsIn x t count) j) * 6 ≤ length u
+      pub listing-room : count ≤ 128 → first ≤ count → (n + (count - first)) * scratchWidth ≤ length u₀
+          → (next + ext (fieldsIn x t count) j) * scratchWidth ≤ length u
       unfolding sumExt
       listing-room few h l =
           let q = rw (at-j few h .then) at (g .fits) in

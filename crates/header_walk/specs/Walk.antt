@@ -5,6 +5,7 @@ use Prim.Native.Nat.{ℕ, _+_, _*_, _≤_}
 use lib.ListN.{length}
 use Rattle.header_rules.specs.Rows.{Row}
 use Rattle.header_rules.specs.Flat as flat
+use Rattle.header_fields.specs.Fields.{lineWidth}
 use Rattle.header_paths.specs.Scratch.{rowsIn}
 use Rattle.header_walk.specs.declared.Walked.{Walked}
 
@@ -12,7 +13,7 @@ use Rattle.header_walk.specs.declared.Walked.{Walked}
 pub record Shaped (d fields : List ℕ) (count : ℕ) : Type 0 where
   pub short : length d ≤ 2048
   pub few : count ≤ 128
-  pub loaded : count * 12 ≤ length fields
+  pub loaded : count * lineWidth ≤ length fields
 
 -- the table t holds the rows `after`
 abbrev pub Holds : List ℕ → List Row → Type 0

@@ -2,11 +2,14 @@
 // `decode_header` of frame_definition/decode.rs. What is read goes into scratch rows (crate `header_paths`).
 use bits::Bits;
 use bits::read_bits;
-use header_fields::WIDTH;
+use header_fields::BITS;
+use header_fields::LINE_WIDTH;
+use header_fields::OPTIONAL;
+use header_fields::SIZE;
 use header_paths::BitOffset;
 use header_paths::Next;
-use header_paths::ROW;
 use header_paths::Row;
+use header_paths::SCRATCH_WIDTH;
 use header_paths::Valued;
 use header_paths::find_inside;
 use header_paths::next_field;
@@ -15,11 +18,11 @@ use rows::put_row;
 ghost use mathlib.Core.Path.{_≡_};
 ghost use mathlib.Core.List.{[], _∷_, _++_};
 ghost use Prim.Native.Nat.{_+_, _-_, _*_, _<_, _≤_};
-ghost use lib.ListN.{length, getD};
-ghost use Rattle.header_fields.specs.Fields.{fieldsIn};
+ghost use lib.ListN.{length};
+ghost use Rattle.header_fields.specs.Fields.{lineWidth, levelIn, fieldsIn};
 ghost use Rattle.header_rules.specs.Loaded.{walkedFrom};
 ghost use Rattle.header_rules.specs.Flat.{rowAt};
-ghost use Rattle.header_paths.specs.Scratch.{rowsIn, tells};
+ghost use Rattle.header_paths.specs.Scratch.{scratchWidth, rowsIn, tells};
 ghost use Rattle.header_walk.specs.Walk.{Shaped, Walks};
 ghost use Rattle.header_walk.specs.Steps.{wanted, width, fitting, extentOf, Lays, fieldDone, fieldRead, innerDone, ext, Reads, Fills};
 pub use header_paths::find_value;
@@ -56,10 +59,10 @@ fn is_wanted(
     n: usize,
     parent: u64,
 ) -> bool
-    requires { ⌜ (count * 12 ≤ length (now fields)) × (i < count) × (n * 6 ≤ length (now rows)) ⌝ }
+    requires { ⌜ (count * lineWidth ≤ length (now fields)) × (i < count) × (n * scratchWidth ≤ length (now rows)) ⌝ }
     ensures { λ r. ⌜ r ≡ wanted (fieldsIn (now (text .entry)) (now (fields .entry)) count) i parent (rowsIn (now (rows .entry)) n) ⌝ }
 {
-    let at = i * WIDTH + 7;
+    let at = i * LINE_WIDTH + OPTIONAL;
     let len = fields[at + 1];
     if len == 0 {
         return true;
@@ -82,13 +85,13 @@ fn width_of(
     parent: u64,
     left: u64,
 ) -> u64
-    requires { ⌜ (count * 12 ≤ length (now fields)) × (i < count) × (n * 6 ≤ length (now rows)) × (left ≤ 16384) ⌝ }
+    requires { ⌜ (count * lineWidth ≤ length (now fields)) × (i < count) × (n * scratchWidth ≤ length (now rows)) × (left ≤ 16384) ⌝ }
     ensures { λ r. ⌜ r ≡ fitting (width (fieldsIn (now (text .entry)) (now (fields .entry)) count) i parent (rowsIn (now (rows .entry)) n)) left ⌝ }
 {
-    let at = i * WIDTH + 9;
+    let at = i * LINE_WIDTH + SIZE;
     let len = fields[at + 1];
     if len == 0 {
-        return fitting(fields[i * WIDTH + 2], left);
+        return fitting(fields[i * LINE_WIDTH + BITS], left);
     }
     let path = part_of(text, fields[at], len);
     let Valued::Value(bytes) = find_inside(text, fields, count, rows, n, path, parent) else {
@@ -121,7 +124,7 @@ fn extent_of(
     parent: u64,
     left: u64,
 ) -> Extent
-    requires { ⌜ (count * 12 ≤ length (now fields)) × (i < count) × (n * 6 ≤ length (now rows)) × (left ≤ 16384) ⌝ }
+    requires { ⌜ (count * lineWidth ≤ length (now fields)) × (i < count) × (n * scratchWidth ≤ length (now rows)) × (left ≤ 16384) ⌝ }
     ensures { λ r. ⌜ r ≡ extentOf (fieldsIn (now (text .entry)) (now (fields .entry)) count) i parent left (rowsIn (now (rows .entry)) n) ⌝ }
 {
     if !is_wanted(text, fields, count, i, rows, n, parent) {
@@ -161,7 +164,7 @@ fn row_of(mpdu: &[u8], place: u64, parent: u64, start: BitOffset, bits: u64) -> 
 
 // Writes row n.
 fn write_row(rows: &mut [u64], n: usize, row: Row)
-    requires { ⌜ (n + 1) * 6 ≤ length (now rows) ⌝ }
+    requires { ⌜ (n + 1) * scratchWidth ≤ length (now rows) ⌝ }
     ensures { λ _. ⌜ rowsIn (now (rows .exit)) (n + 1) ≡ rowsIn (now (rows .entry)) n ++ (tells row ∷ []) ⌝ }
 {
     let start = row.start;
@@ -173,7 +176,7 @@ fn write_row(rows: &mut [u64], n: usize, row: Row)
         row.valued,
         row.value,
     ];
-    put_row(rows, n * ROW, &numbers);
+    put_row(rows, n * SCRATCH_WIDTH, &numbers);
 }
 
 // Writes the own row of the field i at a bit as row n, if it exists there. Answers how wide it is.
@@ -189,7 +192,7 @@ fn lay_row(
     n: usize,
 ) -> Extent
     requires { ⌜ Shaped (now mpdu) (now fields) count ⌝ }
-    requires { ⌜ (i < count) × (start .0 ≤ length (now mpdu) * 8) × ((n + 1) * 6 ≤ length (now rows)) ⌝ }
+    requires { ⌜ (i < count) × (start .0 ≤ length (now mpdu) * 8) × ((n + 1) * scratchWidth ≤ length (now rows)) ⌝ }
     ensures { λ r. ⌜ Lays (fieldsIn (now (text .entry)) (now (fields .entry)) count) (now (mpdu .entry)) (now (rows .entry)) (now (rows .exit)) i
         (start .0) parent n r ⌝ }
 {
@@ -216,8 +219,8 @@ fn decode_param(
     left: u64,
 ) -> Field
     requires { ⌜ Shaped (now mpdu) (now fields) count ⌝ }
-    requires { ⌜ (i < count) × (getD (now fields) (i * 12) 0 + left ≡ 7) × (start .0 ≤ length (now mpdu) * 8)
-        × ((n + ext (fieldsIn (now text) (now fields) count) i) * 6 ≤ length (now rows)) ⌝ }
+    requires { ⌜ (i < count) × (levelIn (now fields) i + left ≡ 7) × (start .0 ≤ length (now mpdu) * 8)
+        × ((n + ext (fieldsIn (now text) (now fields) count) i) * scratchWidth ≤ length (now rows)) ⌝ }
     ensures { λ r.
         let ps = fieldsIn (now (text .entry)) (now (fields .entry)) count in
         let d = now (mpdu .entry) in
@@ -261,8 +264,8 @@ fn decode_inner(
     left: u64,
 ) -> usize
     requires { ⌜ Shaped (now mpdu) (now fields) count ⌝ }
-    requires { ⌜ (i < count) × (getD (now fields) (i * 12) 0 + left + 1 ≡ 7) × (end .0 ≤ length (now mpdu) * 8) × (width ≤ end .0)
-        × ((n + ext (fieldsIn (now text) (now fields) count) i) * 6 ≤ length (now rows) + 6) ⌝ }
+    requires { ⌜ (i < count) × (levelIn (now fields) i + left + 1 ≡ 7) × (end .0 ≤ length (now mpdu) * 8) × (width ≤ end .0)
+        × ((n + ext (fieldsIn (now text) (now fields) count) i) * scratchWidth ≤ length (now rows) + scratchWidth) ⌝ }
     ensures { λ r.
         let ps = fieldsIn (now (text .entry)) (now (fields .entry)) count in
         ⌜ Fills (now (rows .exit)) (innerDone ps (now (mpdu .entry)) left i (end .0) width (rowsIn (now (rows .entry)) n)) r ⌝ }
@@ -313,7 +316,7 @@ pub fn walk_from(
     n: usize,
 ) -> Walked
     requires { ⌜ Shaped (now mpdu) (now fields) count ⌝ }
-    requires { ⌜ (first ≤ count) × (start .0 ≤ length (now mpdu) * 8) × ((n + (count - first)) * 6 ≤ length (now rows)) ⌝ }
+    requires { ⌜ (first ≤ count) × (start .0 ≤ length (now mpdu) * 8) × ((n + (count - first)) * scratchWidth ≤ length (now rows)) ⌝ }
     ensures { λ r.
         let ps = fieldsIn (now (text .entry)) (now (fields .entry)) count in
         let w = walkedFrom ps (now (mpdu .entry)) first (start .0) (rowsIn (now (rows .entry)) n) in

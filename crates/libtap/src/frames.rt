@@ -3,7 +3,15 @@ use crate::TapAnswer;
 use frame::Parsed;
 use frame::PtiFrame;
 use pti::parse_payload;
+use pti::payload::BEAMS;
+use pti::payload::CHANNEL;
+use pti::payload::DIRECTION;
 use pti::payload::Frames;
+use pti::payload::LENGTH;
+use pti::payload::RATE;
+use pti::payload::REGION;
+use pti::payload::RSSI;
+use pti::payload::START;
 use pti::payload::row_of;
 use records::Counted;
 use records::PayloadOffset;
@@ -98,14 +106,14 @@ fn tell_row(frame: PtiFrame) -> TapFrame
     TapFrame {
         refusal: 0,
         value: 0,
-        direction: row[0],
-        region: row[1],
-        channel: row[2],
-        rate: row[3],
-        rssi: row[4],
-        beams: row[5],
-        start: row[6],
-        length: row[7],
+        direction: row[DIRECTION],
+        region: row[REGION],
+        channel: row[CHANNEL],
+        rate: row[RATE],
+        rssi: row[RSSI],
+        beams: row[BEAMS],
+        start: row[START],
+        length: row[LENGTH],
     }
 }
 

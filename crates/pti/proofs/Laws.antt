@@ -29,7 +29,7 @@ use Rattle.records.specs.Steps.{Follows}
 use Rattle.frame.specs.Steps.{splitOf}
 use Rattle.pti.specs.Steps.{Writes}
 use Rattle.frame.specs.Frame.{headerOf, isFrame, frameOf}
-use Rattle.pti.specs.Payload.{directionNumber, beamsNumber, rowOf, rowsIn, rowsOf, Parses}
+use Rattle.pti.specs.Payload.{rowWidth, directionNumber, beamsNumber, rowOf, rowsIn, rowsOf, Parses}
 use Rattle.records.proofs.Laws.{led, body-nearer, body-ordered, body-inside, after-fits}
 use Rattle.frame.proofs.Laws.{split-frame, split-none, parts-in}
 
@@ -67,7 +67,7 @@ module _ (b : List ℕ) (start n : ℕ) (t : List ℕ) (x : Split) (is-x : x ≡
   writes-none e = let none = split-none b x is-x e in record { next = rw none (omega arith); table = rw none refl }
 
   pub writes-row : (p : Parts) (f : PtiFrame) (row t′ : List ℕ) → x ≡ Into p → f ≡ frameOf b → row ≡ rowOf start f
-      → t′ ≡ put t (n * 8) row → Writes b start n t (n + 1) t′
+      → t′ ≡ put t (n * rowWidth) row → Writes b start n t (n + 1) t′
   writes-row p f row t′ e is-f is-row is-t =
       let some = split-frame b x is-x p e in
       let the-row : row ≡ rowOf start (frameOf b) = rw is-f at is-row in
@@ -109,7 +109,7 @@ module _ (s : List ℕ) (count at : ℕ) (r : Next) (b : Span) (k : ℕ) (w : Ta
   tally-fits room = let l = led s at r b follows is-b in omega (arith, w .low, l .after, l .ordered, l .inside)
 
 -- ---- the rows
-wide : (s : List ℕ) (bs : List (ℕ × ℕ)) → length (flat (rowsIn s bs)) ≡ length (rowsIn s bs) * 8
+wide : (s : List ℕ) (bs : List (ℕ × ℕ)) → length (flat (rowsIn s bs)) ≡ length (rowsIn s bs) * rowWidth
 unfolding rowsIn
 wide s [] = refl
 wide s (b ∷ bs) = go (isFrame (bytesOf s b)) (wide s bs)
@@ -117,23 +117,23 @@ wide s (b ∷ bs) = go (isFrame (bytesOf s b)) (wide s bs)
     row : List ℕ
     row = rowOf (b .0) (frameOf (bytesOf s b))
 
-    go : (t : Bool) → length (flat (rowsIn s bs)) ≡ length (rowsIn s bs) * 8
-        → length (flat (cond t (row ∷ rowsIn s bs) (rowsIn s bs))) ≡ length (cond t (row ∷ rowsIn s bs) (rowsIn s bs)) * 8
+    go : (t : Bool) → length (flat (rowsIn s bs)) ≡ length (rowsIn s bs) * rowWidth
+        → length (flat (cond t (row ∷ rowsIn s bs) (rowsIn s bs))) ≡ length (cond t (row ∷ rowsIn s bs) (rowsIn s bs)) * rowWidth
     go true ih = omega arith
     go false ih = ih
 
 -- the table with the rows that are left is the table that is asked for
 pub record Writing (s t₀ t : List ℕ) (n at : ℕ) : Type 0 where
-  pub rest : sets t (n * 8) (flat (rowsIn s (bodiesFrom s at))) ≡ sets t₀ 0 (flat (rowsOf s))
-  pub room : (n + length (rowsIn s (bodiesFrom s at))) * 8 ≤ length t
+  pub rest : sets t (n * rowWidth) (flat (rowsIn s (bodiesFrom s at))) ≡ sets t₀ 0 (flat (rowsOf s))
+  pub room : (n + length (rowsIn s (bodiesFrom s at))) * rowWidth ≤ length t
   pub same : length t ≡ length t₀
   pub low : 0 < at
 
-pub writing-starts : (s t : List ℕ) → length (rowsOf s) * 8 ≤ length t → Writing s t t 0 1
+pub writing-starts : (s t : List ℕ) → length (rowsOf s) * rowWidth ≤ length t → Writing s t t 0 1
 writing-starts s t room = record { rest = refl; room = omega arith; same = refl; low = omega arith }
 
 pub written : (s t₀ t : List ℕ) (n at : ℕ) (r : Next) → Writing s t₀ t n at → Follows s at r → r ≡ NoMore
-    → length (rowsOf s) * 8 ≤ length t₀ → t ≡ laid t₀ (rowsOf s)
+    → length (rowsOf s) * rowWidth ≤ length t₀ → t ≡ laid t₀ (rowsOf s)
 unfolding rowsIn
 written s t₀ t n at r w follows e room =
     let none : bodiesFrom s at ≡ [] = rw e at follows in
@@ -172,21 +172,21 @@ module _ (s t₀ t : List ℕ) (n at : ℕ) (r : Next) (b : Span) (w : Writing s
           rw (same-n, same-t) (record { rest = rw now-is at (w .rest); room = rw now-is at (w .room); same = w .same; low = omega arith })
       go true e =
           let now-is : now-rows ≡ row ∷ next-rows = here ∙ rw e refl in
-          let room : (n + length (row ∷ next-rows)) * 8 ≤ length t = rw now-is at (w .room) in
+          let room : (n + length (row ∷ next-rows)) * rowWidth ≤ length t = rw now-is at (w .room) in
           let next-n : n′ ≡ n + 1 = rw e at (wrote .next) in
-          let put-t : t′ ≡ sets t (n * 8) row = (rw e at (wrote .table)) ∙ put-room t row (n * 8) (omega arith) in
-          let place : n * 8 + length row ≡ (n + 1) * 8 = omega arith in
-          let rest : sets t (n * 8) (row ++ flat next-rows) ≡ sets t₀ 0 (flat (rowsOf s)) = rw now-is at (w .rest) in
-          let size : length (sets t (n * 8) row) ≡ length t = length-sets t (n * 8) row in
+          let put-t : t′ ≡ sets t (n * rowWidth) row = (rw e at (wrote .table)) ∙ put-room t row (n * rowWidth) (omega arith) in
+          let place : n * rowWidth + length row ≡ (n + 1) * rowWidth = omega arith in
+          let rest : sets t (n * rowWidth) (row ++ flat next-rows) ≡ sets t₀ 0 (flat (rowsOf s)) = rw now-is at (w .rest) in
+          let size : length (sets t (n * rowWidth) row) ≡ length t = length-sets t (n * rowWidth) row in
           rw (next-n, put-t)
           (record {
-            rest = rw (← place) (sym (sets-append t (n * 8) row (flat next-rows)) ∙ rest);
+            rest = rw (← place) (sym (sets-append t (n * rowWidth) row (flat next-rows)) ∙ rest);
             room = omega arith;
             same = size ∙ w .same;
             low = omega arith;
           })
 
-pub rows-so-far : (s t₀ t : List ℕ) (n at : ℕ) → Writing s t₀ t n at → n * 8 ≤ length t
+pub rows-so-far : (s t₀ t : List ℕ) (n at : ℕ) → Writing s t₀ t n at → n * rowWidth ≤ length t
 rows-so-far s t₀ t n at w = omega (arith, w .room)
 
 -- ---- the answer
@@ -198,21 +198,29 @@ no-length [] h = refl
 no-length (x ∷ xs) h = absurd (omega arith)
 
 module _ (s t : List ℕ) (needed : ℕ) (is-needed : needed ≡ length (rowsOf s)) (short : length s ≤ 65535) where
-  pub parses-more : length t / 8 < needed → Parses s t (Refused (MoreRows needed)) t
+  pub parses-more : length t / rowWidth < needed → Parses s t (Refused (MoreRows needed)) t
   parses-more few =
-      rw is-needed (record { answer = rw (le-leb (length s) 65535 short, lt-leb (length (rowsOf s)) (length t / 8) (omega arith)) refl; table = refl })
+      rw is-needed (record {
+        answer = rw (le-leb (length s) 65535 short, lt-leb (length (rowsOf s)) (length t / rowWidth) (omega arith)) refl;
+        table =
+            refl;
+      })
 
   pub parses-none : needed ≡ 0 → Parses s t (Rows 0) t
   parses-none none =
       let empty : rowsOf s ≡ [] = no-length (rowsOf s) (omega arith) in
-      record { answer = rw (le-leb (length s) 65535 short, empty, le-leb 0 (length t / 8) (omega arith)) refl; table = rw empty refl }
+      record { answer = rw (le-leb (length s) 65535 short, empty, le-leb 0 (length t / rowWidth) (omega arith)) refl; table = rw empty refl }
 
-  pub rows-fit : needed ≤ length t / 8 → length (rowsOf s) * 8 ≤ length t
+  pub rows-fit : needed ≤ length t / rowWidth → length (rowsOf s) * rowWidth ≤ length t
   rows-fit enough = omega arith
 
-  pub parses-all : (t′ : List ℕ) → needed ≤ length t / 8 → t′ ≡ laid t (rowsOf s) → Parses s t (Rows needed) t′
+  pub parses-all : (t′ : List ℕ) → needed ≤ length t / rowWidth → t′ ≡ laid t (rowsOf s) → Parses s t (Rows needed) t′
   parses-all t′ enough is-t =
-      rw is-needed (record { answer = rw (le-leb (length s) 65535 short, le-leb (length (rowsOf s)) (length t / 8) (omega arith)) refl; table = is-t })
+      rw is-needed (record {
+        answer = rw (le-leb (length s) 65535 short, le-leb (length (rowsOf s)) (length t / rowWidth) (omega arith)) refl;
+        table =
+            is-t;
+      })
 
 -- what the proofs of the functions go by
 pub ruleset laws = (

@@ -1,4 +1,4 @@
--- F17 and F18 (docs/RULES.md): the frames of a payload as rows of a table, eight numbers a row.
+-- F17 and F18 (docs/RULES.md): the frames of a payload as rows of a table.
 use mathlib.Core.Path.{_≡_}
 use mathlib.Core.Bool.{cond}
 use mathlib.Core.List.{List, [], _∷_}
@@ -29,6 +29,10 @@ abbrev pub beamsNumber : Beams → ℕ
 beamsNumber (Count n) = n
 beamsNumber NoBeam = 0
 
+-- F17: the numbers of a row
+abbrev pub rowWidth : ℕ
+rowWidth = 8
+
 -- F17: the row of a frame whose body starts at this place of the payload
 abbrev pub rowOf : ℕ → PtiFrame → List ℕ
 rowOf body f =
@@ -47,7 +51,7 @@ rowsOf s = rowsIn s (bodies s)
 abbrev pub framesOf : List ℕ → ℕ → Frames
 framesOf s room =
     cond (leb (length s) 65535)
-    (cond (leb (length (rowsOf s)) (room / 8)) (Rows (length (rowsOf s))) (Refused (MoreRows (length (rowsOf s)))))
+    (cond (leb (length (rowsOf s)) (room / rowWidth)) (Rows (length (rowsOf s))) (Refused (MoreRows (length (rowsOf s)))))
     (Refused (TooLong (length s)))
 
 -- R12: the table after an answer or a refusal

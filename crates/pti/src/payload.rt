@@ -1,4 +1,4 @@
-// Every frame of a payload, as rows of a lent table: eight numbers a row.
+// Every frame of a payload, as rows of a lent table.
 use frame::Beams;
 use frame::Direction;
 use frame::PtiFrame;
@@ -18,12 +18,29 @@ ghost use Prim.Native.Nat.{_+_, _*_, _^_, _≤_, _<_};
 ghost use lib.ListN.{length};
 ghost use Rattle.radio.specs.Speed.{RateTable};
 ghost use Rattle.frame.specs.Frame.{isFrame};
-ghost use Rattle.pti.specs.Payload.{directionNumber, beamsNumber, rowOf, rowsOf, Parses};
+ghost use Rattle.pti.specs.Payload.{rowWidth, directionNumber, beamsNumber, rowOf, rowsOf, Parses};
 ghost use Rattle.pti.specs.Steps.{Writes};
 ghost use Rattle.rows.specs.Rows.{laid};
 
+// The columns of a frame's row: F17 of docs/RULES.md.
+pub const DIRECTION: usize = 0;
+
+pub const REGION: usize = 1;
+
+pub const CHANNEL: usize = 2;
+
+pub const RATE: usize = 3;
+
+pub const RSSI: usize = 4;
+
+pub const BEAMS: usize = 5;
+
+pub const START: usize = 6;
+
+pub const LENGTH: usize = 7;
+
 // The numbers of a frame's row.
-const WIDTH: usize = 8;
+pub const ROW_WIDTH: usize = LENGTH + 1;
 
 // How many rows a payload has, all of them written.
 pub enum Frames {
@@ -50,7 +67,7 @@ fn beams_number(beams: Beams) -> u64
 }
 
 // The row of a frame whose body starts at a place of the payload.
-pub fn row_of(frame: PtiFrame, body: PayloadOffset) -> [u64; 8]
+pub fn row_of(frame: PtiFrame, body: PayloadOffset) -> [u64; ROW_WIDTH]
     requires { ⌜ body .0 + frame .start .0 < 2 ^ 64 ⌝ }
     ensures { λ r. ⌜ r ≡ rowOf (body .0) frame ⌝ }
 {
@@ -105,21 +122,21 @@ fn write_frame(
     n: usize,
 ) -> usize
     requires { ⌜ RateTable (now rates) ⌝ }
-    requires { ⌜ (start .0 < 2 ^ 63) × (n * 8 ≤ length (now table)) ⌝ }
+    requires { ⌜ (start .0 < 2 ^ 63) × (n * rowWidth ≤ length (now table)) ⌝ }
     ensures { λ r. ⌜ Writes (now (body .entry)) (start .0) n (now (table .entry)) r (now (table .exit)) ⌝ }
 {
     let Split::Into(parts) = split_body(body) else {
         return n;
     };
     let row = row_of(frame_of(rates, body, parts), start);
-    put_row(table, n * WIDTH, &row);
+    put_row(table, n * ROW_WIDTH, &row);
     n + 1
 }
 
 // Writes the rows of all frames, one after the other.
 fn write_frames(rates: &[u8; 512], payload: &[u8], table: &mut [u64])
     requires { ⌜ RateTable (now rates) ⌝ }
-    requires { ⌜ length (rowsOf (now payload)) * 8 ≤ length (now table) ⌝ }
+    requires { ⌜ length (rowsOf (now payload)) * rowWidth ≤ length (now table) ⌝ }
     ensures { λ _. ⌜ now (table .exit) ≡ laid (now (table .entry)) (rowsOf (now (payload .entry))) ⌝ }
 {
     let mut n: usize = 0;
@@ -137,7 +154,7 @@ fn write_frames(rates: &[u8; 512], payload: &[u8], table: &mut [u64])
 
 // The same, with the rates lent once for all frames.
 fn write_rows(payload: &[u8], table: &mut [u64])
-    requires { ⌜ length (rowsOf (now payload)) * 8 ≤ length (now table) ⌝ }
+    requires { ⌜ length (rowsOf (now payload)) * rowWidth ≤ length (now table) ⌝ }
     ensures { λ _. ⌜ now (table .exit) ≡ laid (now (table .entry)) (rowsOf (now (payload .entry))) ⌝ }
 {
     write_frames(&RATES, payload, table);
@@ -154,7 +171,7 @@ pub fn parse_payload(payload: &[u8], table: &mut [u64]) -> Frames
     if needed == 0 {
         return Frames::Rows(0);
     }
-    if needed <= table.len() / WIDTH {
+    if needed <= table.len() / ROW_WIDTH {
         write_rows(payload, table);
         return Frames::Rows(needed);
     }

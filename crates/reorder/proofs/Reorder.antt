@@ -17,7 +17,7 @@ use Rattle.crc.specs.Crc.{right}
 use Rattle.header_rules.specs.Data.{P, Field, Candidate}
 use Rattle.header_rules.specs.Answer.{answered, refused, answer}
 use Rattle.header_rules.specs.Demand.{None, First}
-use Rattle.header_rules.specs.Table.{tableOf}
+use Rattle.header_rules.specs.Table.{rowWidth, tableOf}
 use Rattle.header_rules.specs.Trees.{trees}
 use Rattle.header_rules.proofs.Answer.{answer-only}
 use Rattle.header_rules.proofs.Trees.{trees-renumber}
@@ -149,7 +149,7 @@ module _ (t t′ : List ℕ) (w : Reordered t t′) (h g : ℕ → ℕ) (f : Fol
       (r : Decoded) (table₁ : List ℕ) (c₁ : Decodes t d region speed table r table₁) (r′ : Decoded) (table₂ : List ℕ)
       (c₂ : Decodes t′ d region speed table r′ table₂) where
     abbrev most : ℕ
-    most = length table / 7
+    most = length table / rowWidth
 
     -- by the same key
     tells-after : (x : Told) → told (definition t′) d most key ≡ x → toldOf t′ d region speed (length table) ≡ x

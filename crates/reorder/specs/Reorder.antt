@@ -13,7 +13,7 @@ use Rattle.frame_definition.specs.Definition.{Base, definition, firstBase}
 use Rattle.crc.specs.Crc.{right}
 use Rattle.header_rules.specs.Data.{P, Field, Candidate}
 use Rattle.header_rules.specs.Demand.{Holds, None, Some}
-use Rattle.header_rules.specs.Table.{tableOf}
+use Rattle.header_rules.specs.Table.{rowWidth, tableOf}
 use Rattle.header_rules.specs.Trees.{trees}
 use Rattle.header_rules.specs.Told.{headingOf, candidatesOf}
 use Rattle.header_rules.specs.Says.{NoneHolds}
@@ -124,7 +124,7 @@ pub record Harmless (t t′ d : List ℕ) (region speed : ℕ) (table : List ℕ
   -- where exactly one holds, both calls answer it: key, flags, payload offset, checksum result and rows are the same but for the numbers of H and P lines
   pub one-holds : (b : Base) → baseBy t region speed ≡ some b → (c : Candidate 7) (fs : List (Field 7))
       → Only 7 d (trees (b .params)) (candidatesBy t region speed) c fs
-      → length (rowsBy t d fs) ≤ length table / 7
+      → length (rowsBy t d fs) ≤ length table / rowWidth
       → Gives table (headerBy t d speed c fs) (rowsBy t d fs) r table₁
       × Gives table (withNumber h (headerBy t d speed c fs)) (map (renumbered g) (rowsBy t d fs)) r′ table₂
   -- where some hold, one of them stands first after the move
@@ -133,5 +133,5 @@ pub record Harmless (t t′ d : List ℕ) (region speed : ℕ) (table : List ℕ
   -- and that one is the answer after it
   pub more-hold : (b : Base) → baseBy t region speed ≡ some b → (c : Candidate 7) (fs : List (Field 7))
       → Foremost 7 d (trees (b .params)) (candidatesBy t region speed) h c fs
-      → length (rowsBy t d fs) ≤ length table / 7 → Gives table (withNumber h (headerBy t d speed c fs))
+      → length (rowsBy t d fs) ≤ length table / rowWidth → Gives table (withNumber h (headerBy t d speed c fs))
       (map (renumbered g) (rowsBy t d fs)) r′ table₂

@@ -1,4 +1,4 @@
--- F19 (docs/RULES.md): frame records for the screen. A flat row is eight numbers, as F17 says; flat rows stand one behind the other in a list of numbers.
+-- F19 (docs/RULES.md): frame records for the screen. Flat rows, as F17 says, stand one behind the other in a list of numbers.
 use mathlib.Core.Path.{_≡_}
 use mathlib.Core.Bool.{cond, not, _&&_}
 use mathlib.Core.List.{List, [], _∷_, _++_}
@@ -8,6 +8,7 @@ use lib.ListN.{getD, drop, length}
 use mir.Syntax.{w8}
 use mir.Val.{toZ}
 use Rattle.screen.specs.declared.FrameRecord.{FrameRecord}
+use Rattle.pti.specs.Payload.{rowWidth}
 
 -- F19: the frame record of the flat row that comes first in these numbers: the RSSI is the signed number of its byte, and there is a beam
 -- count where it isn't 0. Of a number that is wider than its field, which no flat row of a frame has, the low bits are kept.
@@ -28,7 +29,7 @@ recordOf row =
 -- F19: the frame records of the first n flat rows.
 abbrev pub recordsOf : ℕ → List ℕ → List FrameRecord
 recordsOf zero rows = []
-recordsOf (suc n) rows = recordOf rows ∷ recordsOf n (drop 8 rows)
+recordsOf (suc n) rows = recordOf rows ∷ recordsOf n (drop rowWidth rows)
 
 -- The frame table with the first n records filled: those records, followed by what stood behind them.
 abbrev pub filled : ℕ → List ℕ → List FrameRecord → List FrameRecord
@@ -36,7 +37,7 @@ filled n rows frames = recordsOf n rows ++ drop n frames
 
 -- F19: how many are filled of n. All, where the table has n records and the numbers are n flat rows or more; else none.
 unfoldable pub fillableOf : ℕ → ℕ → ℕ → ℕ
-fillableOf n records numbers = cond (leb n records && leb n (numbers / 8)) n 0
+fillableOf n records numbers = cond (leb n records && leb n (numbers / rowWidth)) n 0
 
 -- F19: the answer, and the frame table then.
 pub record Filled (rows : List ℕ) (n : ℕ) (entry : List FrameRecord) (answer : ℕ) (exit : List FrameRecord) : Type 0 where

@@ -1,9 +1,19 @@
 // Frame records for the screen, filled from the flat rows of `parse_payload`: F19 of docs/RULES.md.
+use pti::payload::BEAMS;
+use pti::payload::CHANNEL;
+use pti::payload::DIRECTION;
+use pti::payload::LENGTH;
+use pti::payload::RATE;
+use pti::payload::REGION;
+use pti::payload::ROW_WIDTH;
+use pti::payload::RSSI;
+use pti::payload::START;
 use radio::rssi::signed;
 ghost use mathlib.Core.Path.{_≡_};
 ghost use Prim.Native.Nat.{_≤_, _+_, _*_};
 ghost use lib.ListN.{drop, length};
 ghost use Rattle.screen.specs.Screen.{recordOf, fillableOf, Filled};
+ghost use Rattle.pti.specs.Payload.{rowWidth};
 
 #[repr(C)]
 pub struct FrameRecord {
@@ -22,20 +32,20 @@ pub struct FrameRecord {
 
 // The frame record of flat row i.
 fn record_at(rows: &[u64], i: usize) -> FrameRecord
-    requires { ⌜ i * 8 + 8 ≤ length (now rows) ⌝ }
-    ensures { λ r. ⌜ r ≡ recordOf (drop (i * 8) (now (rows .entry))) ⌝ }
+    requires { ⌜ i * rowWidth + rowWidth ≤ length (now rows) ⌝ }
+    ensures { λ r. ⌜ r ≡ recordOf (drop (i * rowWidth) (now (rows .entry))) ⌝ }
 {
-    let at = i * 8;
+    let at = i * ROW_WIDTH;
     FrameRecord {
-        direction: (rows[at] % 256) as u8,
-        region: (rows[at + 1] % 256) as u8,
-        channel: (rows[at + 2] % 256) as u8,
-        rate: (rows[at + 3] % 256) as u8,
-        rssi: signed((rows[at + 4] % 256) as u8),
-        is_beam: rows[at + 5] != 0,
-        beams: (rows[at + 5] % 65536) as u16,
-        start: rows[at + 6] as usize,
-        length: rows[at + 7] as usize,
+        direction: (rows[at + DIRECTION] % 256) as u8,
+        region: (rows[at + REGION] % 256) as u8,
+        channel: (rows[at + CHANNEL] % 256) as u8,
+        rate: (rows[at + RATE] % 256) as u8,
+        rssi: signed((rows[at + RSSI] % 256) as u8),
+        is_beam: rows[at + BEAMS] != 0,
+        beams: (rows[at + BEAMS] % 65536) as u16,
+        start: rows[at + START] as usize,
+        length: rows[at + LENGTH] as usize,
     }
 }
 
@@ -46,7 +56,7 @@ fn fillable(n: usize, records: usize, numbers: usize) -> usize
     if records < n {
         return 0;
     }
-    if n <= numbers / 8 {
+    if n <= numbers / ROW_WIDTH {
         return n;
     }
     0

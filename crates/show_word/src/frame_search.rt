@@ -4,7 +4,15 @@ use files::capture::Item;
 use files::capture::Source;
 use files::capture::next_item;
 use pti::parse_payload;
+use pti::payload::BEAMS;
+use pti::payload::CHANNEL;
+use pti::payload::DIRECTION;
 use pti::payload::Frames;
+use pti::payload::LENGTH;
+use pti::payload::RATE;
+use pti::payload::REGION;
+use pti::payload::RSSI;
+use pti::payload::START;
 use readers::cells::frame_cell;
 use readers::cells::part;
 ghost use Prim.Native.Nat.{_≤_};
@@ -40,15 +48,15 @@ pub enum Search {
 fn hear(payload: &[u8], table: &[u64], i: usize, mpdu: &mut [u8; 4096]) -> Heard
     ensures { λ r. ⌜ r .count ≤ length (now (mpdu .exit)) ⌝ }
 {
-    let start = frame_cell(table, i, 6) as usize;
-    let bytes = part(payload, start, frame_cell(table, i, 7) as usize);
+    let start = frame_cell(table, i, START) as usize;
+    let bytes = part(payload, start, frame_cell(table, i, LENGTH) as usize);
     Heard {
-        direction: frame_cell(table, i, 0),
-        region: frame_cell(table, i, 1),
-        channel: frame_cell(table, i, 2),
-        rate: frame_cell(table, i, 3),
-        rssi: frame_cell(table, i, 4),
-        beams: frame_cell(table, i, 5),
+        direction: frame_cell(table, i, DIRECTION),
+        region: frame_cell(table, i, REGION),
+        channel: frame_cell(table, i, CHANNEL),
+        rate: frame_cell(table, i, RATE),
+        rssi: frame_cell(table, i, RSSI),
+        beams: frame_cell(table, i, BEAMS),
         count: append(mpdu, 0, bytes),
     }
 }

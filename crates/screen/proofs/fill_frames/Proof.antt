@@ -69,6 +69,7 @@ use Rattle.screen.proofs.fill_frames.Key.{name as #screen·fill-frames}
 use Rattle.screen.proofs.fill_frames as fill
 use Rattle.screen.proofs.fill_frames.Statement as stated
 use Rattle.screen.proofs.fill_frames.Code as code
+use Rattle.pti.specs.Payload.{rowWidth}
 
 abbrev R : RattleType
 R = T.the-row
@@ -128,7 +129,7 @@ module _ {M : Type 1} (𝓤 : URA M) (H : Heap 𝓤) (A : Atoms 𝓤) (W : Given
     few : m ≤ length ys
     few = fillable-bounds n (length ys) (length rs) .0
 
-    many : m * 8 ≤ length rs
+    many : m * rowWidth ≤ length rs
     many = fillable-bounds n (length ys) (length rs) .1
 
     fits-m : m < 2 ^ 64
@@ -138,7 +139,7 @@ module _ {M : Type 1} (𝓤 : URA M) (H : Heap 𝓤) (A : Atoms 𝓤) (W : Given
     same i h = filled-length rs i ys (omega (arith, few))
 
     -- flat row i and record i are there, the record's place does not wrap, and there is a next
-    row-there : (i : ℕ) → i < m → i * 8 + 8 ≤ length rs
+    row-there : (i : ℕ) → i < m → i * rowWidth + rowWidth ≤ length rs
     row-there i small = omega (arith, many)
 
     there : (i : ℕ) → i < m → i < length (Table i)
