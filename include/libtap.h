@@ -3,6 +3,12 @@
  * Every call takes every input, ends, keeps to the memory that it is lent, and allocates nothing. A slice passes as its pointer and
  * its length: of bytes in bytes, of a table in numbers. A refusal writes to no table; an answer writes nothing behind its rows.
  *
+ * What a caller in C must keep to, for no prover holds it there:
+ *
+ *   - A pointer is valid for its whole length while the call runs, and aligned for its type. It may be null only with length 0.
+ *   - A table that is lent overlaps nothing else that the same call is lent: no bytes, no other table. Bytes may overlap bytes.
+ *   - While a call runs nobody else writes what it is lent, or reads a table that it is lent.
+ *
  * Refusals (docs/RULES.md, R1 to R9), and the `value` that each carries:
  *
  *   0  none
