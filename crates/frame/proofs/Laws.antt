@@ -25,7 +25,7 @@ use Rattle.frame.specs.declared.Split.the-variants.{Into, Nothing as NoS
 use Rattle.laws.proofs.Bools.{and-left, and-right}
 use Rattle.laws.proofs.Lists.{tail}
 use Rattle.frame.specs.Frame.{headerOf, trailerOf, directionOf, successOf, fieldsOf, header, start, trailer, between, middle, fields, holds, isFrame}
-use Rattle.frame.specs.Frame.{mpduOf, beamsIn, framed, frameOf, parsedOf}
+use Rattle.frame.specs.Frame.{mpduOf, beamsIn, framed, frameOf, numbersAt, Parses}
 use Rattle.frame.specs.Steps.{layoutOf, partsOf, splitOf, PartsIn}
 use Rattle.refusal.specs.declared.Refusal.the-variants.{TooLong, NotAFrame}
 use Rattle.frame.specs.declared.PtiFrame.{PtiFrame}
@@ -110,7 +110,7 @@ some-trailer start = go (eqb start 0xF8) (eqb start 0xFC)
     go false true h = omega arith
     go false false h = let z : false ≡ true = h in absurd (let y : _≡_ {A = ℕ} 0 1 = cc in omega arith)
 
-roomy : (b : List ℕ) → between b ≡ true → (5 ≤ trailer b) × (header b + trailer b < length b)
+pub roomy : (b : List ℕ) → between b ≡ true → (5 ≤ trailer b) × (header b + trailer b < length b)
 roomy b h =
     let both = and-right (not (eqb (header b) 0)) _ h in (
       some-trailer (start b) (and-left (not (eqb (trailer b) 0)) _ both),
@@ -243,12 +243,15 @@ module _ (b : List ℕ) (r : Split) (is-r : r ≡ splitOf b) where
   pub split-frame : (p : Parts) → r ≡ Into p → isFrame b ≡ true
   split-frame p e = split-parts (isFrame b) (partsOf b) p (sym is-r ∙ e) .0
 
-pub parsed-long : (b : List ℕ) → 2048 < length b → Refused (TooLong (length b)) ≡ parsedOf b
-parsed-long b long = rw (lt-leb (length b) 2048 long) refl
+pub parsed-long : (b : List ℕ) → 2048 < length b → Parses b (Refused (TooLong (length b)))
+parsed-long b long = let e = lt-leb (length b) 2048 long in record { answer = rw e refl; numbers = rw e refl }
 
 module _ (b : List ℕ) (s : Split) (is-s : s ≡ splitOf b) where
-  pub parsed-not : s ≡ NoSplit → length b ≤ 2048 → Refused NotAFrame ≡ parsedOf b
-  parsed-not e short = rw (le-leb (length b) 2048 short, split-none b s is-s e) refl
+  pub parsed-not : s ≡ NoSplit → length b ≤ 2048 → Parses b (Refused NotAFrame)
+  parsed-not e short =
+      let within = le-leb (length b) 2048 short in
+      let none = split-none b s is-s e in
+      record { answer = rw (within, none) refl; numbers = rw (within, none) refl }
 
   module _ (p : Parts) (e : s ≡ Into p) where
     the-parts : (isFrame b ≡ true) × (p ≡ partsOf b)
@@ -262,8 +265,11 @@ module _ (b : List ℕ) (s : Split) (is-s : s ≡ splitOf b) where
         let n : p .end .0 ≡ length b - trailer b = ap (λ (x : Parts). x .end .0) is-p in
         record { parts = is-p; some = omega (arith, r .1); inside = omega arith }
 
-    pub parsed-frame : (f : PtiFrame) → length b ≤ 2048 → f ≡ frameOf b → Frame f ≡ parsedOf b
-    parsed-frame f short is-f = rw (le-leb (length b) 2048 short, the-parts .0) (ap Frame is-f)
+    pub parsed-frame : (f : PtiFrame) → length b ≤ 2048 → f ≡ frameOf b → Parses b (Frame f)
+    parsed-frame f short is-f =
+        let within = le-leb (length b) 2048 short in
+        let whole = the-parts .0 in
+        record { answer = rw (within, whole) (ap Frame is-f); numbers = rw (within, whole) (ap (λ (x : PtiFrame). (0, numbersAt (x .start .0) x)) is-f) }
 
 pub ruleset laws = (
   pick-first,

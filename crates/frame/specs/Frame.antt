@@ -1,12 +1,14 @@
 -- F7 to F12 and F16 (docs/RULES.md): the frame in a record's body. A body is the list of its bytes.
+use mathlib.Core.Path.{_≡_}
 use mathlib.Core.Bool.{Bool, cond, not, _&&_, _||_}
-use mathlib.Core.List.{List}
+use mathlib.Core.List.{List, [], _∷_}
 use Prim.Native.Nat.{ℕ, _+_, _-_, _%_}
 use lib.Dec.{eqb, leb, ltb}
 use lib.ListN.{length, getD, take, drop}
 use mir.Syntax.{w8}
-use mir.Val.{toZ}
+use mir.Val.{toZ, ofZ}
 use Rattle.refusal.specs.declared.Refusal.the-variants.{TooLong, NotAFrame}
+use Rattle.refusal.specs.Refusal.{numberOf, carriedBy}
 use Rattle.frame.specs.declared.Direction.{Direction}
 use Rattle.frame.specs.declared.Direction.the-variants.{Rx, Tx}
 use Rattle.frame.specs.declared.Trailer.{Trailer}
@@ -103,3 +105,32 @@ frameOf b = framed (directionOf (start b)) (fields b) (header b) (middle b)
 -- F16, R11: what `parse_record` answers
 abbrev pub parsedOf : List ℕ → Parsed
 parsedOf b = cond (leb (length b) 2048) (cond (isFrame b) (Frame (frameOf b)) (Refused NotAFrame)) (Refused (TooLong (length b)))
+
+-- F17: 0 is Rx, 1 is Tx
+abbrev pub directionNumber : Direction → ℕ
+directionNumber Rx = 0
+directionNumber Tx = 1
+
+-- F17: the beam count, or 0 for none; a beam counts at least 1
+abbrev pub beamsNumber : Beams → ℕ
+beamsNumber (Count n) = n
+beamsNumber NoBeam = 0
+
+-- F16, F17: the numbers of a frame whose MPDU starts at a place
+abbrev pub numbersAt : ℕ → PtiFrame → List ℕ
+numbersAt at f =
+    directionNumber (f .direction) ∷ f .region ∷ f .channel ∷ f .rate ∷ ofZ w8 (f .rssi) ∷ beamsNumber (f .beams) ∷ at ∷ f .length ∷ []
+
+-- F16: an answer in numbers: 0 and those of the frame, or the number of the refusal and what it carries
+abbrev pub said : Parsed → ℕ × List ℕ
+said (Frame f) = (0, numbersAt (f .start .0) f)
+said (Refused x) = (numberOf x, carriedBy x ∷ [])
+
+-- F16, R11: those numbers for a body
+abbrev pub saidOf : List ℕ → ℕ × List ℕ
+saidOf b = cond (leb (length b) 2048) (cond (isFrame b) (0, numbersAt (header b) (frameOf b)) (9, 0 ∷ [])) (4, length b ∷ [])
+
+-- F16: the answer of `parse_record`, as a case and in numbers
+pub record Parses (b : List ℕ) (r : Parsed) : Type 0 where
+  pub answer : r ≡ parsedOf b
+  pub numbers : said r ≡ saidOf b

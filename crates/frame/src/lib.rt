@@ -11,7 +11,7 @@ ghost use Prim.Native.Nat.{_≤_, _<_};
 ghost use lib.Dec.{eqb};
 ghost use lib.ListN.{length};
 ghost use Rattle.radio.specs.Speed.{RateTable};
-ghost use Rattle.frame.specs.Frame.{headerOf, trailerOf, directionOf, successOf, fieldsOf, holds, mpduOf, beamsIn, frameOf, parsedOf};
+ghost use Rattle.frame.specs.Frame.{headerOf, trailerOf, directionOf, successOf, fieldsOf, holds, mpduOf, beamsIn, frameOf, Parses};
 ghost use Rattle.frame.specs.Steps.{layoutOf, splitOf, PartsIn};
 
 // Hardware start tags, the header's last byte, and success tags, the trailer's first.
@@ -275,7 +275,7 @@ pub fn frame_of(rates: &[u8; 512], body: &[u8], parts: Parts) -> PtiFrame
 
 // The frame of a single record's body, or refusal 4 or 9.
 pub fn parse_record(body: &[u8]) -> Parsed
-    ensures { λ r. ⌜ r ≡ parsedOf (now (body .entry)) ⌝ }
+    ensures { λ r. ⌜ Parses (now (body .entry)) r ⌝ }
 {
     if 2048 < body.len() {
         return Parsed::Refused(Refusal::TooLong(body.len()));

@@ -10,14 +10,15 @@ use Rattle.refusal.specs.Refusal.{numberOf, carriedBy}
 use Rattle.records.specs.declared.Counted.{Counted}
 use Rattle.records.specs.declared.Counted.the-variants.{Records, Refused as Uncounted}
 use Rattle.records.specs.declared.Span.{Span}
-use Rattle.records.specs.Records.{spanOf}
+use Rattle.records.specs.Records.{said, saidOf, Counts, spanOf}
 use Rattle.records.specs.Steps.{IsBody}
+use Rattle.frame.specs.Frame.{numbersAt, parsedOf, Parses as ParsesRecord}
 use Rattle.frame.specs.declared.PtiFrame.{PtiFrame}
 use Rattle.frame.specs.declared.Parsed.{Parsed}
 use Rattle.frame.specs.declared.Parsed.the-variants.{Frame, Refused as NoFrame}
 use Rattle.pti.specs.declared.payload.Frames.{Frames}
 use Rattle.pti.specs.declared.payload.Frames.the-variants.{Rows, Refused}
-use Rattle.pti.specs.Payload.{rowOf, Parses}
+use Rattle.pti.specs.Payload.{rowOf, said as saidFrames, Parses}
 use Rattle.text.specs.declared.Verdict.{Verdict}
 use Rattle.text.specs.declared.Verdict.the-variants.{Accepted, Refused as Unfit}
 use Rattle.bits.specs.declared.Bits.{Bits}
@@ -37,30 +38,30 @@ use Rattle.libtap.specs.declared.frames.TapFrame.{TapFrame}
 use Rattle.libtap.specs.declared.headers.TapBits.{TapBits}
 use Rattle.libtap.specs.declared.headers.TapHeader.{TapHeader}
 use Rattle.libtap.specs.declared.commands.TapParams.{TapParams}
-use Rattle.libtap.specs.Answers.{told, judged, counted, part, framed, toldFrame, Told}
+use Rattle.libtap.specs.Answers.{answered, judged, part, framed, toldFrame, Told}
 use Rattle.libtap.specs.Headers.{toldBits, headed, toldHeader, ToldHeader}
 use Rattle.libtap.specs.Commands.{toldParams, ToldParams}
 
 -- ---- frames
-pub tells-rows : (f : Frames) (n : ℕ) → f ≡ Rows n → record { refusal = 0; value = n } ≡ told f
+pub tells-rows : (f : Frames) (n : ℕ) → f ≡ Rows n → record { refusal = 0; value = n } ≡ answered (saidFrames f)
 tells-rows f n e = rw e refl
 
 pub tells-refusal : (f : Frames) (x : Refusal) (number carried : ℕ) → f ≡ Refused x → number ≡ numberOf x → carried ≡ carriedBy x
-    → record { refusal = number; value = carried } ≡ told f
+    → record { refusal = number; value = carried } ≡ answered (saidFrames f)
 tells-refusal f x number carried e is-number is-carried = rw (e, is-number, is-carried) refl
 
-pub told-all : (s t : List ℕ) (f : Frames) (r : TapAnswer) (t′ : List ℕ) → Parses s t f t′ → r ≡ told f → Told s t r t′
-told-all s t f r t′ p is-r = record { answer = is-r ∙ ap told (p .answer); table = rw (p .answer) at (p .table) }
+pub told-all : (s t : List ℕ) (f : Frames) (r : TapAnswer) (t′ : List ℕ) → Parses s t f t′ → r ≡ answered (saidFrames f) → Told s t r t′
+told-all s t f r t′ p is-r = record { answer = is-r ∙ ap answered (p .numbers); table = rw (p .answer) at (p .table) }
 
-pub counts : (c : Counted) (n : ℕ) → c ≡ Records n → record { refusal = 0; value = n } ≡ counted c
+pub counts : (c : Counted) (n : ℕ) → c ≡ Records n → record { refusal = 0; value = n } ≡ answered (said c)
 counts c n e = rw e refl
 
 pub counts-refusal : (c : Counted) (x : Refusal) (number carried : ℕ) → c ≡ Uncounted x → number ≡ numberOf x → carried ≡ carriedBy x
-    → record { refusal = number; value = carried } ≡ counted c
+    → record { refusal = number; value = carried } ≡ answered (said c)
 counts-refusal c x number carried e is-number is-carried = rw (e, is-number, is-carried) refl
 
-pub counts-all : (c d : Counted) (r : TapAnswer) → c ≡ d → r ≡ counted c → r ≡ counted d
-counts-all c d r e is-r = rw e at is-r
+pub counts-all : (s : List ℕ) (c : Counted) (r : TapAnswer) → Counts s c → r ≡ answered (said c) → r ≡ answered (saidOf s)
+counts-all s c r so is-r = is-r ∙ ap answered (so .numbers)
 
 pub parts : (s : List ℕ) (k : ℕ) (b : Span) → IsBody s k b → record { start = b .start .0; length = b .end .0 - b .start .0 } ≡ part (spanOf s k)
 parts s k b body = rw (body .is) refl
@@ -78,10 +79,10 @@ pub framed-row : (f : PtiFrame) (row : List ℕ) → row ≡ rowOf 0 f
       beams = getD row 5 0;
       start = getD row 6 0;
       length = getD row 7 0;
-    } ≡ framed f
+    } ≡ framed (numbersAt (f .start .0) f)
 framed-row f row e = let z : 0 + f .start .0 ≡ f .start .0 = omega arith in rw (e, z) refl
 
-pub frames : (p : Parsed) (f : PtiFrame) (r : TapFrame) → p ≡ Frame f → r ≡ framed f → r ≡ toldFrame p
+pub frames : (p : Parsed) (f : PtiFrame) (r : TapFrame) → p ≡ Frame f → r ≡ framed (numbersAt (f .start .0) f) → r ≡ toldFrame p
 frames p f r e is-r = rw e is-r
 
 pub frames-refusal : (p : Parsed) (x : Refusal) (number carried : ℕ) → p ≡ NoFrame x → number ≡ numberOf x → carried ≡ carriedBy x
@@ -89,8 +90,8 @@ pub frames-refusal : (p : Parsed) (x : Refusal) (number carried : ℕ) → p ≡
     ≡ toldFrame p
 frames-refusal p x number carried e is-number is-carried = rw (e, is-number, is-carried) refl
 
-pub frames-all : (p q : Parsed) (r : TapFrame) → p ≡ q → r ≡ toldFrame p → r ≡ toldFrame q
-frames-all p q r e is-r = rw e at is-r
+pub frames-all : (b : List ℕ) (p : Parsed) (r : TapFrame) → ParsesRecord b p → r ≡ toldFrame p → r ≡ toldFrame (parsedOf b)
+frames-all b p r so is-r = is-r ∙ ap toldFrame (so .answer)
 
 -- ---- texts
 pub tells-accepted : (v : Verdict) → v ≡ Accepted → record { refusal = 0; value = 0 } ≡ judged v

@@ -2,59 +2,58 @@
 use mathlib.Core.Path.{_≡_}
 use mathlib.Core.List.{List}
 use Prim.Native.Nat.{ℕ}
-use lib.ListN.{length}
+use lib.ListN.{length, getD}
 use Rattle.refusal.specs.Refusal.{numberOf, carriedBy}
-use mir.Syntax.{w8}
-use mir.Val.{ofZ}
-use Rattle.records.specs.declared.Counted.{Counted}
-use Rattle.records.specs.declared.Counted.the-variants.{Records, Refused as Uncounted}
-use Rattle.frame.specs.declared.PtiFrame.{PtiFrame}
 use Rattle.frame.specs.declared.Parsed.{Parsed}
 use Rattle.frame.specs.declared.Parsed.the-variants.{Frame, Refused as NoFrame}
-use Rattle.pti.specs.declared.payload.Frames.{Frames}
-use Rattle.pti.specs.declared.payload.Frames.the-variants.{Rows, Refused}
-use Rattle.pti.specs.Payload.{directionNumber, beamsNumber, framesOf, tableAfter}
+use Rattle.frame.specs.Frame.{said}
+use Rattle.pti.specs.Payload.{framesOf, saidOf, tableAfter}
 use Rattle.text.specs.declared.Verdict.{Verdict}
 use Rattle.text.specs.declared.Verdict.the-variants.{Accepted, Refused as Unfit}
 use Rattle.libtap.specs.declared.TapAnswer.{TapAnswer}
 use Rattle.libtap.specs.declared.frames.TapFrame.{TapFrame}
 use Rattle.libtap.specs.declared.frames.TapPart.{TapPart}
 
--- the number of rows, or the refusal's number and what it carries
-abbrev pub told : Frames → TapAnswer
-told (Rows n) = record { refusal = 0; value = n }
-told (Refused x) = record { refusal = numberOf x; value = carriedBy x }
-
--- the number of bodies, or the refusal's number and what it carries
-abbrev pub counted : Counted → TapAnswer
-counted (Records n) = record { refusal = 0; value = n }
-counted (Uncounted x) = record { refusal = numberOf x; value = carriedBy x }
+-- an answer in numbers, as F5 and F18 (docs/RULES.md) have it
+abbrev pub answered : ℕ × ℕ → TapAnswer
+answered said = record { refusal = said .0; value = said .1 }
 
 -- where a body starts, and its length
 abbrev pub part : ℕ × ℕ → TapPart
 part b = record { start = b .0; length = b .1 }
 
--- the numbers of a frame
-abbrev pub framed : PtiFrame → TapFrame
+-- the numbers of a frame, as F16 has them
+abbrev pub framed : List ℕ → TapFrame
 framed f =
     record {
       refusal = 0;
       value = 0;
-      direction = directionNumber (f .direction);
-      region = f .region;
-      channel = f .channel;
-      rate = f .rate;
-      rssi = ofZ w8 (f .rssi);
-      beams = beamsNumber (f .beams);
-      start = f .start .0;
-      length = f .length;
+      direction = getD f 0 0;
+      region = getD f 1 0;
+      channel = getD f 2 0;
+      rate = getD f 3 0;
+      rssi = getD f 4 0;
+      beams = getD f 5 0;
+      start = getD f 6 0;
+      length = getD f 7 0;
     }
 
 -- the frame, or the refusal's number and what it carries
 abbrev pub toldFrame : Parsed → TapFrame
-toldFrame (Frame f) = framed f
+toldFrame (Frame f) = framed (said (Frame f) .1)
 toldFrame (NoFrame x) =
-    record { refusal = numberOf x; value = carriedBy x; direction = 0; region = 0; channel = 0; rate = 0; rssi = 0; beams = 0; start = 0; length = 0 }
+    record {
+      refusal = said (NoFrame x) .0;
+      value = getD (said (NoFrame x) .1) 0 0;
+      direction = 0;
+      region = 0;
+      channel = 0;
+      rate = 0;
+      rssi = 0;
+      beams = 0;
+      start = 0;
+      length = 0;
+    }
 
 -- 0, or the refusal's number and its line
 abbrev pub judged : Verdict → TapAnswer
@@ -63,5 +62,5 @@ judged (Unfit x) = record { refusal = numberOf x; value = carriedBy x }
 
 -- what `tap_parse_payload` answers and leaves, for a payload s and a table t
 pub record Told (s t : List ℕ) (r : TapAnswer) (t′ : List ℕ) : Type 0 where
-  pub answer : r ≡ told (framesOf s (length t))
+  pub answer : r ≡ answered (saidOf s (length t))
   pub table : t′ ≡ tableAfter s t (framesOf s (length t))

@@ -19,9 +19,10 @@ use records::find_body;
 ghost use mathlib.Core.Path.{_≡_};
 ghost use Rattle.radio.specs.Speed.{rateOf};
 ghost use Rattle.radio.specs.Beam.{beamsOf};
-ghost use Rattle.records.specs.Records.{countedOf, spanOf};
-ghost use Rattle.frame.specs.Frame.{parsedOf};
-ghost use Rattle.libtap.specs.Answers.{told, Told, counted, part, framed, toldFrame};
+ghost use Rattle.records.specs.Records.{said, saidOf, spanOf};
+ghost use Rattle.frame.specs.Frame.{parsedOf, numbersAt};
+ghost use Rattle.pti.specs.Payload.{said as saidFrames};
+ghost use Rattle.libtap.specs.Answers.{answered, part, framed, toldFrame, Told};
 
 // A frame as C has it: where `refusal` is 0, the eight numbers of its row, `start` in the record's body.
 #[repr(C)]
@@ -62,7 +63,7 @@ pub extern "C" fn tap_beam_count(rate: u8, middle: &[u8]) -> usize
 }
 
 fn tell_count(count: Counted) -> TapAnswer
-    ensures { λ r. ⌜ r ≡ counted count ⌝ }
+    ensures { λ r. ⌜ r ≡ answered (said count) ⌝ }
 {
     match count {
         Counted::Records(n) => TapAnswer {
@@ -79,7 +80,7 @@ fn tell_count(count: Counted) -> TapAnswer
 // How many bodies a payload has, or refusal 4.
 #[no_mangle]
 pub extern "C" fn tap_count_records(payload: &[u8]) -> TapAnswer
-    ensures { λ r. ⌜ r ≡ counted (countedOf (now (payload .entry))) ⌝ }
+    ensures { λ r. ⌜ r ≡ answered (saidOf (now (payload .entry))) ⌝ }
 {
     let count = pti::count_records(payload);
     tell_count(count)
@@ -100,7 +101,7 @@ pub extern "C" fn tap_record_body(payload: &[u8], k: usize) -> TapPart
 }
 
 fn tell_row(frame: PtiFrame) -> TapFrame
-    ensures { λ r. ⌜ r ≡ framed frame ⌝ }
+    ensures { λ r. ⌜ r ≡ framed (numbersAt (frame .start .0) frame) ⌝ }
 {
     let row = row_of(frame, PayloadOffset(0));
     TapFrame {
@@ -147,7 +148,7 @@ pub extern "C" fn tap_parse_record(body: &[u8]) -> TapFrame
 }
 
 fn tell(frames: Frames) -> TapAnswer
-    ensures { λ r. ⌜ r ≡ told frames ⌝ }
+    ensures { λ r. ⌜ r ≡ answered (saidFrames frames) ⌝ }
 {
     match frames {
         Frames::Rows(n) => TapAnswer {

@@ -9,7 +9,7 @@ use mir.Syntax.{w8, w64}
 use mir.Val.{Fits, ofZ, toZ, hbits}
 use mir.Facts.{toZ-ofZ}
 use lib.Signed.{mag}
-use lib.Dec.{eqb}
+use lib.Dec.{eqb, leb}
 use lib.ListN.{length, getD, take, drop}
 use lib.Seq.{sets, length-sets}
 use borrow.Author.Tests.{le-leb, lt-leb}
@@ -28,8 +28,8 @@ use Rattle.records.specs.Records.{bodiesFrom, bodies, bytesOf}
 use Rattle.records.specs.Steps.{Follows}
 use Rattle.frame.specs.Steps.{splitOf}
 use Rattle.pti.specs.Steps.{Writes}
-use Rattle.frame.specs.Frame.{headerOf, isFrame, frameOf}
-use Rattle.pti.specs.Payload.{rowWidth, directionNumber, beamsNumber, rowOf, rowsIn, rowsOf, Parses}
+use Rattle.frame.specs.Frame.{headerOf, isFrame, frameOf, directionNumber, beamsNumber}
+use Rattle.pti.specs.Payload.{rowWidth, rowOf, rowsIn, rowsOf, Parses}
 use Rattle.records.proofs.Laws.{led, body-nearer, body-ordered, body-inside, after-fits}
 use Rattle.frame.proofs.Laws.{split-frame, split-none, parts-in}
 
@@ -109,7 +109,7 @@ module _ (s : List ℕ) (count at : ℕ) (r : Next) (b : Span) (k : ℕ) (w : Ta
   tally-fits room = let l = led s at r b follows is-b in omega (arith, w .low, l .after, l .ordered, l .inside)
 
 -- ---- the rows
-wide : (s : List ℕ) (bs : List (ℕ × ℕ)) → length (flat (rowsIn s bs)) ≡ length (rowsIn s bs) * rowWidth
+pub wide : (s : List ℕ) (bs : List (ℕ × ℕ)) → length (flat (rowsIn s bs)) ≡ length (rowsIn s bs) * rowWidth
 unfolding rowsIn
 wide s [] = refl
 wide s (b ∷ bs) = go (isFrame (bytesOf s b)) (wide s bs)
@@ -191,36 +191,34 @@ rows-so-far s t₀ t n at w = omega (arith, w .room)
 
 -- ---- the answer
 pub parses-long : (s t : List ℕ) → 65535 < length s → Parses s t (Refused (TooLong (length s))) t
-parses-long s t long = record { answer = rw (lt-leb (length s) 65535 long) refl; table = refl }
+parses-long s t long = let e = lt-leb (length s) 65535 long in record { answer = rw e refl; numbers = rw e refl; table = refl }
 
 no-length : (l : List (List ℕ)) → length l ≡ 0 → l ≡ []
 no-length [] h = refl
 no-length (x ∷ xs) h = absurd (omega arith)
 
 module _ (s t : List ℕ) (needed : ℕ) (is-needed : needed ≡ length (rowsOf s)) (short : length s ≤ 65535) where
+  within : leb (length s) 65535 ≡ true
+  within = le-leb (length s) 65535 short
+
   pub parses-more : length t / rowWidth < needed → Parses s t (Refused (MoreRows needed)) t
   parses-more few =
-      rw is-needed (record {
-        answer = rw (le-leb (length s) 65535 short, lt-leb (length (rowsOf s)) (length t / rowWidth) (omega arith)) refl;
-        table =
-            refl;
-      })
+      let over = lt-leb (length (rowsOf s)) (length t / rowWidth) (omega arith) in
+      rw is-needed (record { answer = rw (within, over) refl; numbers = rw (within, over) refl; table = refl })
 
   pub parses-none : needed ≡ 0 → Parses s t (Rows 0) t
   parses-none none =
       let empty : rowsOf s ≡ [] = no-length (rowsOf s) (omega arith) in
-      record { answer = rw (le-leb (length s) 65535 short, empty, le-leb 0 (length t / rowWidth) (omega arith)) refl; table = rw empty refl }
+      let fits = le-leb 0 (length t / rowWidth) (omega arith) in
+      record { answer = rw (within, empty, fits) refl; numbers = rw (within, empty, fits) refl; table = rw empty refl }
 
   pub rows-fit : needed ≤ length t / rowWidth → length (rowsOf s) * rowWidth ≤ length t
   rows-fit enough = omega arith
 
   pub parses-all : (t′ : List ℕ) → needed ≤ length t / rowWidth → t′ ≡ laid t (rowsOf s) → Parses s t (Rows needed) t′
   parses-all t′ enough is-t =
-      rw is-needed (record {
-        answer = rw (le-leb (length s) 65535 short, le-leb (length (rowsOf s)) (length t / rowWidth) (omega arith)) refl;
-        table =
-            is-t;
-      })
+      let fits = le-leb (length (rowsOf s)) (length t / rowWidth) (omega arith) in
+      rw is-needed (record { answer = rw (within, fits) refl; numbers = rw (within, fits) refl; table = is-t })
 
 -- what the proofs of the functions go by
 pub ruleset laws = (

@@ -17,8 +17,8 @@ ghost use mathlib.Core.Bool.{cond};
 ghost use Prim.Native.Nat.{_+_, _*_, _^_, _≤_, _<_};
 ghost use lib.ListN.{length};
 ghost use Rattle.radio.specs.Speed.{RateTable};
-ghost use Rattle.frame.specs.Frame.{isFrame};
-ghost use Rattle.pti.specs.Payload.{rowWidth, directionNumber, beamsNumber, rowOf, rowsOf, Parses};
+ghost use Rattle.frame.specs.Frame.{isFrame, directionNumber, beamsNumber};
+ghost use Rattle.pti.specs.Payload.{rowWidth, rowOf, rowsOf, Parses};
 ghost use Rattle.pti.specs.Steps.{Writes};
 ghost use Rattle.rows.specs.Rows.{laid};
 

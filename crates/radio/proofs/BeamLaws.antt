@@ -123,6 +123,24 @@ module _ (rate : ℕ) (m : List ℕ) (w count at : ℕ) (t : Bool) (b : Beaming 
   pub beaming-nearer : length m - (at + w) < length m - at
   beaming-nearer = let some : 0 < w = rw e (some-width rate (length m) (omega arith)) in omega arith
 
+-- ---- how high the count can be
+again-low : (first : List ℕ) (k : ℕ) (l : List ℕ) → again first k l ≤ length l
+again-low first k [] = omega arith
+again-low first (suc k) (x ∷ xs) = omega (arith, again-low first k xs)
+again-low first zero (x ∷ xs) =
+    go (eqb x 0x55 && startsWith first (x ∷ xs)) (again first (length first - 1) xs) (again first 0 xs) (again-low first (length first - 1) xs)
+    (again-low first 0 xs)
+  where
+    go : (t : Bool) (a b : ℕ) → a ≤ length xs → b ≤ length xs → cond t (a + 1) b ≤ length (x ∷ xs)
+    go true a b la lb = omega arith
+    go false a b la lb = omega arith
+
+pub beams-low : (rate : ℕ) (m : List ℕ) → (0 < beamsOf rate m) × (beamsOf rate m ≤ 1 + length m)
+unfolding beamsOf
+beams-low rate m =
+    let w = widthOf rate (length m) in
+    (omega arith, omega (arith, again-low (take w m) 0 (drop w m), length-drop w m))
+
 pub ruleset beam-laws = (
   left-smaller,
   right-smaller,

@@ -1,6 +1,6 @@
 -- The table of rates is what the four lists say: one test over its 512 entries, which is computed. Assumes nothing.
 use mathlib.Core.Path.{_≡_, refl}
-use mathlib.Core.Bool.{Bool, true, false, _&&_, and-false}
+use mathlib.Core.Bool.{Bool, true, false, cond, _&&_, and-false}
 use mathlib.Core.List.{List, [], _∷_, _++_}
 use mathlib.Core.Logic.{_⊎_, inl, inr}
 use Prim.Native.Nat.{ℕ, _+_, _*_, _/_, _%_, _≤_, _<_}
@@ -78,5 +78,18 @@ past-channels channel region h = none channel region (inl h)
 
 pub past-regions : (channel region : ℕ) → 32 ≤ region → 0 ≡ rateOf channel region
 past-regions channel region h = none channel region (inr h)
+
+-- no rate is above 3
+pub rate-low : (channel region : ℕ) → rateOf channel region ≤ 3
+unfolding rateOf
+rate-low channel region = go (contains baud9600 channel region) (contains baud40k channel region) (contains baud100k channel region)
+    (contains baudLr channel region)
+  where
+    go : (a b c d : Bool) → cond a 0 (cond b 1 (cond c 2 (cond d 3 0))) ≤ 3
+    go true b c d = omega arith
+    go false true c d = omega arith
+    go false false true d = omega arith
+    go false false false true = omega arith
+    go false false false false = omega arith
 
 pub ruleset speed-laws = (in-table, past-channels, past-regions)

@@ -15,7 +15,7 @@ use Rattle.records.specs.declared.RecordAt.the-variants.{Record, Stop}
 use Rattle.records.specs.declared.Span.{Span}
 use Rattle.records.specs.declared.Next.{Next}
 use Rattle.records.specs.declared.Next.the-variants.{Body, NoMore}
-use Rattle.records.specs.Records.{stands, recordAt, bodyOf, upTo, bodiesFrom, bodies, countedOf, spanOf, PartOf}
+use Rattle.records.specs.Records.{stands, recordAt, bodyOf, upTo, bodiesFrom, bodies, Counts, spanOf, PartOf}
 use Rattle.records.specs.declared.Counted.the-variants.{Records, Refused}
 use Rattle.refusal.specs.declared.Refusal.the-variants.{TooLong}
 use denote.Ref.{RefT, ptr, now}
@@ -165,15 +165,16 @@ pub record Counting (s : List ℕ) (count at : ℕ) : Type 0 where
 pub counting-starts : (s : List ℕ) → Counting s 0 1
 counting-starts s = record { sum = omega arith; low = omega arith }
 
-pub counted-none : (s : List ℕ) → 65535 < length s → Refused (TooLong (length s)) ≡ countedOf s
-counted-none s long = rw (lt-leb (length s) 65535 long) refl
+pub counted-none : (s : List ℕ) → 65535 < length s → Counts s (Refused (TooLong (length s)))
+counted-none s long = let e = lt-leb (length s) 65535 long in record { answer = rw e refl; numbers = rw e refl }
 
 pub counted-all : (s : List ℕ) (count at : ℕ) (r : Next) → Counting s count at → Follows s at r → r ≡ NoMore → length s ≤ 65535
-    → Records count ≡ countedOf s
+    → Counts s (Records count)
 counted-all s count at r w follows e short =
     let none : bodiesFrom s at ≡ [] = rw e at follows in
     let sum : count ≡ length (bodies s) = omega (arith, w .sum, ap length none) in
-    rw (le-leb (length s) 65535 short) (ap Records sum)
+    let within = le-leb (length s) 65535 short in
+    record { answer = rw within (ap Records sum); numbers = rw within (ap (λ (n : ℕ). (0, n)) sum) }
 
 module _ (s : List ℕ) (count at : ℕ) (r : Next) (b : Span) (w : Counting s count at) (follows : Follows s at r) (is-b : r ≡ Body b) where
   pub counting-more : Counting s (count + 1) (b .end .0 + 2)

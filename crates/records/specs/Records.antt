@@ -7,6 +7,7 @@ use denote.Ref.{RefT, ptr, now}
 use lib.Dec.{eqb, leb, ltb}
 use lib.ListN.{length, getD, take, drop}
 use Rattle.refusal.specs.declared.Refusal.the-variants.{TooLong}
+use Rattle.refusal.specs.Refusal.{numberOf, carriedBy}
 use Rattle.records.specs.declared.RecordAt.{RecordAt}
 use Rattle.records.specs.declared.RecordAt.the-variants.{Record, Stop}
 use Rattle.records.specs.declared.Counted.{Counted}
@@ -44,6 +45,20 @@ bodies s = bodiesFrom s 1
 -- F5: what `count_records` answers
 abbrev pub countedOf : List ℕ → Counted
 countedOf s = cond (leb (length s) 65535) (Records (length (bodies s))) (Refused (TooLong (length s)))
+
+-- F5: an answer in numbers: 0 and the count, or the number of the refusal and what it carries
+abbrev pub said : Counted → ℕ × ℕ
+said (Records n) = (0, n)
+said (Refused x) = (numberOf x, carriedBy x)
+
+-- F5: those numbers for a payload
+abbrev pub saidOf : List ℕ → ℕ × ℕ
+saidOf s = cond (leb (length s) 65535) (0, length (bodies s)) (4, length s)
+
+-- F5: the answer of `count_records`, as a case and in numbers
+pub record Counts (s : List ℕ) (r : Counted) : Type 0 where
+  pub answer : r ≡ countedOf s
+  pub numbers : said r ≡ saidOf s
 
 -- F6: where body k lies; nothing, at 0, where there is none
 abbrev pub spanOf : List ℕ → ℕ → ℕ × ℕ

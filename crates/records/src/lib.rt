@@ -2,7 +2,7 @@
 use refusal::Refusal;
 ghost use mathlib.Core.Path.{_≡_};
 ghost use Prim.Native.Nat.{_<_, _+_, _^_};
-ghost use Rattle.records.specs.Records.{recordAt, countedOf, spanOf, PartOf};
+ghost use Rattle.records.specs.Records.{recordAt, Counts, spanOf, PartOf};
 ghost use Rattle.records.specs.Steps.{Follows, IsBody};
 
 // The most bytes that a payload may have.
@@ -93,7 +93,7 @@ pub fn next_body(payload: &[u8], at: usize) -> Next
 
 // The number of bodies of a payload, or refusal 4.
 pub fn count_records(payload: &[u8]) -> Counted
-    ensures { λ r. ⌜ r ≡ countedOf (now (payload .entry)) ⌝ }
+    ensures { λ r. ⌜ Counts (now (payload .entry)) r ⌝ }
 {
     let length = payload.len();
     if LONGEST < length {

@@ -2,13 +2,16 @@
 use mathlib.Core.Path.{_≡_}
 use mathlib.Core.Bool.{cond, not, _&&_}
 use mathlib.Core.List.{List, [], _∷_, _++_}
-use Prim.Native.Nat.{ℕ, zero, suc, _/_, _%_}
+use Prim.Native.Nat.{ℕ, zero, suc, _+_, _/_, _%_}
 use lib.Dec.{eqb, leb}
 use lib.ListN.{getD, drop, length}
 use mir.Syntax.{w8}
 use mir.Val.{toZ}
-use Rattle.screen.specs.declared.FrameRecord.{FrameRecord}
+use Rattle.frame.specs.declared.PtiFrame.{PtiFrame}
+use Rattle.frame.specs.Frame.{isFrame, frameOf, directionNumber, beamsNumber}
+use Rattle.records.specs.Records.{bytesOf}
 use Rattle.pti.specs.Payload.{rowWidth}
+use Rattle.screen.specs.declared.FrameRecord.{FrameRecord}
 
 -- F19: the frame record of the flat row that comes first in these numbers: the RSSI is the signed number of its byte, and there is a beam
 -- count where it isn't 0. Of a number that is wider than its field, which no flat row of a frame has, the low bits are kept.
@@ -43,3 +46,23 @@ fillableOf n records numbers = cond (leb n records && leb n (numbers / rowWidth)
 pub record Filled (rows : List ℕ) (n : ℕ) (entry : List FrameRecord) (answer : ℕ) (exit : List FrameRecord) : Type 0 where
   pub count : answer ≡ fillableOf n (length entry) (length rows)
   pub table : exit ≡ filled answer rows entry
+
+-- F19: the frame record of a frame whose body starts at this place of the payload
+abbrev pub shownOf : ℕ → PtiFrame → FrameRecord
+shownOf body f =
+    record {
+      direction = directionNumber (f .direction);
+      region = f .region;
+      channel = f .channel;
+      rate = f .rate;
+      rssi = f .rssi;
+      «is_beam» = not (eqb (beamsNumber (f .beams)) 0);
+      beams = beamsNumber (f .beams);
+      start = body + f .start .0;
+      length = f .length;
+    }
+
+-- F19: the frame records of the bodies that hold a frame, in their order
+abbrev pub shownIn : List ℕ → List (ℕ × ℕ) → List FrameRecord
+shownIn s [] = []
+shownIn s (b ∷ bs) = cond (isFrame (bytesOf s b)) (shownOf (b .0) (frameOf (bytesOf s b)) ∷ shownIn s bs) (shownIn s bs)

@@ -1,0 +1,109 @@
+-- How large the numbers of a frame can be. Assumes nothing.
+use mathlib.Core.Path.{_≡_, refl, ap, _∙_}
+use mathlib.Core.Bool.{Bool, true, false, cond, not, _&&_}
+use mathlib.Core.List.{List, [], _∷_}
+use Prim.Native.Nat.{ℕ, zero, suc, _+_, _-_, _%_, _≤_, _<_}
+use native.Mathlib.Omega.{arith}
+use mir.Syntax.{w8}
+use mir.Val.{toZ, ofZ}
+use mir.Facts.{ofZ-toZ}
+use lib.Dec.{eqb, leb, ltb}
+use lib.ListN.{length, getD, take, drop, length-take, length-drop}
+use lib.Seq.{getD-drop}
+use borrow.Author.Tests.{leb-true}
+use Rattle.laws.proofs.Bools.{and-left, and-right}
+use Rattle.radio.specs.Speed.{rateOf}
+use Rattle.radio.specs.Beam.{beamsOf}
+use Rattle.radio.proofs.SpeedLaws.{rate-low}
+use Rattle.radio.proofs.BeamLaws.{beams-low}
+use Rattle.frame.specs.declared.Direction.{Direction}
+use Rattle.frame.specs.declared.Direction.the-variants.{Rx, Tx}
+use Rattle.frame.specs.declared.Trailer.{Trailer}
+use Rattle.frame.specs.declared.Beams.{Beams}
+use Rattle.frame.specs.declared.Beams.the-variants.{Count, NoBeam}
+use Rattle.frame.specs.declared.PtiFrame.{PtiFrame}
+use Rattle.frame.specs.Frame.{headerOf, header, trailer, start, directionOf, fieldsOf, fields, middle, between, isBeam, isFrame, mpduOf, beamsIn}
+use Rattle.frame.specs.Frame.{frameOf, directionNumber, beamsNumber}
+use Rattle.frame.proofs.Laws.{roomy}
+
+-- every element is a byte, as of a slice of u8
+abbrev pub Bytes : List ℕ → Type 0
+Bytes s = (i : ℕ) → getD s i 0 < 256
+
+pub bytes-drop : (n : ℕ) (s : List ℕ) → Bytes s → Bytes (drop n s)
+bytes-drop n s all i = rw (getD-drop n s i 0) (all (n + i))
+
+pub bytes-take : (n : ℕ) (s : List ℕ) → Bytes s → Bytes (take n s)
+bytes-take zero s all i = omega arith
+bytes-take (suc n) [] all i = omega arith
+bytes-take (suc n) (x ∷ xs) all zero = all 0
+bytes-take (suc n) (x ∷ xs) all (suc i) = bytes-take n xs (λ j. all (suc j)) i
+
+-- the numbers of a trailer
+pub record SmallTrailer (t : Trailer) : Type 0 where
+  pub region : t .region < 16
+  pub channel : t .channel < 16
+  pub rssi : t .rssi < 256
+
+small-fields : (d : Direction) (t : List ℕ) → Bytes t → SmallTrailer (fieldsOf d t)
+small-fields Rx t all = record { region = omega arith; channel = omega arith; rssi = all 1 }
+small-fields Tx t all = record { region = omega arith; channel = omega arith; rssi = omega arith }
+
+-- the MPDU is a part of the middle bytes
+mpdu-low : (m : List ℕ) → mpduOf m ≤ length m
+mpdu-low m = go (not (isBeam m)) (ltb 7 (length m)) (leb (getD m 7 0) (length m)) (leb-true (getD m 7 0) (length m))
+  where
+    go : (a b c : Bool) → (c ≡ true → getD m 7 0 ≤ length m) → cond (a && (b && c)) (getD m 7 0) (length m) ≤ length m
+    go false b c h = omega arith
+    go true false c h = omega arith
+    go true true false h = omega arith
+    go true true true h = h refl
+
+-- the numbers of the frame in a body, which counts its beam as long as the body at most
+pub record Small (n : ℕ) (f : PtiFrame) : Type 0 where
+  pub direction : directionNumber (f .direction) < 2
+  pub region : f .region < 16
+  pub channel : f .channel < 16
+  pub rate : f .rate < 4
+  pub rssi : ofZ w8 (f .rssi) < 256
+  pub sign : toZ w8 (ofZ w8 (f .rssi)) ≡ f .rssi
+  pub beams : beamsNumber (f .beams) ≤ n
+  pub start : f .start .0 < 20
+  pub length : f .length ≤ n
+
+direction-low : (d : Direction) → directionNumber d < 2
+direction-low Rx = omega arith
+direction-low Tx = omega arith
+
+header-low : (version : ℕ) → headerOf version < 20
+header-low version = go (eqb version 2) (eqb version 3)
+  where
+    go : (a b : Bool) → cond a 12 (cond b 19 0) < 20
+    go true b = omega arith
+    go false true = omega arith
+    go false false = omega arith
+
+pub small : (b : List ℕ) → Bytes b → isFrame b ≡ true → Small (length b) (frameOf b)
+small b all whole =
+    let t = small-fields (directionOf (start b)) (drop (length b - trailer b) b) (bytes-drop (length b - trailer b) b all) in
+    let room = roomy b (and-left (between b) _ whole) in
+    let few : 1 + length (middle b) ≤ length b = rw (length-take, length-drop) (omega (arith, room .0, room .1)) in
+    let back : ofZ w8 (toZ w8 (fields b .rssi)) ≡ fields b .rssi = ofZ-toZ {w = w8} {n = fields b .rssi} (record { fits = t .rssi }) in
+    record {
+      direction = direction-low (directionOf (start b));
+      region = t .region;
+      channel = t .channel;
+      rate = omega (arith, rate-low (fields b .channel) (fields b .region));
+      rssi = rw back (t .rssi);
+      sign = ap (toZ w8) back;
+      beams = counted (rateOf (fields b .channel) (fields b .region)) (middle b) (length b) few;
+      start = header-low (getD b 0 0);
+      length = omega (arith, mpdu-low (middle b));
+    }
+  where
+    counted : (rate : ℕ) (m : List ℕ) (n : ℕ) → 1 + length m ≤ n → beamsNumber (beamsIn rate m) ≤ n
+    counted rate m n few = go (isBeam m)
+      where
+        go : (t : Bool) → beamsNumber (cond t (Count (beamsOf rate m)) NoBeam) ≤ n
+        go true = omega (arith, beams-low rate m .1)
+        go false = omega arith
