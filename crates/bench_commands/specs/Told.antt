@@ -1,10 +1,9 @@
 -- The answers of the calls as the benchmark has them.
+use mathlib.Core.Bool.{cond}
 use Prim.Native.Nat.{ℕ, _+_}
-use Rattle.refusal.specs.Refusal.{numberOf}
-use Rattle.command.specs.declared.Params.{Params}
-use Rattle.command.specs.declared.Params.the-variants.{Rows, Refused}
+use lib.Dec.{eqb}
+use Rattle.command.specs.Answer.{Told}
 
 -- an answer's rows, or a million and the refusal's number
-abbrev pub told : Params → ℕ
-told (Rows count remainder) = count
-told (Refused x) = 1000000 + numberOf x
+unfoldable pub inOne : Told → ℕ
+inOne a = cond (eqb (a .refusal) 0) (a .rows) (1000000 + a .refusal)

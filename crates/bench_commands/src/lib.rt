@@ -8,12 +8,12 @@ ghost use mathlib.Core.Path.{_≡_};
 ghost use lib.ListN.{length};
 ghost use Rattle.text.specs.declared.Verdict.the-variants.{Accepted};
 ghost use Rattle.command_text.specs.Rules.{verdict};
-ghost use Rattle.command.specs.Answer.{answerOf};
-ghost use Rattle.bench_commands.specs.Told.{told};
+ghost use Rattle.command.specs.Answer.{told, answerOf};
+ghost use Rattle.bench_commands.specs.Told.{inOne};
 
 // An answer's rows, or a million and the refusal's number.
 fn tell(params: Params) -> u64
-    ensures { λ r. ⌜ r ≡ told params ⌝ }
+    ensures { λ r. ⌜ r ≡ inOne (told params) ⌝ }
 {
     match params {
         Params::Rows {
@@ -32,7 +32,7 @@ pub extern "C" fn bench_decode_params(
     rows: &mut [u64],
     times: u64,
 ) -> u64
-    ensures { λ r. ⌜ r ≡ told (answerOf (now (text .entry)) (now (payload .entry)) (length (now (rows .entry)))) ⌝ }
+    ensures { λ r. ⌜ r ≡ inOne (answerOf (now (text .entry)) (now (payload .entry)) (length (now (rows .entry)))) ⌝ }
 {
     let mut k: u64 = 1;
     while k < times {
@@ -45,7 +45,7 @@ pub extern "C" fn bench_decode_params(
 // The call by an accepted text.
 fn decode_often(text: &[u8], payload: &[u8], rows: &mut [u64], times: u64) -> u64
     requires { ⌜ verdict (now text) ≡ Accepted ⌝ }
-    ensures { λ r. ⌜ r ≡ told (answerOf (now (text .entry)) (now (payload .entry)) (length (now (rows .entry)))) ⌝ }
+    ensures { λ r. ⌜ r ≡ inOne (answerOf (now (text .entry)) (now (payload .entry)) (length (now (rows .entry)))) ⌝ }
 {
     let mut k: u64 = 1;
     while k < times {
@@ -63,7 +63,7 @@ pub extern "C" fn bench_decode_params_accepted(
     rows: &mut [u64],
     times: u64,
 ) -> u64
-    ensures { λ r. ⌜ r ≡ told (answerOf (now (text .entry)) (now (payload .entry)) (length (now (rows .entry)))) ⌝ }
+    ensures { λ r. ⌜ r ≡ inOne (answerOf (now (text .entry)) (now (payload .entry)) (length (now (rows .entry)))) ⌝ }
 {
     match check_command_text(text) {
         Verdict::Accepted => decode_often(text, payload, rows, times),

@@ -4,13 +4,14 @@ use mathlib.Core.Bool.{Bool, true, false, cond}
 use mathlib.Core.List.{List, [], _++_}
 use Prim.Native.Nat.{ℕ, _-_, _*_, _/_, _^_, _≤_, _<_}
 use native.Mathlib.Omega.{arith}
-use lib.Dec.{leb}
+use lib.Dec.{eqb, leb}
 use lib.ListN.{length, take, drop, length-drop}
 use lib.Seq.{length-take-le}
-use borrow.Author.Tests.{le-leb, lt-leb, lt-ltb, le-ltb}
+use borrow.Author.Tests.{eqb-false, le-leb, lt-leb, lt-ltb, le-ltb}
 use Rattle.laws.proofs.Lists.{tail}
 use Rattle.refusal.specs.declared.Refusal.{Refusal}
-use Rattle.refusal.specs.declared.Refusal.the-variants.{TooLong, TooShort, MoreRows}
+use Rattle.refusal.specs.declared.Refusal.the-variants.{Form, Limit, Owner, TooLong, TooShort, NoBase, NoCandidate, MoreRows, NotAFrame}
+use Rattle.refusal.specs.Refusal.{numberOf}
 use Rattle.records.specs.declared.PayloadOffset.{PayloadOffset}
 use Rattle.text.specs.Text.{lines}
 use Rattle.text.specs.Records.{records}
@@ -25,27 +26,41 @@ use Rattle.command_schema.specs.Loaded.{loadedWidth, IsLoaded}
 use Rattle.command_schema.proofs.Heads.{definition-heads, heads-count}
 use Rattle.command_schema.proofs.Sizes.{heads-short}
 use Rattle.command_schema.proofs.Told.{entries-small, accepted-small}
-use Rattle.command_rules.specs.Rows.{rowWidth}
+use Rattle.command_rules.specs.Rows.{rowWidth, table, rowsIn}
+use Rattle.command_rules.specs.declared.Row.{Row}
 use Rattle.command_rules.specs.Limits.{SmallEntries}
 use Rattle.command_rows.proofs.Laws.{written-full, written-table}
 use Rattle.command_rules.specs.Param.{inPayload}
 use Rattle.command_rules.specs.Walk.{Walked, walk}
 use Rattle.command_groups.specs.Steps.{Gives}
 use Rattle.command_rules.specs.Sum.{Adds}
-use Rattle.command.specs.Answer.{bodyOf, within, answerBy, answerOf, tableAfter, Fills, AddsUp, DecodesBy, Decodes}
+use Rattle.command.specs.Answer.{Told, answered, refused, told, bodyOf, within, answerBy, answerOf, filled, tableAfter, Fills, AddsUp, DecodesBy, Decodes}
 use Rattle.command_groups.specs.declared.Taken.{Taken}
 use Rattle.command.specs.declared.Params.{Params}
 use Rattle.command.specs.declared.Params.the-variants.{Rows, Refused}
+use Rattle.command_rules.proofs.Rows.{table-rows}
 use Rattle.command_rules.proofs.Bounds.{walk-most, walk-inside}
 use Rattle.command_rules.proofs.Sums.{walk-adds}
 
+-- a refusal's number is not 0
+pub numbered : (r : Refusal) → eqb (numberOf r) 0 ≡ false
+numbered (Form line) = refl
+numbered (Limit line) = refl
+numbered (Owner line) = refl
+numbered (TooLong length) = refl
+numbered (TooShort length) = refl
+numbered (NoBase key) = refl
+numbered NoCandidate = refl
+numbered (MoreRows rows) = refl
+numbered NotAFrame = refl
+
 -- ---- one pass
 pub body-rows : (w : Walked) (t t′ : List ℕ) (r : Taken) (p : PayloadOffset) → Gives w t 0 t′ r → length (w .rows) ≤ length t / rowWidth
-    → p .0 ≡ inPayload (r .end .0) → Fills w t (Rows (r .count) p) t′
-unfolding within
+    → p .0 ≡ inPayload (r .end .0) → Fills w t (told (Rows (r .count) p)) t′
+unfolding told within
 body-rows w t t′ r p wrote h ep =
     let q : p .0 ≡ inPayload (w .end) = rw (wrote .end) at ep in
-    record { answer = rw (le-leb (length (w .rows)) (length t / rowWidth) h, wrote .count, ← q) refl; table-is = wrote .rows ∙ written-table t (w .rows) h }
+    record { answer = rw (le-leb (length (w .rows)) (length t / rowWidth) h, wrote .count, q) refl; table-is = wrote .rows ∙ written-table t (w .rows) h }
 
 -- ---- the two passes
 module _ (w : Walked) (t ys : List ℕ) (m : Taken) (first : Gives w [] 0 ys m) where
@@ -53,8 +68,8 @@ module _ (w : Walked) (t ys : List ℕ) (m : Taken) (first : Gives w [] 0 ys m) 
   nothing : ys ≡ []
   nothing = first .rows ∙ written-full [] 0 (w .rows) (omega arith)
 
-  pub body-needs : length (ys ++ t) / rowWidth < m .count → Fills w t (Refused (MoreRows (m .count))) (ys ++ t)
-  unfolding within
+  pub body-needs : length (ys ++ t) / rowWidth < m .count → Fills w t (told (Refused (MoreRows (m .count)))) (ys ++ t)
+  unfolding told within
   body-needs h =
       let z = nothing in
       let n = first .count in
@@ -64,8 +79,8 @@ module _ (w : Walked) (t ys : List ℕ) (m : Taken) (first : Gives w [] 0 ys m) 
   pub body-fits : m .count ≤ length (ys ++ t) / rowWidth → length (w .rows) ≤ length (ys ++ t) / rowWidth
   body-fits h = let n = first .count in omega arith
 
-  pub body-wrote : (r : Params) (t′ : List ℕ) → Fills w (ys ++ t) r t′ → Fills w t r t′
-  body-wrote r t′ fills = rw nothing at fills
+  pub body-wrote : (a : Told) (t′ : List ℕ) → Fills w (ys ++ t) a t′ → Fills w t a t′
+  body-wrote a t′ fills = rw nothing at fills
 
 -- a part from the start has as many numbers as it is cut to
 pub body-part : (t : List ℕ) (n : ℕ) → n ≤ length t → n ≡ length (take n t)
@@ -92,13 +107,14 @@ loaded-short x l h size = let s = heads-short x in omega arith
 
 -- ---- by an accepted text
 module _ (x payload t : List ℕ) where
-  pub accepted-long : 2048 < length payload → DecodesBy x payload t (Refused (TooLong (length payload))) t
-  unfolding answerBy tableAfter
-  accepted-long h = record { answer = rw (lt-ltb 2048 (length payload) h) refl; table-is = refl; adds = tt }
+  pub accepted-long : 2048 < length payload → DecodesBy x payload t (told (Refused (TooLong (length payload)))) t
+  unfolding told answerBy tableAfter AddsUp
+  accepted-long h = record { answer = rw (lt-ltb 2048 (length payload) h) refl; table-is = refl; adds = λ z. absurd (omega arith) }
 
-  pub accepted-short : length payload ≤ 2048 → length payload < 2 → DecodesBy x payload t (Refused (TooShort (length payload))) t
-  unfolding answerBy tableAfter
-  accepted-short h u = record { answer = rw (le-ltb 2048 (length payload) h, lt-ltb (length payload) 2 u) refl; table-is = refl; adds = tt }
+  pub accepted-short : length payload ≤ 2048 → length payload < 2 → DecodesBy x payload t (told (Refused (TooShort (length payload)))) t
+  unfolding told answerBy tableAfter AddsUp
+  accepted-short h u =
+      record { answer = rw (le-ltb 2048 (length payload) h, lt-ltb (length payload) 2 u) refl; table-is = refl; adds = λ z. absurd (omega arith) }
 
   module _ (accepted : verdict x ≡ Accepted) (long : length payload ≤ 2048) (short : 2 ≤ length payload) where
     -- the body as it is lent
@@ -111,30 +127,33 @@ module _ (x payload t : List ℕ) where
     small : SmallEntries (definition x)
     small = rw (definition-heads x) (accepted-small x accepted)
 
-    sums : (r : Params) → r ≡ within (walk (bodyOf payload) (definition x)) (length t) → AddsUp (definition x) payload r
-    unfolding within
-    sums (Refused why) e = tt
-    sums (Rows n p) e = go (leb (length (walk (bodyOf payload) (definition x) .rows)) (length t / rowWidth)) e
+    -- demand 3, of the rows that stand in the table
+    sums : (a : Told) (t′ : List ℕ) → Fills (walk (bodyOf payload) (definition x)) t a t′ → AddsUp payload a t′
+    unfolding within AddsUp
+    sums a t′ f z = go (leb (length (walk (bodyOf payload) (definition x) .rows)) (length t / rowWidth)) (f .answer)
       where
-        go : (b : Bool) → Rows n p ≡ cond b (Rows (length (walk (bodyOf payload) (definition x) .rows))
-            (record { 0 = inPayload (walk (bodyOf payload) (definition x) .end) })) (Refused (MoreRows (length (walk (bodyOf payload) (definition x) .rows))))
-            → Adds (length payload) (walk (bodyOf payload) (definition x) .rows) (p .0)
-        go true q =
-            let ep : p ≡ record { 0 = inPayload (walk (bodyOf payload) (definition x) .end) } = cc in
-            rw ep (walk-adds (bodyOf payload) (definition x) (length payload) small (let d = length-drop 2 payload in omega arith))
-        go false q = absurd (let z : _≡_ {A = ℕ} 0 1 = cc in omega arith)
+        rows : List Row
+        rows = walk (bodyOf payload) (definition x) .rows
 
-    pub accepted-fills : (r : Params) (t′ : List ℕ) → Fills (walk (take (length payload - 2) (drop 2 payload)) (entriesOf (headsOf x))) t r t′
-        → DecodesBy x payload t r t′
+        go : (b : Bool) → a ≡ cond b (answered (length rows) (inPayload (walk (bodyOf payload) (definition x) .end))) (refused 8 (length rows))
+            → Adds (length payload) (rowsIn (a .rows) t′) (a .remainder)
+        go true q =
+            let laid : t′ ≡ table t rows = rw z at (f .table-is) in
+            rw (laid, q, table-rows t rows)
+            (walk-adds (bodyOf payload) (definition x) (length payload) small (let d = length-drop 2 payload in omega arith))
+        go false q = absurd (let e : a .refusal ≡ 8 = rw q refl in omega arith)
+
+    pub accepted-fills : (a : Told) (t′ : List ℕ) → Fills (walk (take (length payload - 2) (drop 2 payload)) (entriesOf (headsOf x))) t a t′
+        → DecodesBy x payload t a t′
     unfolding answerBy tableAfter
-    accepted-fills r t′ fills =
+    accepted-fills a t′ fills =
         let is : walk (take (length payload - 2) (drop 2 payload)) (entriesOf (headsOf x)) ≡ walk (bodyOf payload) (definition x) =
         rw (the-body, ← definition-heads x) refl in
-        let f : Fills (walk (bodyOf payload) (definition x)) t r t′ = subst (λ (w : Walked). Fills w t r t′) is fills in
+        let f : Fills (walk (bodyOf payload) (definition x)) t a t′ = subst (λ (w : Walked). Fills w t a t′) is fills in
         record {
           answer = rw (le-ltb 2048 (length payload) long, le-ltb (length payload) 2 short) (f .answer);
           table-is = f .table-is;
-          adds = sums r (f .answer);
+          adds = sums a t′ f;
         }
 
 pub ruleset accepted-laws = (loaded-all, loaded-short, accepted-long, accepted-short, accepted-room, accepted-fills)
@@ -144,12 +163,14 @@ module _ (x payload t : List ℕ) (v : Verdict) (is-v : v ≡ verdict x) where
   pub text-accepted : v ≡ Accepted → verdict x ≡ Accepted
   text-accepted e = sym is-v ∙ e
 
-  pub text-refused : (why : Refusal) → v ≡ NotAccepted why → Decodes x payload t (Refused why) t
-  unfolding answerOf tableAfter
-  text-refused why e = record { answer = rw (← is-v, e) refl; table-is = refl; adds = tt }
+  pub text-refused : (why : Refusal) → v ≡ NotAccepted why → Decodes x payload t (told (Refused why)) t
+  unfolding told answerOf tableAfter AddsUp
+  text-refused why e =
+      let n = eqb-false (numberOf why) 0 (numbered why) in
+      record { answer = rw (← is-v, e) refl; table-is = rw (numbered why) refl; adds = λ z. absurd (n z) }
 
-  pub text-decoded : (r : Params) (t′ : List ℕ) → DecodesBy x payload t r t′ → v ≡ Accepted → Decodes x payload t r t′
+  pub text-decoded : (a : Told) (t′ : List ℕ) → DecodesBy x payload t a t′ → v ≡ Accepted → Decodes x payload t a t′
   unfolding answerOf
-  text-decoded r t′ d e = record { answer = rw (← is-v, e) (d .answer); table-is = d .table-is; adds = d .adds }
+  text-decoded a t′ d e = record { answer = rw (← is-v, e) (d .answer); table-is = d .table-is; adds = d .adds }
 
 pub ruleset decode-laws = (text-accepted, text-refused, text-decoded)

@@ -1,2 +1,2 @@
 mod Outer
-mod Decoding
+pub mod Decoding

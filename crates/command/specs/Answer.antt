@@ -3,14 +3,14 @@ use mathlib.Core.Bool.{cond}
 use mathlib.Core.Path.{_≡_}
 use mathlib.Core.List.{List}
 use Prim.Native.Nat.{ℕ, _/_}
-use lib.Dec.{leb, ltb}
+use lib.Dec.{eqb, leb, ltb}
 use lib.ListN.{length, drop}
-use Rattle.refusal.specs.declared.Refusal.the-variants.{TooLong, TooShort, MoreRows}
+use Rattle.refusal.specs.Refusal.{numberOf, carriedBy}
 use Rattle.text.specs.declared.Verdict.{Verdict}
 use Rattle.text.specs.declared.Verdict.the-variants.{Accepted, Refused as NotAccepted}
 use Rattle.command_text.specs.Rules.{verdict}
 use Rattle.command_class.specs.Definition.{Entry, definition}
-use Rattle.command_rules.specs.Rows.{rowWidth, table}
+use Rattle.command_rules.specs.Rows.{rowWidth, table, rowsIn}
 use Rattle.command_rules.specs.declared.Row.{Row}
 use Rattle.command_rules.specs.Param.{inPayload}
 use Rattle.command_rules.specs.Walk.{Walked, walk}
@@ -18,58 +18,81 @@ use Rattle.command_rules.specs.Sum.{Adds}
 use Rattle.command.specs.declared.Params.{Params}
 use Rattle.command.specs.declared.Params.the-variants.{Rows, Refused}
 
+-- ---- an answer in numbers
+
+-- a refusal's number, or 0, and what it carries; how many rows there are, and where the remainder starts in the payload
+pub record Told : Type 0 where
+  pub refusal : ℕ
+  pub carried : ℕ
+  pub rows : ℕ
+  pub remainder : ℕ
+
+-- C18: the numbers of an answer
+abbrev pub answered : ℕ → ℕ → Told
+answered n at = record { refusal = 0; carried = 0; rows = n; remainder = at }
+
+-- R1 to R9: the numbers of a refusal
+abbrev pub refused : ℕ → ℕ → Told
+refused n x = record { refusal = n; carried = x; rows = 0; remainder = 0 }
+
+-- C18, R1 to R9: the numbers of each case
+unfoldable pub told : Params → Told
+told (Rows count remainder) = answered count (remainder .0)
+told (Refused r) = refused (numberOf r) (carriedBy r)
+
+-- ---- which answer
+
 -- C1: the body of a payload
 abbrev pub bodyOf : List ℕ → List ℕ
 bodyOf payload = drop 2 payload
 
 -- C18, R8: the answer, if a table of `room` numbers has rows enough
-unfoldable pub within : Walked → ℕ → Params
-within w room =
-    cond (leb (length (w .rows)) (room / rowWidth)) (Rows (length (w .rows)) (record { 0 = inPayload (w .end) })) (Refused (MoreRows (length (w .rows))))
+unfoldable pub within : Walked → ℕ → Told
+within w room = cond (leb (length (w .rows)) (room / rowWidth)) (answered (length (w .rows)) (inPayload (w .end))) (refused 8 (length (w .rows)))
 
 -- R4, R5, R11: a payload that is too long or too short; else the answer by a definition
-unfoldable pub answerBy : List Entry → List ℕ → ℕ → Params
+unfoldable pub answerBy : List Entry → List ℕ → ℕ → Told
 answerBy ds payload room =
-    cond (ltb 2048 (length payload)) (Refused (TooLong (length payload)))
-    (cond (ltb (length payload) 2) (Refused (TooShort (length payload)))
+    cond (ltb 2048 (length payload)) (refused 4 (length payload))
+    (cond (ltb (length payload) 2) (refused 5 (length payload))
     (within (walk (bodyOf payload) ds) room))
 
 -- R10, R11: the call checks the text itself, and 1 to 3 come first
-abbrev pub onVerdict : Verdict → Params → Params
+abbrev pub onVerdict : Verdict → Told → Told
 onVerdict Accepted answer = answer
-onVerdict (NotAccepted r) answer = Refused r
+onVerdict (NotAccepted r) answer = refused (numberOf r) (carriedBy r)
 
 -- C18, R10: what `decode_params` answers
-unfoldable pub answerOf : List ℕ → List ℕ → ℕ → Params
+unfoldable pub answerOf : List ℕ → List ℕ → ℕ → Told
 answerOf text payload room = onVerdict (verdict text) (answerBy (definition text) payload room)
 
+-- ---- the table
+
 -- R12: the table after an answer or a refusal
-abbrev pub filled : List Row → List ℕ → Params → List ℕ
-filled rs t (Rows count remainder) = table t rs
-filled rs t (Refused r) = t
+abbrev pub filled : List Row → List ℕ → Told → List ℕ
+filled rs t a = cond (eqb (a .refusal) 0) (table t rs) t
 
 -- R12: the same, by a definition and a payload
-unfoldable pub tableAfter : List Entry → List ℕ → List ℕ → Params → List ℕ
-tableAfter ds payload t r = filled (walk (bodyOf payload) ds .rows) t r
+unfoldable pub tableAfter : List Entry → List ℕ → List ℕ → Told → List ℕ
+tableAfter ds payload t a = filled (walk (bodyOf payload) ds .rows) t a
+
+-- C19, demand 3, of an answer: over the rows that stand in the table
+unfoldable pub AddsUp : List ℕ → Told → List ℕ → Type 0
+AddsUp payload a t′ = a .refusal ≡ 0 → Adds (length payload) (rowsIn (a .rows) t′) (a .remainder)
 
 -- what a walk answers, and leaves of the table t
-pub record Fills (w : Walked) (t : List ℕ) (r : Params) (t′ : List ℕ) : Type 0 where
-  pub answer : r ≡ within w (length t)
-  pub table-is : t′ ≡ filled (w .rows) t r
-
--- C19, demand 3, of an answer
-abbrev pub AddsUp : List Entry → List ℕ → Params → Type 0
-AddsUp ds payload (Rows count remainder) = Adds (length payload) (walk (bodyOf payload) ds .rows) (remainder .0)
-AddsUp ds payload (Refused r) = Unit {0}
+pub record Fills (w : Walked) (t : List ℕ) (a : Told) (t′ : List ℕ) : Type 0 where
+  pub answer : a ≡ within w (length t)
+  pub table-is : t′ ≡ filled (w .rows) t a
 
 -- what a call answers by an accepted text, and leaves of the table t
-pub record DecodesBy (text payload t : List ℕ) (r : Params) (t′ : List ℕ) : Type 0 where
-  pub answer : r ≡ answerBy (definition text) payload (length t)
-  pub table-is : t′ ≡ tableAfter (definition text) payload t r
-  pub adds : AddsUp (definition text) payload r
+pub record DecodesBy (text payload t : List ℕ) (a : Told) (t′ : List ℕ) : Type 0 where
+  pub answer : a ≡ answerBy (definition text) payload (length t)
+  pub table-is : t′ ≡ tableAfter (definition text) payload t a
+  pub adds : AddsUp payload a t′
 
 -- C18: the same by any text
-pub record Decodes (text payload t : List ℕ) (r : Params) (t′ : List ℕ) : Type 0 where
-  pub answer : r ≡ answerOf text payload (length t)
-  pub table-is : t′ ≡ tableAfter (definition text) payload t r
-  pub adds : AddsUp (definition text) payload r
+pub record Decodes (text payload t : List ℕ) (a : Told) (t′ : List ℕ) : Type 0 where
+  pub answer : a ≡ answerOf text payload (length t)
+  pub table-is : t′ ≡ tableAfter (definition text) payload t a
+  pub adds : AddsUp payload a t′

@@ -2,14 +2,12 @@
 use mathlib.Core.Path.{_≡_, refl}
 use mathlib.Core.List.{List, [], _∷_}
 use Prim.Native.Nat.{ℕ}
-use Rattle.refusal.specs.declared.Refusal.the-variants.{Form, TooShort, MoreRows}
 use Rattle.command_class.specs.Definition.{definition}
 use Rattle.command_rules.specs.Lengths.{sizeOf, repeats}
 use Rattle.command_rules.specs.Rows.{table}
 use Rattle.command_rules.specs.Param.{bigEndian, bitRows, paramRows, paramEntry}
 use Rattle.command_rules.specs.Walk.{members, turn, repetitionRow, repetitions, groupAt, outer, walk}
-use Rattle.command.specs.declared.Params.the-variants.{Rows, Refused}
-use Rattle.command.specs.Answer.{within, answerBy, answerOf, tableAfter}
+use Rattle.command.specs.Answer.{answered, refused, within, answerBy, answerOf, tableAfter}
 
 -- `Q|0|BYTE|Length|-|-/Q|0|VARIANT|Data|-|-/R|0|7|0|0/`, | a tab and / a line end
 abbrev pub text : List ℕ
@@ -25,7 +23,7 @@ abbrev pub lent : List ℕ
 lent = 9 ∷ 9 ∷ 9 ∷ 9 ∷ 9 ∷ 9 ∷ 9 ∷ 9 ∷ 9 ∷ 9 ∷ 9 ∷ 9 ∷ 9 ∷ 9 ∷ 9 ∷ 9 ∷ 9 ∷ 9 ∷ 9 ∷ 9 ∷ []
 
 -- E11: by a table of 20 numbers
-pub starred : answerOf text payload 20 ≡ Rows 2 (record { 0 = 5 })
+pub starred : answerOf text payload 20 ≡ answered 2 5
 unfolding answerOf answerBy within walk outer sizeOf paramRows paramEntry bigEndian bitRows
 starred = refl
 
@@ -38,17 +36,17 @@ unfolding answerOf answerBy within walk outer sizeOf paramRows paramEntry bigEnd
 starred-rows = refl
 
 -- a table of 17 numbers: refusal 8, two rows are needed
-few-rows : answerOf text payload 17 ≡ Refused (MoreRows 2)
+few-rows : answerOf text payload 17 ≡ refused 8 2
 unfolding answerOf answerBy within walk outer sizeOf paramRows paramEntry bigEndian bitRows
 few-rows = refl
 
 -- one byte: refusal 5
-one-byte : answerOf text (0x20 ∷ []) 20 ≡ Refused (TooShort 1)
+one-byte : answerOf text (0x20 ∷ []) 20 ≡ refused 5 1
 unfolding answerOf answerBy
 one-byte = refl
 
 -- no tab in line 1: refusal 1, before the payload's length
-bad-line : answerOf (81 ∷ 48 ∷ 10 ∷ []) [] 20 ≡ Refused (Form 1)
+bad-line : answerOf (81 ∷ 48 ∷ 10 ∷ []) [] 20 ≡ refused 1 1
 unfolding answerOf
 bad-line = refl
 
@@ -63,7 +61,7 @@ group-text =
     ∷ 10 ∷ 75 ∷ 9 ∷ 55 ∷ 9 ∷ 83 ∷ 101 ∷ 118 ∷ 101 ∷ 110 ∷ 10 ∷ []
 
 -- 20 01 02 01 07 04 CC: Count 2 with Odd 0 and Pair 1; Kind 1 and More 7 in the first repetition; Kind 4 alone in the second; remainder CC
-group-rows : tableAfter (definition group-text) (0x20 ∷ 0x01 ∷ 0x02 ∷ 0x01 ∷ 0x07 ∷ 0x04 ∷ 0xCC ∷ []) [] (Rows 8 (record { 0 = 6 }))
+group-rows : tableAfter (definition group-text) (0x20 ∷ 0x01 ∷ 0x02 ∷ 0x01 ∷ 0x07 ∷ 0x04 ∷ 0xCC ∷ []) [] (answered 8 6)
     ≡ 0 ∷ 1 ∷ 0 ∷ 2 ∷ 3 ∷ 1 ∷ 2 ∷ 0 ∷ 0
     ∷ 1 ∷ 2 ∷ 1 ∷ 2 ∷ 3 ∷ 1 ∷ 0 ∷ 0 ∷ 0
     ∷ 1 ∷ 3 ∷ 1 ∷ 2 ∷ 3 ∷ 1 ∷ 1 ∷ 0 ∷ 0
@@ -77,6 +75,6 @@ unfolding answerOf answerBy within walk outer groupAt repeats repetitions repeti
     table
 group-rows = refl
 
-group-answer : answerOf group-text (0x20 ∷ 0x01 ∷ 0x02 ∷ 0x01 ∷ 0x07 ∷ 0x04 ∷ 0xCC ∷ []) 72 ≡ Rows 8 (record { 0 = 6 })
+group-answer : answerOf group-text (0x20 ∷ 0x01 ∷ 0x02 ∷ 0x01 ∷ 0x07 ∷ 0x04 ∷ 0xCC ∷ []) 72 ≡ answered 8 6
 unfolding answerOf answerBy within walk outer groupAt repeats repetitions repetitionRow turn members sizeOf paramRows paramEntry bigEndian bitRows
 group-answer = refl

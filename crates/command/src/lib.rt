@@ -25,7 +25,7 @@ ghost use Rattle.command_schema.specs.Loaded.{loadedWidth, IsLoaded};
 ghost use Rattle.command_rules.specs.Rows.{rowWidth};
 ghost use Rattle.command_rules.specs.Walk.{walk};
 ghost use Rattle.command_groups.specs.Steps.{Gives};
-ghost use Rattle.command.specs.Answer.{Fills, DecodesBy, Decodes};
+ghost use Rattle.command.specs.Answer.{told, Fills, DecodesBy, Decodes};
 pub use command_lengths::is_present;
 pub use command_lengths::variable_len;
 pub use command_param::decode_param;
@@ -111,7 +111,7 @@ fn walk_params(text: &[u8], loaded: &[u16], count: usize, body: &[u8], rows: &mu
 fn write_body(text: &[u8], loaded: &[u16], count: usize, body: &[u8], rows: &mut [u64]) -> Params
     requires { ⌜ (IsLoaded (now text) (now loaded) count) × (length (now body) < 65536)
         × (length (walk (now body) (entriesOf (headsOf (now text))) .rows) ≤ length (now rows) / rowWidth) ⌝ }
-    ensures { λ r. ⌜ Fills (walk (now (body .entry)) (entriesOf (headsOf (now (text .entry))))) (now (rows .entry)) r (now (rows .exit)) ⌝ }
+    ensures { λ r. ⌜ Fills (walk (now (body .entry)) (entriesOf (headsOf (now (text .entry))))) (now (rows .entry)) (told r) (now (rows .exit)) ⌝ }
 {
     let taken = walk_params(text, loaded, count, body, rows);
     let end = taken.end;
@@ -124,7 +124,7 @@ fn write_body(text: &[u8], loaded: &[u16], count: usize, body: &[u8], rows: &mut
 // Writes at once where the table has room whatever the body is. Else counts, then writes: the table is left alone if it has no room for every row.
 fn decode_body(text: &[u8], loaded: &[u16], count: usize, body: &[u8], rows: &mut [u64]) -> Params
     requires { ⌜ (IsLoaded (now text) (now loaded) count) × (length (now body) < 65536) ⌝ }
-    ensures { λ r. ⌜ Fills (walk (now (body .entry)) (entriesOf (headsOf (now (text .entry))))) (now (rows .entry)) r (now (rows .exit)) ⌝ }
+    ensures { λ r. ⌜ Fills (walk (now (body .entry)) (entriesOf (headsOf (now (text .entry))))) (now (rows .entry)) (told r) (now (rows .exit)) ⌝ }
 {
     if body.len() * MOST <= rows.len() {
         return write_body(text, loaded, count, body, rows);
@@ -140,7 +140,7 @@ fn decode_body(text: &[u8], loaded: &[u16], count: usize, body: &[u8], rows: &mu
 // Loads the text into a table that has room for it, and decodes a body by it.
 fn decode_by(text: &[u8], loaded: &mut [u16], body: &[u8], rows: &mut [u64]) -> Params
     requires { ⌜ (verdict (now text) ≡ Accepted) × (length (headsOf (now text)) * loadedWidth ≤ length (now loaded)) × (length (now body) < 65536) ⌝ }
-    ensures { λ r. ⌜ Fills (walk (now (body .entry)) (entriesOf (headsOf (now (text .entry))))) (now (rows .entry)) r (now (rows .exit)) ⌝ }
+    ensures { λ r. ⌜ Fills (walk (now (body .entry)) (entriesOf (headsOf (now (text .entry))))) (now (rows .entry)) (told r) (now (rows .exit)) ⌝ }
 {
     let count = command_schema::load(text, loaded);
     decode_body(text, loaded, count, body, rows)
@@ -149,7 +149,7 @@ fn decode_by(text: &[u8], loaded: &mut [u16], body: &[u8], rows: &mut [u64]) -> 
 // The parameters of a command by a text that is accepted, into the table, or refusal 4, 5 or 8.
 pub fn decode_accepted(text: &[u8], payload: &[u8], rows: &mut [u64]) -> Params
     requires { ⌜ verdict (now text) ≡ Accepted ⌝ }
-    ensures { λ r. ⌜ DecodesBy (now (text .entry)) (now (payload .entry)) (now (rows .entry)) r (now (rows .exit)) ⌝ }
+    ensures { λ r. ⌜ DecodesBy (now (text .entry)) (now (payload .entry)) (now (rows .entry)) (told r) (now (rows .exit)) ⌝ }
 {
     let size = payload.len();
     if 2048 < size {
@@ -168,7 +168,7 @@ pub fn decode_accepted(text: &[u8], payload: &[u8], rows: &mut [u64]) -> Params
 
 // The parameters of a command by a text, into the table, or a refusal. A refusal writes nothing, an answer nothing past its last row.
 pub fn decode_params(text: &[u8], payload: &[u8], rows: &mut [u64]) -> Params
-    ensures { λ r. ⌜ Decodes (now (text .entry)) (now (payload .entry)) (now (rows .entry)) r (now (rows .exit)) ⌝ }
+    ensures { λ r. ⌜ Decodes (now (text .entry)) (now (payload .entry)) (now (rows .entry)) (told r) (now (rows .exit)) ⌝ }
 {
     match command_text::check_command_text(text) {
         Verdict::Accepted => decode_accepted(text, payload, rows),

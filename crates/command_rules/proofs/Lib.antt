@@ -3,3 +3,4 @@ pub mod Children
 pub mod Bounds
 mod Budget
 pub mod Sums
+pub mod Rows

@@ -1,6 +1,7 @@
 -- C16 (docs/RULES.md): the rows of a command's table.
 use mathlib.Core.List.{List, _∷_, [], map}
-use Prim.Native.Nat.{ℕ}
+use Prim.Native.Nat.{ℕ, zero, suc}
+use lib.ListN.{drop, getD}
 use Rattle.rows.specs.Rows.{laid}
 use Rattle.command_rules.specs.declared.Row.{Row}
 
@@ -15,3 +16,25 @@ numbers r = r .kind ∷ r .line ∷ r .parent ∷ r .start ∷ r .end ∷ r .val
 -- R12: the table whose first rows are these, and behind them what stood there
 unfoldable pub table : List ℕ → List Row → List ℕ
 table t rs = laid t (map numbers rs)
+
+-- ---- what a caller sees
+
+-- C16: the row whose numbers stand first in a table
+abbrev pub firstRow : List ℕ → Row
+firstRow t =
+    record {
+      kind = getD t 0 0;
+      line = getD t 1 0;
+      parent = getD t 2 0;
+      start = getD t 3 0;
+      end = getD t 4 0;
+      valued = getD t 5 0;
+      value = getD t 6 0;
+      named = getD t 7 0;
+      number = getD t 8 0;
+    }
+
+-- C17: the rows that stand in a table, the first so many
+unfoldable pub rowsIn : ℕ → List ℕ → List Row
+rowsIn zero t = []
+rowsIn (suc n) t = firstRow t ∷ rowsIn n (drop rowWidth t)

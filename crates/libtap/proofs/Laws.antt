@@ -30,7 +30,7 @@ use Rattle.header.specs.Decode.{Decodes}
 use Rattle.records.specs.declared.PayloadOffset.{PayloadOffset}
 use Rattle.command.specs.declared.Params.{Params}
 use Rattle.command.specs.declared.Params.the-variants as command
-use Rattle.command.specs.Answer.{Decodes as DecodesParams}
+use Rattle.command.specs.Answer.{told as toldParams, Decodes as DecodesParams}
 use Rattle.command_part.specs.declared.Part.{Part}
 use Rattle.command_part.specs.Part.{commandPart, span}
 use Rattle.libtap.specs.declared.TapAnswer.{TapAnswer}
@@ -40,7 +40,7 @@ use Rattle.libtap.specs.declared.headers.TapHeader.{TapHeader}
 use Rattle.libtap.specs.declared.commands.TapParams.{TapParams}
 use Rattle.libtap.specs.Answers.{answered, judged, part, framed, toldFrame, Told}
 use Rattle.libtap.specs.Headers.{toldBits, headed, toldHeader, ToldHeader}
-use Rattle.libtap.specs.Commands.{toldParams, ToldParams}
+use Rattle.libtap.specs.Commands.{toldBy}
 
 -- ---- frames
 pub tells-rows : (f : Frames) (n : ℕ) → f ≡ Rows n → record { refusal = 0; value = n } ≡ answered (saidFrames f)
@@ -141,16 +141,18 @@ heads-all text mpdu region speed t d r t′ so is-r = record { answer = d; decod
 
 -- ---- commands
 pub params : (p : Params) (n : ℕ) (remainder : PayloadOffset) → p ≡ command.Rows n remainder
-    → record { refusal = 0; value = 0; rows = n; remainder = remainder .0 } ≡ toldParams p
+    → toldBy (record { refusal = 0; value = 0; rows = n; remainder = remainder .0 }) ≡ toldParams p
+unfolding toldBy toldParams
 params p n remainder e = rw e refl
 
 pub params-refusal : (p : Params) (x : Refusal) (number carried : ℕ) → p ≡ command.Refused x → number ≡ numberOf x → carried ≡ carriedBy x
-    → record { refusal = number; value = carried; rows = 0; remainder = 0 } ≡ toldParams p
+    → toldBy (record { refusal = number; value = carried; rows = 0; remainder = 0 }) ≡ toldParams p
+unfolding toldBy toldParams
 params-refusal p x number carried e is-number is-carried = rw (e, is-number, is-carried) refl
 
-pub params-all : (text payload t : List ℕ) (p : Params) (r : TapParams) (t′ : List ℕ) → DecodesParams text payload t p t′ → r ≡ toldParams p
-    → ToldParams text payload t r t′
-params-all text payload t p r t′ so is-r = record { answer = p; decodes = so; told = is-r }
+pub params-all : (text payload t : List ℕ) (p : Params) (r : TapParams) (t′ : List ℕ) → DecodesParams text payload t (toldParams p) t′
+    → toldBy r ≡ toldParams p → DecodesParams text payload t (toldBy r) t′
+params-all text payload t p r t′ so is-r = rw is-r so
 
 -- ---- tap_command_part
 pub command-lies : (n payload speed : ℕ) (p : Part) → p ≡ commandPart n payload speed

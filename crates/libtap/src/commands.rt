@@ -2,7 +2,8 @@
 use command::Params;
 use command::decode_params;
 ghost use mathlib.Core.Path.{_≡_};
-ghost use Rattle.libtap.specs.Commands.{toldParams, ToldParams};
+ghost use Rattle.command.specs.Answer.{told, Decodes};
+ghost use Rattle.libtap.specs.Commands.{toldBy};
 
 // A command's parameters as C has them: where `refusal` is 0, how many rows there are, and where the remainder starts in the payload.
 #[repr(C)]
@@ -14,7 +15,7 @@ pub struct TapParams {
 }
 
 fn tell_params(params: Params) -> TapParams
-    ensures { λ r. ⌜ r ≡ toldParams params ⌝ }
+    ensures { λ r. ⌜ toldBy r ≡ told params ⌝ }
 {
     match params {
         Params::Rows { count, remainder } => TapParams {
@@ -35,7 +36,7 @@ fn tell_params(params: Params) -> TapParams
 // The parameters of a command by its text, into the table, the nine numbers of C16 (docs/RULES.md) a row. Refusals 1 to 5 and 8.
 #[no_mangle]
 pub extern "C" fn tap_decode_params(text: &[u8], payload: &[u8], rows: &mut [u64]) -> TapParams
-    ensures { λ r. ⌜ ToldParams (now (text .entry)) (now (payload .entry)) (now (rows .entry)) r (now (rows .exit)) ⌝ }
+    ensures { λ r. ⌜ Decodes (now (text .entry)) (now (payload .entry)) (now (rows .entry)) (toldBy r) (now (rows .exit)) ⌝ }
 {
     let params = decode_params(text, payload, rows);
     tell_params(params)

@@ -7,34 +7,32 @@ use native.Mathlib.Omega.{arith}
 use lib.Dec.{leb, ltb}
 use lib.ListN.{length}
 use borrow.Author.Tests.{leb-true}
-use Rattle.refusal.specs.declared.Refusal.the-variants.{TooLong, TooShort, MoreRows}
 use Rattle.text.specs.declared.Verdict.{Verdict}
 use Rattle.text.specs.declared.Verdict.the-variants.{Accepted, Refused as NotAccepted}
 use Rattle.command_text.specs.Rules.{verdict}
 use Rattle.command_class.specs.Definition.{definition}
 use Rattle.command_rules.specs.Param.{inPayload}
-use Rattle.command.specs.declared.Params.{Params}
-use Rattle.command.specs.declared.Params.the-variants.{Rows, Refused}
+use Rattle.command_rules.specs.Rows.{rowWidth}
 use Rattle.command_rules.specs.Walk.{Walked, walk}
-use Rattle.command.specs.Answer.{bodyOf, within, answerBy, onVerdict, answerOf, Decodes}
+use Rattle.command.specs.Answer.{Told, answered, refused, bodyOf, within, answerBy, onVerdict, answerOf, Decodes}
 use Rattle.walk_requests.specs.Walks.{StandParams}
 
 module _ (payload t t′ : List ℕ) (same : length t′ ≡ length t) where
   within-stands : (w : Walked) → StandParams t′ (within w (length t))
   unfolding within
-  within-stands w = go (leb (length (w .rows)) (length t / 9)) (leb-true (length (w .rows)) (length t / 9))
+  within-stands w = go (leb (length (w .rows)) (length t / rowWidth)) (leb-true (length (w .rows)) (length t / rowWidth))
     where
-      go : (b : Bool) → (b ≡ true → length (w .rows) ≤ length t / 9)
-          → StandParams t′ (cond b (Rows (length (w .rows)) (record { 0 = inPayload (w .end) })) (Refused (MoreRows (length (w .rows)))))
+      go : (b : Bool) → (b ≡ true → length (w .rows) ≤ length t / rowWidth)
+          → StandParams t′ (cond b (answered (length (w .rows)) (inPayload (w .end))) (refused 8 (length (w .rows))))
       go true room = omega (arith, room refl, same)
-      go false room = tt
+      go false room = omega arith
 
-  judged-stands : (v : Verdict) (long short : Bool) (r : Params) → StandParams t′ r
-      → StandParams t′ (onVerdict v (cond long (Refused (TooLong (length payload))) (cond short (Refused (TooShort (length payload))) r)))
-  judged-stands (NotAccepted x) long short r s = tt
-  judged-stands Accepted true short r s = tt
-  judged-stands Accepted false true r s = tt
-  judged-stands Accepted false false r s = s
+  judged-stands : (v : Verdict) (long short : Bool) (a : Told) → StandParams t′ a
+      → StandParams t′ (onVerdict v (cond long (refused 4 (length payload)) (cond short (refused 5 (length payload)) a)))
+  judged-stands (NotAccepted x) long short a s = omega arith
+  judged-stands Accepted true short a s = omega arith
+  judged-stands Accepted false true a s = omega arith
+  judged-stands Accepted false false a s = s
 
   answer-stands : (text : List ℕ) → StandParams t′ (answerOf text payload (length t))
   unfolding answerOf answerBy
@@ -42,6 +40,6 @@ module _ (payload t t′ : List ℕ) (same : length t′ ≡ length t) where
       judged-stands (verdict text) (ltb 2048 (length payload)) (ltb (length payload) 2) (within (walk (bodyOf payload) (definition text)) (length t))
       (within-stands (walk (bodyOf payload) (definition text)))
 
-pub params-stand : (text payload t : List ℕ) (r : Params) (t′ : List ℕ) → Decodes text payload t r t′ → length t′ ≡ length t
-    → StandParams t′ r
-params-stand text payload t r t′ p same = rw (p .answer) (answer-stands payload t t′ same text)
+pub params-stand : (text payload t : List ℕ) (a : Told) (t′ : List ℕ) → Decodes text payload t a t′ → length t′ ≡ length t
+    → StandParams t′ a
+params-stand text payload t a t′ p same = rw (p .answer) (answer-stands payload t t′ same text)

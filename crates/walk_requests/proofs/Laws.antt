@@ -12,6 +12,8 @@ use Rattle.records.specs.declared.PayloadOffset.{PayloadOffset}
 use Rattle.header.specs.declared.DecodedHeader.{DecodedHeader}
 use Rattle.header.specs.declared.Decoded.{Decoded}
 use Rattle.header.specs.declared.Decoded.the-variants.{Header}
+use Rattle.command_rules.specs.Rows.{rowWidth}
+use Rattle.command.specs.Answer.{told}
 use Rattle.command.specs.declared.Params.{Params}
 use Rattle.command.specs.declared.Params.the-variants.{Rows}
 use Rattle.request.proofs.Laws.{taken, request-laws}
@@ -87,15 +89,16 @@ module _ (held : List ℕ) (r : Asked) (numbers region speed n end : ℕ) (told 
 pub header-inside : (t : List ℕ) (r : Decoded) (h : DecodedHeader) → StandHeader t r → r ≡ Header h → h .rows * 7 ≤ length t
 header-inside t r h told is = rw is at told
 
-pub params-inside : (t : List ℕ) (r : Params) (n : ℕ) (e : PayloadOffset) → StandParams t r → r ≡ Rows n e → n * 9 ≤ length t
-params-inside t r n e told is = rw is at told
+pub params-inside : (t : List ℕ) (r : Params) (n : ℕ) (e : PayloadOffset) → StandParams t (told r) → r ≡ Rows n e → n * rowWidth ≤ length t
+unfolding told
+params-inside t r n e stand is = rw is at stand
 
 module _ (t : List ℕ) (room : length t * 8 < 2 ^ 63) where
   pub header-fits : (r : Decoded) (h : DecodedHeader) → StandHeader t r → r ≡ Header h → Fits w64 (h .rows * 7)
   header-fits r h told is = omega (arith, room, header-inside t r h told is)
 
-  pub params-fits : (r : Params) (n : ℕ) (e : PayloadOffset) → StandParams t r → r ≡ Rows n e → Fits w64 (n * 9)
-  params-fits r n e told is = omega (arith, room, params-inside t r n e told is)
+  pub params-fits : (r : Params) (n : ℕ) (e : PayloadOffset) → StandParams t (told r) → r ≡ Rows n e → Fits w64 (n * rowWidth)
+  params-fits r n e stand is = omega (arith, room, params-inside t r n e stand is)
 
 pub ruleset walk-laws = (
   taken-before,

@@ -4,8 +4,8 @@ use mathlib.Core.List.{List}
 use lib.ListN.{length}
 use Rattle.header.specs.declared.Decoded.{Decoded}
 use Rattle.header.specs.declared.Decoded.the-variants.{Header, Refused as NoHeader}
-use Rattle.command.specs.declared.Params.{Params}
-use Rattle.command.specs.declared.Params.the-variants.{Rows, Refused as NoParams}
+use Rattle.command_rules.specs.Rows.{rowWidth}
+use Rattle.command.specs.Answer.{Told}
 use Rattle.walk_requests.specs.declared.Table.{Table}
 use Rattle.walk_requests.specs.declared.Table.the-variants.{Of, Not as NoTable}
 use Rattle.walk_requests.specs.declared.Radio.{Radio}
@@ -37,6 +37,5 @@ abbrev pub StandHeader : List ℕ → Decoded → Type 0
 StandHeader table (Header h) = h .rows * 7 ≤ length table
 StandHeader table (NoHeader x) = Unit
 
-abbrev pub StandParams : List ℕ → Params → Type 0
-StandParams table (Rows count remainder) = count * 9 ≤ length table
-StandParams table (NoParams x) = Unit
+abbrev pub StandParams : List ℕ → Told → Type 0
+StandParams table a = a .rows * rowWidth ≤ length table

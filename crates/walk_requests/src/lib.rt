@@ -22,6 +22,7 @@ use writer::put_number;
 ghost use Prim.Native.Nat.{_≤_, _*_};
 ghost use lib.ListN.{length};
 ghost use Rattle.answer.specs.Table.{Ample};
+ghost use Rattle.command.specs.Answer.{told};
 ghost use Rattle.walk_requests.specs.Walks.{Tables, Tunes, Asks, StandHeader, StandParams};
 
 // The numbers of a header's row.
@@ -223,7 +224,7 @@ fn put_decoded(out: &mut Buffer, used: usize, decoded: Decoded, table: &[u64]) -
 
 // The answer of `decode_params` and the table that it was lent.
 fn put_params(out: &mut Buffer, used: usize, params: Params, table: &[u64]) -> usize
-    requires { ⌜ StandParams (now table) params ⌝ }
+    requires { ⌜ StandParams (now table) (told params) ⌝ }
 {
     match params {
         Params::Rows { count, remainder } => {
