@@ -208,9 +208,8 @@ module _ (t l body : List ℕ) (count : ℕ) (loaded : IsLoaded t l count) where
 
     -- what the group's function answers, over the definition
     module _ (q : Loaded) (h : Group) (is : TellsG q (q .line) h) (d′ : List ℕ) (r : Repeated)
-        (given : GivesGroup (repetitions body (q .line) (membersOf (drop (j + 1) (headsOf t)))
-        (repeats (q .paramoffs) (q .sizemask) (record { 0 = q .sizeoffs }) (entries (take have kept)) (length body - o .0)) 0 (o .0) next) d next d′
-        r) where
+        (most : ℕ) (is-most : most ≡ repeats (q .paramoffs) (q .sizemask) (record { 0 = q .sizeoffs }) (entries (take have kept)) (length body - o .0))
+        (given : GivesGroup (repetitions body (q .line) (membersOf (drop (j + 1) (headsOf t))) most 0 (o .0) next) d next d′ r) where
       the-group : GivesGroup (groupAt body (q .line) h (membersOf (drop (j + 1) (headsOf t))) (g .es) (o .0) next) d next d′ r
       unfolding groupAt
       the-group =
@@ -220,7 +219,7 @@ module _ (t l body : List ℕ) (count : ℕ) (loaded : IsLoaded t l count) where
           (g .entries-are .kept-are .firsts)
           ∙ repeats-first (q .paramoffs) (q .sizemask) (record { 0 = q .sizeoffs }) (g .es) (length body - o .0)
           ∙ rw (is .offset, is .mask, is .shift) refl in
-          rw often at given
+          rw (is-most ∙ often) at given
 
     module _ (q : Loaded) (is-q : q ≡ loadedAt l j) (h : j < count) (x : Bool) (is-x : x ≡ isOuter q) where
       pub outer-stands : x ≡ true → Stands t q
@@ -250,19 +249,19 @@ module _ (t l body : List ℕ) (count : ℕ) (loaded : IsLoaded t l count) where
           outer-take = taken (m .param) (m .rest) d′ e y c
               (is-read t q (m .param) (m .is) body kept (g .es) have (g .entries-are .kept-are) (o .0) next 0 d next d′ r given e y c f)
 
-      module _ (d′ : List ℕ) (r : Repeated)
-          (given : GivesGroup (repetitions body (q .line) (membersOf (drop (j + 1) (headsOf t)))
-          (repeats (q .paramoffs) (q .sizemask) (record { 0 = q .sizeoffs }) (entries (take have kept)) (length body - o .0)) 0 (o .0) next) d next d′ r)
+      module _ (d′ : List ℕ) (r : Repeated) (most : ℕ)
+          (is-most : most ≡ repeats (q .paramoffs) (q .sizemask) (record { 0 = q .sizeoffs }) (entries (take have kept)) (length body - o .0))
+          (given : GivesGroup (repetitions body (q .line) (membersOf (drop (j + 1) (headsOf t))) most 0 (o .0) next) d next d′ r)
           (kind : q .kind ≡ 71) where
         a : GroupAt t l count loaded j q is-q h
         a = group-at t l count loaded j q is-q h kind
 
         pub outer-group-fits : Fits w64 (next + r .count)
-        outer-group-fits = group-fits (a .group) (q .line) (a .rest) d′ r (the-group q (a .group) (a .is) d′ r given)
+        outer-group-fits = group-fits (a .group) (q .line) (a .rest) d′ r (the-group q (a .group) (a .is) d′ r most is-most given)
 
         pub outer-group : (have′ : ℕ) → have′ ≡ least (have + r .times) 256
             → Outer t body d₀ d′ kept have′ (r .end .0) (next + r .count) (j + 1)
-        outer-group have′ eh = group-taken (a .group) (q .line) (a .rest) d′ r (the-group q (a .group) (a .is) d′ r given) have′ eh
+        outer-group have′ eh = group-taken (a .group) (q .line) (a .rest) d′ r (the-group q (a .group) (a .is) d′ r most is-most given) have′ eh
 
 pub ruleset outer-laws = (
   outer-start,

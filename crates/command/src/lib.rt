@@ -3,12 +3,15 @@
 // The definition is loaded once (crate `command_schema`). One walker reads a list of Qs and Gs over the body, writes the rows for which there is
 // room in its part of the table, and counts all. Where the table may be too small it is run first over an empty part, so that nothing is written before
 // all rows are known to fit.
+use command_groups::Group;
 use command_groups::Taken;
-use command_groups::group_at;
 use command_groups::keep;
 use command_groups::keep_repetitions;
 use command_groups::param_at;
+use command_groups::read_group;
+use command_groups::repeats_at;
 use command_param::Param;
+use command_param::Spot;
 use command_rows::ROW_WIDTH;
 use command_schema::LOADED_WIDTH;
 use records::BodyOffset;
@@ -64,12 +67,17 @@ fn walk_params(text: &[u8], loaded: &[u16], count: usize, body: &[u8], rows: &mu
     let mut j: usize = 0;
     while j < count {
         let q = command_schema::loaded_at(loaded, j);
+        let spot = Spot {
+            at,
+            row: next,
+            parent: 0,
+        };
         if q.is_outer() {
             let Param::Read {
                 end,
                 entry,
                 count: more,
-            } = param_at(text, q, body, at, &kept[..have], 0, rows, next, next)
+            } = param_at(text, q, body, spot, &kept[..have], rows, next)
             else {
                 j += 1;
                 continue;
@@ -81,18 +89,13 @@ fn walk_params(text: &[u8], loaded: &[u16], count: usize, body: &[u8], rows: &mu
             continue;
         }
         if q.kind == 71 {
-            let g = group_at(
-                text,
-                loaded,
+            let group = Group {
+                line: q.line,
+                first: j + 1,
                 count,
-                j + 1,
-                q,
-                body,
-                at,
-                &kept[..have],
-                rows,
-                next,
-            );
+            };
+            let most = repeats_at(q, body, at, &kept[..have]);
+            let g = read_group(text, loaded, group, most, body, spot, rows);
             have = keep_repetitions(have, g.times);
             next += g.count;
             at = g.end;

@@ -115,7 +115,7 @@ pub ruleset repetition-laws = (row-is, turn-part, repetition-inside, repetition-
 
 -- ---- the group: what is left of the repetitions, after k of them
 pub record Turns (body : List ℕ) (qs : List Parameter) (line most start n : ℕ) (t₀ t : List ℕ) (at next k : ℕ) : Type 0 where
-  pub rows : written t next (repetitions body line qs (most - k) k at (n + next) .rows) ≡ written t₀ 0 (repetitions body line qs most 0 start n .rows)
+  pub rows : written t (n + next) (repetitions body line qs (most - k) k at (n + next) .rows) ≡ written t₀ n (repetitions body line qs most 0 start n .rows)
   pub count : next + length (repetitions body line qs (most - k) k at (n + next) .rows) ≡ length (repetitions body line qs most 0 start n .rows)
   pub end : repetitions body line qs (most - k) k at (n + next) .end ≡ repetitions body line qs most 0 start n .end
   pub times : k + repetitions body line qs (most - k) k at (n + next) .times ≡ repetitions body line qs most 0 start n .times
@@ -143,16 +143,16 @@ turns-start x l body count i line most start n t₀ loaded v =
 module _ (body : List ℕ) (qs : List Parameter) (line most start n : ℕ) (t₀ t : List ℕ) (o : BodyOffset) (next k : ℕ)
     (g : Turns body qs line most start n t₀ t (o .0) next k) where
   none-left : (t′ : List ℕ) → t′ ≡ t → repetitions body line qs (most - k) k (o .0) (n + next) ≡ ended (o .0)
-      → GivesGroup (repetitions body line qs most 0 start n) t₀ 0 t′ (record { end = o; count = next; times = k })
+      → GivesGroup (repetitions body line qs most 0 start n) t₀ n t′ (record { end = o; count = next; times = k })
   none-left t′ et e =
       record {
-        rows = et ∙ sym (written-none t next) ∙ (rw e at (g .rows));
+        rows = et ∙ sym (written-none t (n + next)) ∙ (rw e at (g .rows));
         count = let q = rw e at (g .count) in omega arith;
         end = rw e at (g .end);
         times = let q = rw e at (g .times) in omega arith;
       }
 
-  pub turns-end : most ≤ k → GivesGroup (repetitions body line qs most 0 start n) t₀ 0 t (record { end = o; count = next; times = k })
+  pub turns-end : most ≤ k → GivesGroup (repetitions body line qs most 0 start n) t₀ n t (record { end = o; count = next; times = k })
   unfolding repetitions
   turns-end h = let z : most - k ≡ 0 = omega arith in none-left t refl (rw z refl)
 
@@ -166,7 +166,7 @@ module _ (body : List ℕ) (qs : List Parameter) (line most start n : ℕ) (t₀
     left-over : most - k ≡ suc (most - (k + 1))
     left-over = omega arith
 
-    module _ (t′ : List ℕ) (q : BodyOffset) (c : ℕ) (w : IsTook body line qs k (o .0) (n + next) t next t′ q c) where
+    module _ (t′ : List ℕ) (q : BodyOffset) (c : ℕ) (w : IsTook body line qs k (o .0) (n + next) t (n + next) t′ q c) where
       one-more : repetitions body line qs (most - k) k (o .0) (n + next)
           ≡ after (repetitionRow line (o .0) (turn body qs (o .0) (n + next) .end) k ∷ turn body qs (o .0) (n + next) .rows)
           (once (repetitions body line qs (most - (k + 1)) (k + 1) (q .0) (n + (next + c))))
@@ -185,15 +185,15 @@ module _ (body : List ℕ) (qs : List Parameter) (line most start n : ℕ) (t₀
       taken : Turns body qs line most start n t₀ t′ (q .0) (next + c) (k + 1)
       taken =
           let b = w .count in
-          let p : written t next ((repetitionRow line (o .0) (turn body qs (o .0) (n + next) .end) k ∷ turn body qs (o .0) (n + next) .rows)
+          let p : written t (n + next) ((repetitionRow line (o .0) (turn body qs (o .0) (n + next) .end) k ∷ turn body qs (o .0) (n + next) .rows)
           ++ repetitions body line qs (most - (k + 1)) (k + 1) (q .0) (n + (next + c)) .rows)
-          ≡ written t₀ 0 (repetitions body line qs most 0 start n .rows) = rw one-more at (g .rows) in
-          let s : next + c ≡ next + suc (length (turn body qs (o .0) (n + next) .rows)) = omega arith in
+          ≡ written t₀ n (repetitions body line qs most 0 start n .rows) = rw one-more at (g .rows) in
+          let s : n + (next + c) ≡ n + next + suc (length (turn body qs (o .0) (n + next) .rows)) = omega arith in
           let u : k + (repetitions body line qs (most - (k + 1)) (k + 1) (q .0) (n + (next + c)) .times + 1)
           ≡ repetitions body line qs most 0 start n .times = rw one-more at (g .times) in
           record {
-            rows = rw (w .rows) (written-more t next (repetitionRow line (o .0) (turn body qs (o .0) (n + next) .end) k ∷ turn body qs (o .0)
-                (n + next) .rows) (repetitions body line qs (most - (k + 1)) (k + 1) (q .0) (n + (next + c)) .rows) (next + c) s ∙ p);
+            rows = rw (w .rows) (written-more t (n + next) (repetitionRow line (o .0) (turn body qs (o .0) (n + next) .end) k ∷ turn body qs (o .0)
+                (n + next) .rows) (repetitions body line qs (most - (k + 1)) (k + 1) (q .0) (n + (next + c)) .rows) (n + (next + c)) s ∙ p);
             count = omega (arith, all-count);
             end = rw one-more at (g .end);
             times = omega arith;
@@ -202,11 +202,11 @@ module _ (body : List ℕ) (qs : List Parameter) (line most start n : ℕ) (t₀
             same = rw (w .rows, length-written) (g .same);
           }
 
-    module _ (t′ : List ℕ) (r : Repetition) (given : Repeats body line qs k (o .0) (n + next) t next t′ r) where
-      pub turns-nothing : r ≡ Nothing → GivesGroup (repetitions body line qs most 0 start n) t₀ 0 t′ (record { end = o; count = next; times = k })
+    module _ (t′ : List ℕ) (r : Repetition) (given : Repeats body line qs k (o .0) (n + next) t (n + next) t′ r) where
+      pub turns-nothing : r ≡ Nothing → GivesGroup (repetitions body line qs most 0 start n) t₀ n t′ (record { end = o; count = next; times = k })
       unfolding repetitions
       turns-nothing f =
-          let v : IsNothing body line qs k (o .0) (n + next) t next t′ = rw f at given in
+          let v : IsNothing body line qs k (o .0) (n + next) t (n + next) t′ = rw f at given in
           none-left t′ (v .rows) (rw (left-over, v .took) refl)
 
       module _ (q : BodyOffset) (c : ℕ) (f : r ≡ Took q c) where
@@ -218,21 +218,9 @@ module _ (body : List ℕ) (qs : List Parameter) (line most start n : ℕ) (t₀
 
 pub ruleset turns-laws = (turns-start, turns-end, turns-low, turns-next-low, turns-nothing, turns-fits, turns-take)
 
--- a group in a part of the table: from row k on
-pub group-part : (x body ns : List ℕ) (line i most left offset mask : ℕ) (shift : BitShift) (at n : ℕ) (t ys : List ℕ) (k rest : ℕ) (r : Repeated)
-    → GivesGroup (repetitions body line (membersOf (drop i (headsOf x))) most 0 at n) (take (length t - rest) (drop rest t)) 0 ys r
-    → rest ≡ rowAt k (length t)
-    → most ≡ repeats offset mask shift (entries ns) left → left ≡ length body - at
-    → GivesGroup (repetitions body line (membersOf (drop i (headsOf x))) (repeats offset mask shift (entries ns) (length body - at)) 0 at n) t k
-    (take rest t ++ (ys ++ drop (length t - rest) (drop rest t))) r
-group-part x body ns line i most left offset mask shift at n t ys k rest r w is e f =
-    let often : most ≡ repeats offset mask shift (entries ns) (length body - at) = rw f at e in
-    rw (← often) (record {
-      rows = part-back t ys k rest (repetitions body line (membersOf (drop i (headsOf x))) most 0 at n .rows) is (w .rows);
-      count =
-          w .count;
-      end = w .end;
-      times = w .times;
-    })
+-- how often at most
+pub often-is : (body ns : List ℕ) (offset mask : ℕ) (shift : BitShift) (at left most : ℕ) → most ≡ repeats offset mask shift (entries ns) left
+    → left ≡ length body - at → most ≡ repeats offset mask shift (entries ns) (length body - at)
+often-is body ns offset mask shift at left most e f = rw f at e
 
-pub ruleset group-laws = (group-part)
+pub ruleset often-laws = (often-is)

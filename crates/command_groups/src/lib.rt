@@ -1,6 +1,7 @@
 // A group of a command: its members, its repetitions, and how often it repeats; and the entries that a list keeps.
 // Each function writes the rows for which there is room in its part of the table, and counts all.
 use command_param::Param;
+use command_param::Spot;
 use command_rules::BitShift;
 use command_rules::Row;
 use command_schema::Loaded;
@@ -19,6 +20,20 @@ ghost use Rattle.command_groups.specs.Steps.{Gives, GivesGroup, Repeats}
 
 // The entries of a list that an offset can count to.
 const ENTRIES: usize = 256;
+
+// A group: the line of its G, the loaded row of its first member, and how many rows are loaded.
+pub struct Group {
+    pub line: u16,
+    pub first: usize,
+    pub count: usize,
+}
+
+// A repetition: its number, from 0, its place in the body, and the number of its own row.
+pub struct Turn {
+    pub number: usize,
+    pub at: BodyOffset,
+    pub row: usize,
+}
 
 // What a list takes: where it ends, and how many rows it has.
 pub struct Taken {
@@ -62,65 +77,57 @@ pub fn keep_repetitions(have: usize, times: usize) -> usize
     ENTRIES
 }
 
-// Reads a Q into the table from row k of `rows` on. Its own row is row n.
+// Reads a Q into the table from row k of `rows` on.
 pub fn param_at(
     text: &[u8],
     q: Loaded,
     body: &[u8],
-    at: BodyOffset,
+    spot: Spot,
     es: &[u16],
-    parent: u64,
     rows: &mut [u64],
     k: usize,
-    n: usize,
 ) -> Param
-    requires { ⌜ (Stands (now text) q) × (length (now body) < 65536) × (n < 2 ^ 50) × (k < 2 ^ 50) ⌝ }
-    ensures { λ r. ⌜ ReadsParam (now (body .entry)) (fieldIn (now (text .entry)) q) (entries (now (es .entry))) (at .0) n parent (now (rows .entry)) k
-        (now (rows .exit)) r ⌝ }
+    requires { ⌜ (Stands (now text) q) × (length (now body) < 65536) × (spot .row < 2 ^ 50) × (k < 2 ^ 50) ⌝ }
+    ensures { λ r. ⌜ ReadsParam (now (body .entry)) (fieldIn (now (text .entry)) q) (entries (now (es .entry))) (spot .at .0) (spot .row) (spot .parent)
+        (now (rows .entry)) k (now (rows .exit)) r ⌝ }
 {
     let rest = command_rows::row_at(k, rows.len());
-    command_param::decode_param(text, q, body, at, es, parent, &mut rows[rest..], n)
+    command_param::decode_param(text, q, body, spot, es, &mut rows[rest..])
 }
 
-// The members of one repetition: the loaded rows from i on, up to the first that is no member. `parent` is the repetition's row + 1, and `rows` the
-// table from row n on. `kept` has room for the entries.
+// The members of one repetition: the loaded rows from the group's first on, up to the first that is no member. `spot` is that of the first member, and
+// `rows` the table from its row on. `kept` has room for the entries.
 fn read_members(
     text: &[u8],
     loaded: &[u16],
-    count: usize,
-    i: usize,
+    group: Group,
     body: &[u8],
-    start: BodyOffset,
+    spot: Spot,
     kept: &mut [u16],
     rows: &mut [u64],
-    n: usize,
 ) -> Taken
-    requires { ⌜ (IsLoaded (now text) (now loaded) count) × (i ≤ count) × (length (now body) < 65536) × (length (now kept) ≡ 256) × (n < 2 ^ 49) ⌝ }
-    ensures { λ r. ⌜ Gives (members (now (body .entry)) (membersOf (drop i (headsOf (now (text .entry))))) (start .0) [] n n) (now (rows .entry)) 0
-        (now (rows .exit)) r ⌝ }
+    requires { ⌜ (IsLoaded (now text) (now loaded) (group .count)) × (group .first ≤ group .count) × (length (now body) < 65536)
+        × (length (now kept) ≡ 256) × (spot .row < 2 ^ 49) ⌝ }
+    ensures { λ r. ⌜ Gives (members (now (body .entry)) (membersOf (drop (group .first) (headsOf (now (text .entry))))) (spot .at .0) [] (spot .row)
+        (spot .parent)) (now (rows .entry)) 0 (now (rows .exit)) r ⌝ }
 {
     let mut have: usize = 0;
-    let mut at = start;
+    let mut at = spot.at;
     let mut next: usize = 0;
-    let mut j = i;
-    while j < count {
+    let mut j = group.first;
+    while j < group.count {
         let q = command_schema::loaded_at(loaded, j);
         if q.is_member() {
+            let here = Spot {
+                at,
+                row: spot.row + next,
+                parent: spot.parent,
+            };
             let Param::Read {
                 end,
                 entry,
                 count: more,
-            } = param_at(
-                text,
-                q,
-                body,
-                at,
-                &kept[..have],
-                n as u64,
-                rows,
-                next,
-                n + next,
-            )
+            } = param_at(text, q, body, here, &kept[..have], rows, next)
             else {
                 return Taken {
                     end: at,
@@ -163,137 +170,131 @@ fn repetition_row(line: u16, at: BodyOffset, end: BodyOffset, number: usize) -> 
     }
 }
 
-// The members of the repetition whose row is row n, into the table from row 1 of `rows` on.
+// The members of a repetition, into the table from row 1 of `rows` on.
 fn members_at(
     text: &[u8],
     loaded: &[u16],
-    count: usize,
-    i: usize,
+    group: Group,
     body: &[u8],
-    at: BodyOffset,
+    repetition: Turn,
     kept: &mut [u16],
     rows: &mut [u64],
-    n: usize,
 ) -> Taken
-    requires { ⌜ (IsLoaded (now text) (now loaded) count) × (i ≤ count) × (length (now body) < 65536) × (length (now kept) ≡ 256) × (n < 2 ^ 48) ⌝ }
-    ensures { λ r. ⌜ Gives (turn (now (body .entry)) (membersOf (drop i (headsOf (now (text .entry))))) (at .0) n) (now (rows .entry)) 1
-        (now (rows .exit)) r ⌝ }
+    requires { ⌜ (IsLoaded (now text) (now loaded) (group .count)) × (group .first ≤ group .count) × (length (now body) < 65536)
+        × (length (now kept) ≡ 256) × (repetition .row < 2 ^ 48) ⌝ }
+    ensures { λ r. ⌜ Gives (turn (now (body .entry)) (membersOf (drop (group .first) (headsOf (now (text .entry))))) (repetition .at .0) (repetition .row))
+        (now (rows .entry)) 1 (now (rows .exit)) r ⌝ }
 {
     let rest = command_rows::row_at(1, rows.len());
-    read_members(
-        text,
-        loaded,
-        count,
-        i,
-        body,
+    let at = repetition.at;
+    let first = repetition.row + 1;
+    let spot = Spot {
         at,
-        kept,
-        &mut rows[rest..],
-        n + 1,
-    )
+        row: first,
+        parent: first as u64,
+    };
+    read_members(text, loaded, group, body, spot, kept, &mut rows[rest..])
 }
 
-// One repetition of the members from loaded row i on. Its own row is row n, and `rows` the table from there on.
+// One repetition. `rows` is the table from its own row on.
 fn read_repetition(
     text: &[u8],
     loaded: &[u16],
-    count: usize,
-    i: usize,
-    line: u16,
-    number: usize,
+    group: Group,
     body: &[u8],
-    at: BodyOffset,
+    repetition: Turn,
     kept: &mut [u16],
     rows: &mut [u64],
-    n: usize,
 ) -> Repetition
-    requires { ⌜ (IsLoaded (now text) (now loaded) count) × (i ≤ count) × (length (now body) < 65536) × (length (now kept) ≡ 256) × (n < 2 ^ 48) ⌝ }
-    ensures { λ r. ⌜ Repeats (now (body .entry)) line (membersOf (drop i (headsOf (now (text .entry))))) number (at .0) n (now (rows .entry)) 0
-        (now (rows .exit)) r ⌝ }
+    requires { ⌜ (IsLoaded (now text) (now loaded) (group .count)) × (group .first ≤ group .count) × (length (now body) < 65536)
+        × (length (now kept) ≡ 256) × (repetition .row < 2 ^ 48) ⌝ }
+    ensures { λ r. ⌜ Repeats (now (body .entry)) (group .line) (membersOf (drop (group .first) (headsOf (now (text .entry))))) (repetition .number) (repetition .at .0)
+        (repetition .row) (now (rows .entry)) 0 (now (rows .exit)) r ⌝ }
 {
-    let taken = members_at(text, loaded, count, i, body, at, kept, rows, n);
+    let at = repetition.at;
+    let taken = members_at(text, loaded, group, body, repetition, kept, rows);
     let end = taken.end;
     if end.0 <= at.0 {
         return Repetition::Nothing;
     }
-    command_rows::write_row(rows, 0, repetition_row(line, at, end, number));
+    command_rows::write_row(
+        rows,
+        0,
+        repetition_row(group.line, at, end, repetition.number),
+    );
     Repetition::Took {
         end,
         count: taken.count + 1,
     }
 }
 
-// The same into the table from row k of `rows` on.
+// The same into the table from the repetition's row on.
 fn repetition_at(
     text: &[u8],
     loaded: &[u16],
-    count: usize,
-    i: usize,
-    line: u16,
-    number: usize,
+    group: Group,
     body: &[u8],
-    at: BodyOffset,
+    repetition: Turn,
     kept: &mut [u16],
     rows: &mut [u64],
-    k: usize,
-    n: usize,
 ) -> Repetition
-    requires { ⌜ (IsLoaded (now text) (now loaded) count) × (i ≤ count) × (length (now body) < 65536) × (length (now kept) ≡ 256) × (n < 2 ^ 48)
-        × (k < 2 ^ 50) ⌝ }
-    ensures { λ r. ⌜ Repeats (now (body .entry)) line (membersOf (drop i (headsOf (now (text .entry))))) number (at .0) n (now (rows .entry)) k
-        (now (rows .exit)) r ⌝ }
+    requires { ⌜ (IsLoaded (now text) (now loaded) (group .count)) × (group .first ≤ group .count) × (length (now body) < 65536)
+        × (length (now kept) ≡ 256) × (repetition .row < 2 ^ 48) ⌝ }
+    ensures { λ r. ⌜ Repeats (now (body .entry)) (group .line) (membersOf (drop (group .first) (headsOf (now (text .entry))))) (repetition .number) (repetition .at .0)
+        (repetition .row) (now (rows .entry)) (repetition .row) (now (rows .exit)) r ⌝ }
 {
-    let rest = command_rows::row_at(k, rows.len());
+    let rest = command_rows::row_at(repetition.row, rows.len());
     read_repetition(
         text,
         loaded,
-        count,
-        i,
-        line,
-        number,
+        group,
         body,
-        at,
+        repetition,
         kept,
         &mut rows[rest..],
-        n,
     )
 }
 
-// The repetitions of a group, at most so many.
-fn read_group(
+// How often a group repeats at most, after the entries `es` of the outer list.
+pub fn repeats_at(g: Loaded, body: &[u8], at: BodyOffset, es: &[u16]) -> usize
+    ensures { λ r. ⌜ r ≡ repeats (g .paramoffs) (g .sizemask) (record { 0 = g .sizeoffs }) (entries (now (es .entry))) (length (now (body .entry)) - at .0) ⌝ }
+{
+    let rest = command_param::remaining(body, at);
+    command_lengths::repeats_of(g.paramoffs, g.sizemask, BitShift(g.sizeoffs), es, rest)
+}
+
+// A group, of at most so many repetitions. `spot` is that of its first row.
+pub fn read_group(
     text: &[u8],
     loaded: &[u16],
-    count: usize,
-    i: usize,
-    line: u16,
+    group: Group,
     most: usize,
     body: &[u8],
-    start: BodyOffset,
+    spot: Spot,
     rows: &mut [u64],
-    n: usize,
 ) -> Repeated
-    requires { ⌜ (IsLoaded (now text) (now loaded) count) × (i ≤ count) × (length (now body) < 65536) × (n < 2 ^ 47) ⌝ }
-    ensures { λ r. ⌜ GivesGroup (repetitions (now (body .entry)) line (membersOf (drop i (headsOf (now (text .entry))))) most 0 (start .0) n)
-        (now (rows .entry)) 0 (now (rows .exit)) r ⌝ }
+    requires { ⌜ (IsLoaded (now text) (now loaded) (group .count)) × (group .first ≤ group .count) × (length (now body) < 65536) × (spot .row < 2 ^ 47) ⌝ }
+    ensures { λ r. ⌜ GivesGroup (repetitions (now (body .entry)) (group .line) (membersOf (drop (group .first) (headsOf (now (text .entry))))) most 0
+        (spot .at .0) (spot .row)) (now (rows .entry)) (spot .row) (now (rows .exit)) r ⌝ }
 {
     let mut kept = [0u16; 256];
-    let mut from = start;
+    let mut from = spot.at;
     let mut next: usize = 0;
     let mut times: usize = 0;
     while times < most {
+        let repetition = Turn {
+            number: times,
+            at: from,
+            row: spot.row + next,
+        };
         let Repetition::Took { end, count: more } = repetition_at(
             text,
             loaded,
-            count,
-            i,
-            line,
-            times,
+            group,
             body,
-            from,
+            repetition,
             &mut kept,
             rows,
-            next,
-            n + next,
         ) else {
             return Repeated {
                 end: from,
@@ -310,39 +311,4 @@ fn read_group(
         count: next,
         times,
     }
-}
-
-// A group, into the table from row k of `rows` on. Its members are the loaded rows from i on.
-pub fn group_at(
-    text: &[u8],
-    loaded: &[u16],
-    count: usize,
-    i: usize,
-    g: Loaded,
-    body: &[u8],
-    at: BodyOffset,
-    es: &[u16],
-    rows: &mut [u64],
-    k: usize,
-) -> Repeated
-    requires { ⌜ (IsLoaded (now text) (now loaded) count) × (i ≤ count) × (length (now body) < 65536) × (k < 2 ^ 47) ⌝ }
-    ensures { λ r. ⌜ GivesGroup (repetitions (now (body .entry)) (g .line) (membersOf (drop i (headsOf (now (text .entry)))))
-        (repeats (g .paramoffs) (g .sizemask) (record { 0 = g .sizeoffs }) (entries (now (es .entry))) (length (now (body .entry)) - at .0)) 0 (at .0) k)
-        (now (rows .entry)) k (now (rows .exit)) r ⌝ }
-{
-    let rest = command_param::remaining(body, at);
-    let most = command_lengths::repeats_of(g.paramoffs, g.sizemask, BitShift(g.sizeoffs), es, rest);
-    let part = command_rows::row_at(k, rows.len());
-    read_group(
-        text,
-        loaded,
-        count,
-        i,
-        g.line,
-        most,
-        body,
-        at,
-        &mut rows[part..],
-        k,
-    )
 }

@@ -34,6 +34,13 @@ pub enum Param {
     Absent,
 }
 
+// Where a Q is read: its place in the body, the number of its own row, and its parent's row + 1, or 0.
+pub struct Spot {
+    pub at: BodyOffset,
+    pub row: usize,
+    pub parent: u64,
+}
+
 // What is written of a Q.
 pub struct Wrote {
     pub entry: u16,
@@ -264,26 +271,26 @@ fn write_own(
     command_rows::write_row(rows, 0, param_row(text, q, bytes, start, parent));
 }
 
-// Writes a Q that takes `size` bytes. Its own row is row n, and `rows` is the table from there on.
+// Writes a Q that takes `size` bytes. `rows` is the table from its own row on.
 fn write_param(
     text: &[u8],
     q: Loaded,
     body: &[u8],
-    at: BodyOffset,
+    spot: Spot,
     size: usize,
-    parent: u64,
     rows: &mut [u64],
-    n: usize,
 ) -> Wrote
-    requires { ⌜ (Stands (now text) q) × (length (now body) < 65536) × (at .0 + size ≤ length (now body)) × (n < 2 ^ 50) ⌝ }
-    ensures { λ r. ⌜ WritesParam (now (body .entry)) (fieldIn (now (text .entry)) q) (at .0) size n parent (now (rows .entry)) (now (rows .exit)) r ⌝ }
+    requires { ⌜ (Stands (now text) q) × (length (now body) < 65536) × (spot .at .0 + size ≤ length (now body)) × (spot .row < 2 ^ 50) ⌝ }
+    ensures { λ r. ⌜ WritesParam (now (body .entry)) (fieldIn (now (text .entry)) q) (spot .at .0) size (spot .row) (spot .parent) (now (rows .entry))
+        (now (rows .exit)) r ⌝ }
 {
+    let at = spot.at;
     let from = at.0;
     let end = from + size;
     let bytes = &body[from..end];
     let start = in_payload(at);
-    write_own(text, q, bytes, start, parent, rows);
-    let children = write_children(text, q, bytes, start, (n + 1) as u64, rows);
+    write_own(text, q, bytes, start, spot.parent, rows);
+    let children = write_children(text, q, bytes, start, (spot.row + 1) as u64, rows);
     Wrote {
         entry: entry_of(read_uint(bytes)),
         count: children + 1,
@@ -300,21 +307,20 @@ pub fn remaining(body: &[u8], at: BodyOffset) -> usize
     0
 }
 
-// Reads a Q at a place of the body, after the entries `es` of its list. Its own row is row n, and `rows` is the table from there on.
+// Reads a Q after the entries `es` of its list. `rows` is the table from its own row on.
 pub fn decode_param(
     text: &[u8],
     q: Loaded,
     body: &[u8],
-    at: BodyOffset,
+    spot: Spot,
     es: &[u16],
-    parent: u64,
     rows: &mut [u64],
-    n: usize,
 ) -> Param
-    requires { ⌜ (Stands (now text) q) × (length (now body) < 65536) × (n < 2 ^ 50) ⌝ }
-    ensures { λ r. ⌜ ReadsParam (now (body .entry)) (fieldIn (now (text .entry)) q) (entries (now (es .entry))) (at .0) n parent (now (rows .entry)) 0
-        (now (rows .exit)) r ⌝ }
+    requires { ⌜ (Stands (now text) q) × (length (now body) < 65536) × (spot .row < 2 ^ 50) ⌝ }
+    ensures { λ r. ⌜ ReadsParam (now (body .entry)) (fieldIn (now (text .entry)) q) (entries (now (es .entry))) (spot .at .0) (spot .row) (spot .parent)
+        (now (rows .entry)) 0 (now (rows .exit)) r ⌝ }
 {
+    let at = spot.at;
     let rest = remaining(body, at);
     let Size::Bytes(size) = command_lengths::size_of(
         q.optionaloffs,
@@ -325,7 +331,7 @@ pub fn decode_param(
     ) else {
         return Param::Absent;
     };
-    let wrote = write_param(text, q, body, at, size, parent, rows, n);
+    let wrote = write_param(text, q, body, spot, size, rows);
     Param::Read {
         end: BodyOffset(at.0 + size),
         entry: wrote.entry,

@@ -12,8 +12,8 @@ Inv-loop text loaded count body rows₀ kept₀ have₀ at₀ next₀ j₀ rows 
 abbrev μ-loop : tie.MeasureT-loop
 μ-loop text loaded count body rows₀ kept₀ have₀ at₀ next₀ j₀ rows kept have at next j = count - j
 
-loop-again : tie.Need-loop-again Inv-loop μ-loop
-loop-again c =
+missing : tie.Need-loop-again Inv-loop μ-loop
+missing c =
     let by-if1 = c .before .before .before .before .before .before .before in
     let by-is-outer = by-if1 .before in
     let by-loaded-at = by-is-outer .before in
@@ -31,32 +31,35 @@ add-j-2 c =
 
 add-next-2 : tie.Need-add-next-2 Inv-loop μ-loop
 add-next-2 c =
-    let by-if2 = c .before .before .before .before .before .before .before in
+    let by-repeats-at = c .before .before .before .before .before .before in
+    let by-if2 = by-repeats-at .before .before in
     let by-is-outer = by-if2 .before .before .before in
     let by-loaded-at = by-is-outer .before in
     let turn-test = by-loaded-at .before in
     let turn = turn-test .before in
     let start = turn .before .before .before .before .before in
     outer-group-fits _ _ _ _ (start .pre .0) _ _ _ _ _ _ _ (turn .loop .inv) _ (by-loaded-at .loaded-at .ensures) (omega (arith, turn-test .loop-test)) _
-    (by-is-outer .is-outer .ensures) _ _ (c .before .before .before .before .group-at .ensures) (by-if2 .if2 .taken)
+    (by-is-outer .is-outer .ensures) _ _ _ (by-repeats-at .repeats-at .ensures) (c .before .before .before .before .read-group .ensures) (by-if2 .if2 .taken)
 
 add-j-3 : tie.Need-add-j-3 Inv-loop μ-loop
 add-j-3 c =
-    let turn-test = c .before .before .before .before .before .before .before .before .before .before .before .before .before in
+    let turn-test = c .before .before .before .before .before .before .before .before .before .before .before .before .before .before in
     let start = turn-test .before .before .before .before .before .before in
     omega (arith, turn-test .loop-test, start .pre .0 .few)
 
 loop-again-3 : tie.Need-loop-again-3 Inv-loop μ-loop
 loop-again-3 c =
-    let by-group-at = c .before .before .before .before .before in
-    let by-if2 = by-group-at .before .before .before in
+    let by-read-group = c .before .before .before .before .before in
+    let by-repeats-at = by-read-group .before .before in
+    let by-if2 = by-repeats-at .before .before in
     let by-is-outer = by-if2 .before .before .before in
     let by-loaded-at = by-is-outer .before in
     let turn-test = by-loaded-at .before in
     let turn = turn-test .before in
     let start = turn .before .before .before .before .before in
     outer-group _ _ _ _ (start .pre .0) _ _ _ _ _ _ _ (turn .loop .inv) _ (by-loaded-at .loaded-at .ensures) (omega (arith, turn-test .loop-test)) _
-    (by-is-outer .is-outer .ensures) _ _ (by-group-at .group-at .ensures) (by-if2 .if2 .taken) _ (c .before .before .keep-repetitions .ensures)
+    (by-is-outer .is-outer .ensures) _ _ _ (by-repeats-at .repeats-at .ensures) (by-read-group .read-group .ensures) (by-if2 .if2 .taken) _
+    (c .before .before .keep-repetitions .ensures)
 
 loop-again-4 : tie.Need-loop-again-4 Inv-loop μ-loop
 loop-again-4 c =
@@ -82,7 +85,7 @@ walk-params-spec =
     (λ c. search (needs, outer-laws))
     (λ c. search (needs, outer-laws))
     (λ c. search (needs, outer-laws))
-    loop-again
+    missing
     (λ c. search (needs, outer-laws))
     (λ c κs. search (needs, outer-laws))
     (λ c. search (needs, outer-laws))
@@ -92,6 +95,7 @@ walk-params-spec =
     (λ c. search (needs, outer-laws))
     (λ c. search (needs, outer-laws))
     (λ c. search (needs, outer-laws))
+    (λ c κs. search (needs, outer-laws))
     (λ c κs. search (needs, outer-laws))
     (λ c κs. search (needs, outer-laws))
     add-next-2

@@ -9,11 +9,15 @@ use Rattle.command_groups.proofs.read_group.Statement.{statement}
 use Rattle.command_groups.proofs.read_group.Tie as tie
 
 abbrev Inv-loop : tie.InvT-loop
-Inv-loop text loaded count i line most body rows₀ n kept₀ at₀ next₀ times₀ rows kept at next times =
-    Turns body (membersOf (drop i (headsOf text))) line most (at₀ .0) n rows₀ rows (at .0) next times × (length kept ≡ 256)
+Inv-loop text loaded group most body spot rows₀ kept₀ at₀ next₀ times₀ rows kept at next times =
+    Turns body (membersOf (drop (group .first) (headsOf text))) (group .line) most (at₀ .0) (spot .row) rows₀ rows (at .0) next times × (length kept ≡ 256)
 
 abbrev μ-loop : tie.MeasureT-loop
-μ-loop text loaded count i line most body rows₀ n kept₀ at₀ next₀ times₀ rows kept at next times = most - times
+μ-loop text loaded group most body spot rows₀ kept₀ at₀ next₀ times₀ rows kept at next times = most - times
+
+repetition-at-requires : tie.Need-repetition-at-requires Inv-loop μ-loop
+repetition-at-requires c κs =
+    (search (needs, turns-laws), search (needs, turns-laws), search (needs, turns-laws), search (needs, turns-laws), search (needs, turns-laws))
 
 pub read-group-spec : {M : Type 1} → statement M
 read-group-spec =
@@ -24,7 +28,7 @@ read-group-spec =
     (λ c. search (needs, turns-laws))
     (λ c. search (needs, turns-laws))
     (λ c. search (needs, turns-laws))
-    (λ c κs. search (needs, turns-laws))
+    repetition-at-requires
     (λ c. search (needs, turns-laws))
     (λ c. search (needs, turns-laws))
     (λ c. search (needs, turns-laws))
