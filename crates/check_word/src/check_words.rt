@@ -15,9 +15,9 @@ use text_faults::fault::Fault;
 use text_faults::fault::Want;
 use text_faults::line_form::command_count;
 use text_faults::line_form::frame_count;
-use text_faults::placement::Lack;
-use text_faults::placement::command_lack;
-use text_faults::placement::frame_lack;
+use text_faults::placement::Misplaced;
+use text_faults::placement::command_misplaced;
+use text_faults::placement::frame_misplaced;
 use text_faults::placement::is_too_deep;
 use text_faults::placement::shift_field;
 
@@ -163,21 +163,21 @@ fn say_size_path(line: &[u8]) {
     say(b": only a P of level 0 may have a size path; write -");
 }
 
-fn say_lack(lack: Lack, line: &[u8]) {
-    match lack {
-        Lack::Owner => say_owner(letter_of(line)),
-        Lack::Parent => say_parent(line),
-        Lack::SizePath => say_size_path(line),
-        Lack::Shift => say_too_great(line, shift_field(letter_of(line))),
+fn say_misplaced(why: Misplaced, line: &[u8]) {
+    match why {
+        Misplaced::Owner => say_owner(letter_of(line)),
+        Misplaced::Parent => say_parent(line),
+        Misplaced::SizePath => say_size_path(line),
+        Misplaced::Shift => say_too_great(line, shift_field(letter_of(line))),
     }
 }
 
 // Refusal 3, of a line of a frame text.
 pub fn say_frame_owner(line: &[u8]) {
-    say_lack(frame_lack(line), line);
+    say_misplaced(frame_misplaced(line), line);
 }
 
 // The same, of a command text.
 pub fn say_command_owner(line: &[u8]) {
-    say_lack(command_lack(line), line);
+    say_misplaced(command_misplaced(line), line);
 }

@@ -1,4 +1,4 @@
 pub mod Input
-pub mod Shelf
+pub mod Folder
 pub mod Accepted
 pub mod Capture

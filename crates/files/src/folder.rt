@@ -3,7 +3,7 @@ use crate::append::append;
 use libc::STDERR_FILENO;
 ghost use Prim.Native.Nat.{_≤_};
 ghost use lib.ListN.{length};
-ghost use Rattle.files.specs.Shelf.{Loads};
+ghost use Rattle.files.specs.Folder.{Loads};
 
 pub enum Loaded {
     // So many bytes: as much of the file as the lent slice has room for.

@@ -1,1 +1,1 @@
-pub mod Piece
+pub mod Fields

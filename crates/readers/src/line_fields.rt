@@ -6,11 +6,11 @@ ghost use mathlib.Core.Path.{_≡_};
 ghost use lib.ListN.{length};
 ghost use Rattle.text.specs.Text.{split, field, fields};
 ghost use Rattle.text.specs.Place.{kindOf};
-ghost use Rattle.readers.specs.Piece.{IsPiece};
+ghost use Rattle.readers.specs.Fields.{IsField};
 
 // Where piece k of s stands, from 0, where b parts the pieces. One that there isn't is no bytes at the end of s.
 pub fn find_piece(s: &[u8], b: u8, k: usize) -> Part
-    ensures { λ r. ⌜ IsPiece b k (now (s .entry)) r ⌝ }
+    ensures { λ r. ⌜ IsField b k (now (s .entry)) r ⌝ }
 {
     let mut at = 0;
     let mut left = k;

@@ -2,4 +2,4 @@ pub mod Fault
 pub mod Examples
 pub mod Form
 pub mod Advice
-pub mod Lack
+pub mod Placement

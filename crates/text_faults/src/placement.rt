@@ -3,9 +3,9 @@ use readers::line_fields::field_of;
 use readers::line_fields::letter_of;
 ghost use mathlib.Core.Path.{_≡_};
 ghost use Rattle.text.specs.Text.{fields};
-ghost use Rattle.text_faults.specs.Lack.{tooDeep, shiftField, frameLack, commandLack};
+ghost use Rattle.text_faults.specs.Placement.{tooDeep, shiftField, frameMisplaced, commandMisplaced};
 
-pub enum Lack {
+pub enum Misplaced {
     // No line above owns it.
     Owner,
     // No P of the level before stands above it under the same B or H.
@@ -27,19 +27,19 @@ pub fn is_too_deep(line: &[u8]) -> bool
 }
 
 // What a line of a frame text lacks, which is refused by 3.
-pub fn frame_lack(line: &[u8]) -> Lack
-    ensures { λ r. ⌜ r ≡ frameLack (fields (now (line .entry))) ⌝ }
+pub fn frame_misplaced(line: &[u8]) -> Misplaced
+    ensures { λ r. ⌜ r ≡ frameMisplaced (fields (now (line .entry))) ⌝ }
 {
     if letter_of(line) != b'P' {
-        return Lack::Owner;
+        return Misplaced::Owner;
     }
     if text::is_number(field_of(line, 1), 0) {
-        return Lack::Owner;
+        return Misplaced::Owner;
     }
     if text::is_missing(field_of(line, 8)) {
-        return Lack::Parent;
+        return Misplaced::Parent;
     }
-    Lack::SizePath
+    Misplaced::SizePath
 }
 
 // The field of a line with this letter that is a shift; 0 where it has none.
@@ -56,15 +56,15 @@ pub fn shift_field(letter: u8) -> usize
 }
 
 // What a line of a command text lacks, which is refused by 3.
-pub fn command_lack(line: &[u8]) -> Lack
-    ensures { λ r. ⌜ r ≡ commandLack (fields (now (line .entry))) ⌝ }
+pub fn command_misplaced(line: &[u8]) -> Misplaced
+    ensures { λ r. ⌜ r ≡ commandMisplaced (fields (now (line .entry))) ⌝ }
 {
     let k = shift_field(letter_of(line));
     if k == 0 {
-        return Lack::Owner;
+        return Misplaced::Owner;
     }
     if text::is_optional_number(field_of(line, k), 7) {
-        return Lack::Owner;
+        return Misplaced::Owner;
     }
-    Lack::Shift
+    Misplaced::Shift
 }

@@ -4,7 +4,7 @@ use mathlib.Core.List.{List}
 use Prim.Native.Nat.{ℕ, _≤_}
 use lib.ListN.{length, take}
 use Rattle.io.specs.Counts.{Counts}
-use Rattle.files.specs.Shelf.{Loads}
+use Rattle.files.specs.Folder.{Loads}
 use Rattle.files.specs.declared.folder.Loaded.{Loaded}
 use Rattle.files.specs.declared.folder.Loaded.the-variants.{Bytes}
 

@@ -15,7 +15,7 @@ use Rattle.text.specs.Place.{kindOf}
 use Rattle.text.specs.declared.Part.{Part}
 use Rattle.text.proofs.Laws.{tail, split-last, split-more}
 use Rattle.text.proofs.Judging.{split-some}
-use Rattle.readers.specs.Piece.{IsPiece}
+use Rattle.readers.specs.Fields.{IsField}
 
 -- there is a piece at least
 some-piece : (b : ℕ) (l : List ℕ) → 0 < length (split b l)
@@ -67,7 +67,7 @@ left-in b s k at left l = l .at-in
 
 module _ (b : ℕ) (s : List ℕ) (k at left e : ℕ) (so-far : Left b s k at left) (at-e : e ≡ cut b (take (length s - at) (drop at s))) where
   -- no piece k is left
-  pub left-past : 0 < left → e ≡ length (take (length s - at) (drop at s)) → IsPiece b k s (record { start = length s; len = 0 })
+  pub left-past : 0 < left → e ≡ length (take (length s - at) (drop at s)) → IsField b k s (record { start = length s; len = 0 })
   left-past h end = record {
     inside = omega arith;
     more = le-ltb (length s + 0) (length s) (omega arith) ∙ sym (le-ltb (suc k) (length (split b s)) (omega (arith, counted)));
@@ -97,7 +97,7 @@ module _ (b : ℕ) (s : List ℕ) (k at left e : ℕ) (so-far : Left b s k at le
       get (suc n) q = let z : suc n - 1 ≡ n = omega arith in rw z
 
   -- it is the next
-  pub left-here : left ≤ 0 → e ≤ length (take (length s - at) (drop at s)) → IsPiece b k s (record { start = at; len = e })
+  pub left-here : left ≤ 0 → e ≤ length (take (length s - at) (drop at s)) → IsField b k s (record { start = at; len = e })
   left-here h in-e = go (decLe (e + 1) (length (take (length s - at) (drop at s))))
     where
       none : left ≡ 0
@@ -109,7 +109,7 @@ module _ (b : ℕ) (s : List ℕ) (k at left e : ℕ) (so-far : Left b s k at le
       gets-first : getD (split b s) k [] ≡ getD (split b (drop at s)) 0 []
       gets-first = so-far .gets ∙ ap (λ (n : ℕ). getD (split b (drop at s)) n []) none
 
-      go : Dec (e + 1 ≤ length (take (length s - at) (drop at s))) → IsPiece b k s (record { start = at; len = e })
+      go : Dec (e + 1 ≤ length (take (length s - at) (drop at s))) → IsField b k s (record { start = at; len = e })
       go (yes q) =
           let p : split b (drop at s) ≡ take e (drop at s) ∷ split b (drop (at + e + 1) s) =
           parted b s at e (so-far .at-in) at-e in-e (λ z. omega arith) in
@@ -164,7 +164,7 @@ module _ (b : ℕ) (s : List ℕ) (at n e : ℕ) (so-far : Counted b s at n) (at
 pub ruleset count-laws = (counted-start, counted-in, counted-end, counted-on, counted-fits)
 
 -- ---- a field
-module _ (l : List ℕ) (k : ℕ) (p : Part) (is : IsPiece 9 k l p) where
+module _ (l : List ℕ) (k : ℕ) (p : Part) (is : IsField 9 k l p) where
   pub field-fits : length l < 2 ^ 64 → Fits w64 (p .start + p .len)
   field-fits h = omega (arith, is .inside)
 

@@ -16,7 +16,7 @@ use Rattle.text.specs.Scan.{cut}
 use Rattle.text.specs.Place.{kindOf}
 use Rattle.text.specs.declared.Part.{Part}
 use Rattle.text.proofs.Laws.{tail, split-last, split-more}
-use Rattle.readers.specs.Piece.{IsPiece}
+use Rattle.readers.specs.Fields.{IsField}
 use Rattle.text_faults.specs.Fault.{isRight, faultOf}
 use Rattle.text_faults.specs.declared.fault.Want.{Want}
 use Rattle.text_faults.specs.declared.fault.Fault.{Fault}
@@ -139,7 +139,7 @@ module _ (l : List ℕ) (some : length l ≡ 0 → ⊥) (c : ℕ) (c-is : c ≡ 
 pub ruleset laws = (count-other, count-right, no-letter, bare, rest-inside, rest-fits, rest-told, empty-line, frame-told, command-told)
 
 -- ---- a line of a text
-module _ (t : List ℕ) (k : ℕ) (p : Part) (is : IsPiece 10 k t p) where
+module _ (t : List ℕ) (k : ℕ) (p : Part) (is : IsField 10 k t p) where
   pub line-fits : length t < 2 ^ 64 → Fits w64 (p .start + p .len)
   line-fits h = omega (arith, is .inside)
 

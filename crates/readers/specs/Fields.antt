@@ -1,4 +1,4 @@
--- What the contracts cite.
+-- A field of a text, as a part of it.
 use Prim.Native.Nat.{ℕ, suc, _+_, _≤_}
 use mathlib.Core.Path.{_≡_}
 use mathlib.Core.List.{List, []}
@@ -7,8 +7,8 @@ use lib.ListN.{length, getD, take, drop}
 use Rattle.text.specs.Text.{split}
 use Rattle.text.specs.declared.Part.{Part}
 
--- the part p of s is piece k of those that b parts, and ends before the end of s exactly where another follows
-pub record IsPiece (b k : ℕ) (s : List ℕ) (p : Part) : Type 0 where
+-- the part p of s is field k of those that b parts, and ends before the end of s exactly where another follows
+pub record IsField (b k : ℕ) (s : List ℕ) (p : Part) : Type 0 where
   pub inside : p .start + p .len ≤ length s
   pub more : ltb (p .start + p .len) (length s) ≡ ltb (suc k) (length (split b s))
   pub says : take (p .len) (drop (p .start) s) ≡ getD (split b s) k []
