@@ -24,7 +24,7 @@ use Rattle.command_text.specs.Form.{Record, param, group, variant, array, bitFl
 use Rattle.command_text.specs.Rules.{rules}
 use Rattle.command_class.specs.Definition.{letter, numbered}
 use Rattle.command_class.specs.Find.{Begins, Follows}
-use Rattle.command_class.proofs.Finding.{kind-letter}
+use Rattle.command_class.proofs.Saying.{kind-letter}
 
 -- the kind of a line is its first byte
 first-byte : (l : List ℕ) (fs : List (List ℕ)) (more : List ℕ) → first l ≡ ended fs more → (kindOf fs ≡ 0 → ⊥) → kindOf fs ≡ getD l 0 0

@@ -106,7 +106,7 @@ module _ (t : List ℕ) (p₀ : Place) (v : ℕ) (p : Place) (k : Naming t p₀ 
         const-next h = record { readable = here .next; so = rw (told-const, ne-eqb (value 255 (field 1 (cells t l))) v (λ z. h (says ∙ z))) refl }
 
 pub const-less : (t : List ℕ) (p : Place) (l : Line) → p .at < length t → Steps t p l → length t - l .next .at < length t - p .at
-const-less t p l inside step = omega (arith, step .on)
+const-less t p l inside step = omega (arith, step .passes .on)
 
 pub over-less : (t : List ℕ) (p q : Place) → p .at < length t → Follows t p q → length t - q .at < length t - p .at
 over-less t p q inside follows = omega (arith, follows .on)

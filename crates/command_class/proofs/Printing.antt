@@ -1,22 +1,22 @@
--- What is written of plain data within limits is accepted, and stands for the same data. Assumes nothing.
-use mathlib.Core.Path.{_≡_, refl, ap}
+-- The command texts that are accepted are those that are written of plain data within limits, and stand for that data. Assumes nothing.
+use mathlib.Core.Path.{_≡_, refl, sym, ap}
 use mathlib.Core.Bool.{Bool, true, false}
-use mathlib.Core.List.{List, [], _∷_}
+use mathlib.Core.List.{List}
 use mathlib.Core.Option.{Option, none, some}
 use Prim.Native.Nat.{ℕ, _≤_}
 use native.Mathlib.Omega.{arith}
-use lib.ListN.{length}
 use Rattle.text.specs.Text.{lines, upTo, optionalUpTo, name}
 use Rattle.text.specs.Records.{records}
-use Rattle.text.specs.Honest.{Keeps}
-use Rattle.text.specs.Print.{shown, orDash, Every, Clean, Prints}
+use Rattle.text.specs.Print.{shown, orDash, Clean, said, Prints, Faithful}
 use Rattle.text.specs.declared.Verdict.the-variants.{Accepted}
-use Rattle.text.proofs.Printing.{clean-shown, clean-name, letter-clean, number-test, number-clean, shown-up-to, shown-worth, shown-given, printed-accepted}
+use Rattle.text.proofs.Printing.{clean-shown, clean-name, letter-clean, dash-clean, number-test, number-clean, shown-up-to, shown-worth, shown-given}
+use Rattle.text.proofs.Printing.{text-accepted, accepted-text}
 use Rattle.command_text.specs.Form.{Param, Bits, Record, param, group, variant, array, bitFlag, bitField, fieldEnum, const, bitmask, given, shiftOf, asciiOf}
-use Rattle.command_text.specs.Form.{typeOf, form}
-use Rattle.command_text.specs.Rules.{rules, verdict}
+use Rattle.command_text.specs.Form.{typeName, typeOf, form}
+use Rattle.command_text.specs.Rules.{shift, rules, verdict}
 use Rattle.command_class.specs.Definition.{entriesAt, definition}
-use Rattle.command_class.specs.Print.{typeName, digit, print, ParamFits, BitsFit, Fits, commandText}
+use Rattle.command_class.specs.Print.{digit, shiftShown, ParamFits, BitsFit, Fits, writing, IsCommandText}
+use Rattle.command_class.proofs.Saying.{reads}
 use Rattle.command_text.specs.declared.ParamType.{ParamType}
 use Rattle.command_text.specs.declared.ParamType.the-variants.{Byte, StructByte, Const, Marker, Word, Bit24, Dword, Array, Variant, Bitmask, MultiArray}
 use Rattle.command_text.specs.declared.Typed.the-variants.{Is}
@@ -26,11 +26,17 @@ number-back : (o : Option ℕ) → given (orDash shown o) ≡ o
 number-back none = refl
 number-back (some k) = rw (shown-given k, shown-worth k)
 
-shift-test : (n : ℕ) → n ≤ 255 → optionalUpTo 255 (shown n) ≡ true
-shift-test n h = rw (shown-given n) (shown-up-to 255 n h)
+shift-test : (m : Bool) (n : ℕ) → n ≤ 255 → optionalUpTo 255 (shiftShown m n) ≡ true
+shift-test true n h = refl
+shift-test false n h = rw (shown-given n) (shown-up-to 255 n h)
 
-shift-back : (n : ℕ) → shiftOf (shown n) ≡ n
-shift-back n = rw (shown-given n, shown-worth n)
+shift-back : (m : Bool) (n : ℕ) → (m ≡ true → n ≡ 0) → shiftOf (shiftShown m n) ≡ n
+shift-back true n z = sym (z refl)
+shift-back false n z = rw (shown-given n, shown-worth n)
+
+shift-clean : (m : Bool) (n : ℕ) → Clean (shiftShown m n)
+shift-clean true n = dash-clean
+shift-clean false n = clean-shown n
 
 digit-test : (b : Bool) → upTo 1 (digit b) ≡ true
 digit-test true = refl
@@ -71,8 +77,8 @@ type-clean Bitmask = record { tab = refl; end = refl }
 type-clean MultiArray = record { tab = refl; end = refl }
 
 -- ---- each record
-prints-param : (q : Param) → ParamFits q → Prints rules print (param q)
-prints-param q f = record {
+prints-param : (m : Bool) (q : Param) → ParamFits q → Prints rules writing (record { says = param q; missing = m })
+prints-param m q f = record {
   form-is =
       rw (
         shown-up-to 1 (q .level) (f .level),
@@ -91,23 +97,23 @@ prints-param q f = record {
   );
 }
 
-prints-bit-field : (b : Bits) → BitsFit b → Prints rules print (bitField b)
-prints-bit-field b f = record {
-  form-is = rw (shown-up-to 255 (b .mask) (f .mask), shift-test (b .shift) (f .shift), f .named, shown-worth (b .mask), shift-back (b .shift));
+prints-bit-field : (m : Bool) (b : Bits) → BitsFit b → (m ≡ true → b .shift ≡ 0) → Prints rules writing (record { says = bitField b; missing = m })
+prints-bit-field m b f z = record {
+  form-is = rw (shown-up-to 255 (b .mask) (f .mask), shift-test m (b .shift) (f .shift), f .named, shown-worth (b .mask), shift-back m (b .shift) z);
   some-field = omega arith;
-  clean = (letter-clean 83 (omega arith) (omega arith), (clean-shown (b .mask), (clean-shown (b .shift), (clean-name (b .name) (f .named), tt))));
+  clean = (letter-clean 83 (omega arith) (omega arith), (clean-shown (b .mask), (shift-clean m (b .shift), (clean-name (b .name) (f .named), tt))));
 }
 
-prints-field-enum : (b : Bits) → BitsFit b → Prints rules print (fieldEnum b)
-prints-field-enum b f = record {
-  form-is = rw (shown-up-to 255 (b .mask) (f .mask), shift-test (b .shift) (f .shift), f .named, shown-worth (b .mask), shift-back (b .shift));
+prints-field-enum : (m : Bool) (b : Bits) → BitsFit b → (m ≡ true → b .shift ≡ 0) → Prints rules writing (record { says = fieldEnum b; missing = m })
+prints-field-enum m b f z = record {
+  form-is = rw (shown-up-to 255 (b .mask) (f .mask), shift-test m (b .shift) (f .shift), f .named, shown-worth (b .mask), shift-back m (b .shift) z);
   some-field = omega arith;
-  clean = (letter-clean 85 (omega arith) (omega arith), (clean-shown (b .mask), (clean-shown (b .shift), (clean-name (b .name) (f .named), tt))));
+  clean = (letter-clean 85 (omega arith) (omega arith), (clean-shown (b .mask), (shift-clean m (b .shift), (clean-name (b .name) (f .named), tt))));
 }
 
-prints : (r : Record) → Fits r → Prints rules print r
-prints (param q) f = prints-param q f
-prints (group g) f = record {
+prints-record : (m : Bool) (r : Record) → Fits r → (m ≡ true → shift r ≡ 0) → Prints rules writing (record { says = r; missing = m })
+prints-record m (param q) f z = prints-param m q f
+prints-record m (group g) f z = record {
   form-is =
       rw (
         f .0,
@@ -124,54 +130,58 @@ prints (group g) f = record {
     (clean-name (g .name) (f .0), (clean-shown (g .offset), (clean-shown (g .mask), (clean-shown (g .shift), tt)))),
   );
 }
-prints (variant s) f = record {
+prints-record m (variant s) f z = record {
   form-is =
       rw (
         shown-up-to 255 (s .offset) (f .0),
         shown-up-to 255 (s .mask) (f .1),
-        shift-test (s .shift) (f .2),
+        shift-test m (s .shift) (f .2),
         digit-test (s .ascii),
         shown-worth (s .offset),
         shown-worth (s .mask),
-        shift-back (s .shift),
+        shift-back m (s .shift) z,
         digit-back (s .ascii),
       );
   some-field = omega arith;
   clean = (
     letter-clean 82 (omega arith) (omega arith),
-    (clean-shown (s .offset), (clean-shown (s .mask), (clean-shown (s .shift), (digit-clean (s .ascii), tt)))),
+    (clean-shown (s .offset), (clean-shown (s .mask), (shift-clean m (s .shift), (digit-clean (s .ascii), tt)))),
   );
 }
-prints (array n ascii) f = record {
+prints-record m (array n ascii) f z = record {
   form-is = rw (shown-up-to 255 n f, digit-test ascii, shown-worth n, digit-back ascii);
   some-field = omega arith;
   clean = (letter-clean 65 (omega arith) (omega arith), (clean-shown n, (digit-clean ascii, tt)));
 }
-prints (bitFlag mask n) f = record {
+prints-record m (bitFlag mask n) f z = record {
   form-is = rw (shown-up-to 255 mask (f .0), f .1, shown-worth mask);
   some-field = omega arith;
   clean = (letter-clean 84 (omega arith) (omega arith), (clean-shown mask, (clean-name n (f .1), tt)));
 }
-prints (bitField b) f = prints-bit-field b f
-prints (fieldEnum b) f = prints-field-enum b f
-prints (const value n) f = record {
+prints-record m (bitField b) f z = prints-bit-field m b f z
+prints-record m (fieldEnum b) f z = prints-field-enum m b f z
+prints-record m (const value n) f z = record {
   form-is = rw (shown-up-to 255 value (f .0), f .1, shown-worth value);
   some-field = omega arith;
   clean = (letter-clean 75 (omega arith) (omega arith), (clean-shown value, (clean-name n (f .1), tt)));
 }
-prints (bitmask n) f = record {
+prints-record m (bitmask n) f z = record {
   form-is = rw (number-test n f, number-back n);
   some-field = omega arith;
   clean = (letter-clean 77 (omega arith) (omega arith), (number-clean n, tt));
 }
 
-all-print : (rs : List Record) → Every Fits rs → Every (Prints rules print) rs
-all-print [] f = tt
-all-print (r ∷ rs) f = (prints r (f .0), all-print rs (f .1))
+faithful : Faithful rules writing
+faithful = record { prints = λ w f. prints-record (w .missing) (w .says) (f .fits) (f .zero); reads = reads }
 
--- for records that fit their forms, keep the limits and have their owners there is an accepted text that stands for them
-pub command-text-stands : (rs : List Record) → Every Fits rs → Keeps rules [] rs → length (commandText rs) ≤ 60000
-    → (verdict (commandText rs) ≡ Accepted) × (records form (lines (commandText rs)) ≡ rs) × (definition (commandText rs) ≡ entriesAt 1 rs)
-command-text-stands rs f k h =
-    let w : (verdict (commandText rs) ≡ Accepted) × (records form (lines (commandText rs)) ≡ rs) = printed-accepted rules print rs (all-print rs f) k h in
-    (w .0, w .1, ap (entriesAt 1) (w .1))
+-- a text is accepted exactly if it is the text of records that fit their forms, keep the limits and have their owners, within 60,000 bytes, where a
+-- shift of 0 may be missing
+pub accepted-exactly : (t : List ℕ) → (verdict t ≡ Accepted → IsCommandText t) × (IsCommandText t → verdict t ≡ Accepted)
+accepted-exactly t = (accepted-text rules writing faithful t, λ is. text-accepted rules writing faithful t is .0)
+
+-- such a text stands for what its lines say
+pub command-text-stands : (t : List ℕ) (is : IsCommandText t)
+    → (records form (lines t) ≡ said rules writing (is .lines)) × (definition t ≡ entriesAt 1 (said rules writing (is .lines)))
+command-text-stands t is =
+    let r : records form (lines t) ≡ said rules writing (is .lines) = text-accepted rules writing faithful t is .1 in
+    (r, ap (entriesAt 1) r)

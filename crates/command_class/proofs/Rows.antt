@@ -32,7 +32,8 @@ use Rattle.command_text.specs.declared.ParamType.the-variants.{Byte}
 use Rattle.command_text.specs.declared.Typed.{Typed}
 use Rattle.command_text.specs.declared.Typed.the-variants.{Is, Not}
 use Rattle.command_text.proofs.Laws.{group-shift, variant-shift, bits-shift, param-level}
-use Rattle.command_class.proofs.Finding.{Lined, lined, kind-letter}
+use Rattle.command_class.proofs.Saying.{kind-letter}
+use Rattle.command_class.proofs.Finding.{Lined, lined}
 
 -- ---- what may be missing
 module _ (l : List ℕ) where
@@ -324,8 +325,8 @@ module _ (t : List ℕ) (p : Place) (l : Line) (readable : Readable rules t p) (
         kind = h .kind;
         says = h .says;
         next = line-here .next;
-        count = step .count;
-        on = step .on;
+        count = step .passes .count;
+        on = step .passes .on;
       }
 
 pub ruleset read-laws = (read-good, read-is)

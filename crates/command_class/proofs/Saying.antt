@@ -1,117 +1,220 @@
--- What a line says can be written: its numbers and its names are within what `Print` asks. Assumes nothing.
-use mathlib.Core.Path.{_≡_, refl, subst}
+-- What a line says is written as the line is: its numbers and its names are within what `Print` asks. Assumes nothing.
+use mathlib.Core.Path.{_≡_, refl, sym, ap, subst, _∙_}
 use mathlib.Core.Bool.{Bool, true, false, cond, _&&_, _||_}
 use mathlib.Core.List.{List, [], _∷_}
 use mathlib.Core.Option.{Option, none, some}
-use Prim.Native.Nat.{ℕ, _≤_}
+use Prim.Native.Nat.{ℕ, zero, suc, _≤_}
 use native.Mathlib.Omega.{arith}
-use lib.Dec.{eqb, leb}
+use lib.Dec.{eqb}
 use lib.ListN.{length}
-use borrow.Author.Tests.{leb-true}
-use Rattle.text.specs.Text.{field, worth, decimal, upTo, missing, optionalUpTo, name, fields}
+use borrow.Author.Tests.{eqb-true}
+use Rattle.text.specs.Text.{field, same, worth, upTo, missing, optionalUpTo, name, fields}
 use Rattle.text.specs.Place.{kindOf}
-use Rattle.text.specs.Print.{Optionally, Every}
+use Rattle.text.specs.Print.{shown, orDash, Optionally, Every, Reads}
 use Rattle.text.specs.Records.{onto, records}
 use Rattle.text.proofs.Tests.{and-left, and-right}
+use Rattle.text.proofs.Printing.{up-to-back, missing-is, same-is, all-fields, letter-field}
 use Rattle.command_text.specs.Form.{Record, param, group, variant, array, bitFlag, bitField, fieldEnum, const, bitmask, value, given, shiftOf, asciiOf}
-use Rattle.command_text.specs.Form.{known, typeOf, paramWords, paramCondition, paramFields, paramForm, groupFields, groupForm, variantFields, variantForm}
+use Rattle.command_text.specs.Form.{typeName, types, typeAmong, known, typeOf, paramWords, paramCondition, paramFields, paramForm, groupFields, groupForm, variantFields, variantForm}
 use Rattle.command_text.specs.Form.{arrayForm, namedForm, bitsFields, bitsForm, bitmaskForm, paramOf, groupOf, sizeOf, bitsOf, ofType, said, paramSaid, form}
 use Rattle.command_text.specs.declared.ParamType.{ParamType}
 use Rattle.command_text.specs.declared.Typed.{Typed}
 use Rattle.command_text.specs.declared.Typed.the-variants.{Is, Not}
-use Rattle.command_class.specs.Print.{BitsFit, Fits}
+use Rattle.command_text.specs.Rules.{shift, rules}
+use Rattle.command_class.specs.Definition.{letter}
+use Rattle.command_class.specs.Print.{digit, shiftShown, print, BitsFit, Fits, writing}
 
-module _ (l : List ℕ) where
-  at-most : (n : ℕ) → upTo n l ≡ true → worth 0 l ≤ n
-  at-most n e = leb-true (worth 0 l) n (and-right (decimal l) (leb (worth 0 l) n) e)
+-- ---- what a field says
+optional-reads : (l : List ℕ) → optionalUpTo 255 l ≡ true → (orDash shown (given l) ≡ l) × Optionally (λ n. n ≤ 255) (given l)
+optional-reads l e = go (missing l) refl e
+  where
+    go : (m : Bool) → missing l ≡ m → (m || upTo 255 l) ≡ true
+        → (orDash shown (cond m none (some (worth 0 l))) ≡ l) × Optionally (λ n. n ≤ 255) (cond m none (some (worth 0 l)))
+    go true q h = (sym (missing-is l q), tt)
+    go false q h = up-to-back 255 l h
 
-  optionally : optionalUpTo 255 l ≡ true → Optionally (λ n. n ≤ 255) (given l)
-  optionally e = go (missing l) e
-    where
-      go : (m : Bool) → (m || upTo 255 l) ≡ true → Optionally (λ n. n ≤ 255) (cond m none (some (worth 0 l)))
-      go true h = tt
-      go false h = at-most 255 h
+-- a shift, which may be missing
+record ShiftReads (l : List ℕ) : Type 0 where
+  pub is : shiftShown (missing l) (shiftOf l) ≡ l
+  pub most : shiftOf l ≤ 255
+  pub zero : missing l ≡ true → shiftOf l ≡ 0
 
-  shifted : optionalUpTo 255 l ≡ true → shiftOf l ≤ 255
-  shifted e = go (missing l) e
-    where
-      go : (m : Bool) → (m || upTo 255 l) ≡ true → cond m 0 (worth 0 l) ≤ 255
-      go true h = omega arith
-      go false h = at-most 255 h
+shift-reads : (l : List ℕ) → optionalUpTo 255 l ≡ true → ShiftReads l
+shift-reads l e = go (missing l) refl e
+  where
+    go : (m : Bool) → missing l ≡ m → (m || upTo 255 l) ≡ true → ShiftReads l
+    go true q h = record { is = rw q (sym (missing-is l q)); most = rw q (omega arith); zero = λ z. rw q }
+    go false q h =
+        let w : (shown (worth 0 l) ≡ l) × (worth 0 l ≤ 255) = up-to-back 255 l h in
+        record { is = rw q (w .0); most = rw q (w .1); zero = λ z. absurd (let y : _≡_ {A = ℕ} 0 1 = cc in omega arith) }
+
+digit-reads : (l : List ℕ) → upTo 1 l ≡ true → digit (asciiOf l) ≡ l
+unfolding shown
+digit-reads l e =
+    let w : (shown (worth 0 l) ≡ l) × (worth 0 l ≤ 1) = up-to-back 1 l e in
+    go (worth 0 l) (w .1) ∙ w .0
+  where
+    go : (n : ℕ) → n ≤ 1 → digit (eqb n 1) ≡ shown n
+    go zero h = refl
+    go (suc zero) h = refl
+    go (suc (suc n)) h = absurd (omega arith)
+
+type-reads : (these : List ParamType) (l : List ℕ) (type : ParamType) → typeAmong these l ≡ Is type → typeName type ≡ l
+type-reads [] l type e = absurd (let z : _≡_ {A = ℕ} 0 1 = cc in omega arith)
+type-reads (t ∷ ts) l type e = by-test (same l (typeName t)) refl (type-reads ts l type) e
+  where
+    by-test : (b : Bool) → same l (typeName t) ≡ b → (typeAmong ts l ≡ Is type → typeName type ≡ l) → cond b (Is t) (typeAmong ts l) ≡ Is type
+        → typeName type ≡ l
+    by-test true q ih h = let w : t ≡ type = cc in rw (← w) (sym (same-is l (typeName t) q))
+    by-test false q ih h = ih h
 
 -- ---- each form
 module _ (fs : List (List ℕ)) where
-  param-fits : (type : ParamType) → paramForm fs ≡ true → Fits (param (paramOf fs type))
-  param-fits type e =
+  -- a line of n fields that says x
+  line : (n : ℕ) (x : Record) (m : Bool) → eqb (length fs) n ≡ true → (length fs ≡ n → print m x ≡ fs) → Fits x → (m ≡ true → shift x ≡ 0)
+      → Reads rules writing fs x
+  line n x m e p f z =
+      record { line = record { says = x; missing = m }; says-it = refl; print-is = p (eqb-true (length fs) n e); fits = record { fits = f; zero = z } }
+
+  -- one without a shift that may be missing
+  plain-line : (n : ℕ) (x : Record) → eqb (length fs) n ≡ true → (length fs ≡ n → print false x ≡ fs) → Fits x → Reads rules writing fs x
+  plain-line n x e p f = line n x false e p f (λ q. absurd (let z : _≡_ {A = ℕ} 0 1 = cc in omega arith))
+
+  param-reads : (type : ParamType) → kindOf fs ≡ 81 → typeOf (field 2 fs) ≡ Is type → paramForm fs ≡ true → Reads rules writing fs (param (paramOf fs type))
+  param-reads type k t e =
       let w : paramFields fs ≡ true = and-right (eqb (length fs) 6) _ e in
       let words : paramWords fs ≡ true = and-left (paramWords fs) (paramCondition fs) w in
       let rest : (known (typeOf (field 2 fs)) && name (field 3 fs)) ≡ true = and-right (upTo 1 (field 1 fs)) _ words in
       let c : paramCondition fs ≡ true = and-right (paramWords fs) (paramCondition fs) w in
-      record {
-        level = at-most (field 1 fs) 1 (and-left (upTo 1 (field 1 fs)) _ words);
-        named = and-right (known (typeOf (field 2 fs))) (name (field 3 fs)) rest;
-        offset = optionally (field 4 fs) (and-left (optionalUpTo 255 (field 4 fs)) (optionalUpTo 255 (field 5 fs)) c);
-        mask = optionally (field 5 fs) (and-right (optionalUpTo 255 (field 4 fs)) (optionalUpTo 255 (field 5 fs)) c);
-      }
+      let one : (shown (value (field 1 fs)) ≡ field 1 fs) × (value (field 1 fs) ≤ 1) =
+      up-to-back 1 (field 1 fs) (and-left (upTo 1 (field 1 fs)) _ words) in
+      let four : (orDash shown (given (field 4 fs)) ≡ field 4 fs) × Optionally (λ n. n ≤ 255) (given (field 4 fs)) =
+      optional-reads (field 4 fs) (and-left (optionalUpTo 255 (field 4 fs)) (optionalUpTo 255 (field 5 fs)) c) in
+      let five : (orDash shown (given (field 5 fs)) ≡ field 5 fs) × Optionally (λ n. n ≤ 255) (given (field 5 fs)) =
+      optional-reads (field 5 fs) (and-right (optionalUpTo 255 (field 4 fs)) (optionalUpTo 255 (field 5 fs)) c) in
+      plain-line 6 (param (paramOf fs type)) (and-left (eqb (length fs) 6) _ e)
+      (λ n. rw (one .0, type-reads types (field 2 fs) type t, four .0, five .0, ← letter-field fs 81 k (omega arith)) (all-fields 6 0 fs n))
+      (record { level = one .1; named = and-right (known (typeOf (field 2 fs))) (name (field 3 fs)) rest; offset = four .1; mask = five .1 })
 
-  group-fits : groupForm fs ≡ true → Fits (group (groupOf fs))
-  group-fits e =
+  group-reads : kindOf fs ≡ 71 → groupForm fs ≡ true → Reads rules writing fs (group (groupOf fs))
+  group-reads k e =
       let w : groupFields fs ≡ true = and-right (eqb (length fs) 5) _ e in
       let x : (upTo 255 (field 2 fs) && (upTo 255 (field 3 fs) && upTo 255 (field 4 fs))) ≡ true = and-right (name (field 1 fs)) _ w in
-      let y : (upTo 255 (field 3 fs) && upTo 255 (field 4 fs)) ≡ true = and-right (upTo 255 (field 2 fs)) _ x in (
-        and-left (name (field 1 fs)) _ w,
-        at-most (field 2 fs) 255 (and-left (upTo 255 (field 2 fs)) _ x),
-        at-most (field 3 fs) 255 (and-left (upTo 255 (field 3 fs)) _ y),
-        at-most (field 4 fs) 255 (and-right (upTo 255 (field 3 fs)) _ y),
-      )
+      let y : (upTo 255 (field 3 fs) && upTo 255 (field 4 fs)) ≡ true = and-right (upTo 255 (field 2 fs)) _ x in
+      let two : (shown (value (field 2 fs)) ≡ field 2 fs) × (value (field 2 fs) ≤ 255) =
+      up-to-back 255 (field 2 fs) (and-left (upTo 255 (field 2 fs)) _ x) in
+      let three : (shown (value (field 3 fs)) ≡ field 3 fs) × (value (field 3 fs) ≤ 255) =
+      up-to-back 255 (field 3 fs) (and-left (upTo 255 (field 3 fs)) _ y) in
+      let four : (shown (value (field 4 fs)) ≡ field 4 fs) × (value (field 4 fs) ≤ 255) =
+      up-to-back 255 (field 4 fs) (and-right (upTo 255 (field 3 fs)) _ y) in
+      plain-line 5 (group (groupOf fs)) (and-left (eqb (length fs) 5) _ e)
+      (λ n. rw (two .0, three .0, four .0, ← letter-field fs 71 k (omega arith)) (all-fields 5 0 fs n))
+      (and-left (name (field 1 fs)) _ w, two .1, three .1, four .1)
 
-  variant-fits : variantForm fs ≡ true → Fits (variant (sizeOf fs))
-  variant-fits e =
+  variant-reads : kindOf fs ≡ 82 → variantForm fs ≡ true → Reads rules writing fs (variant (sizeOf fs))
+  variant-reads k e =
       let w : variantFields fs ≡ true = and-right (eqb (length fs) 5) _ e in
       let x : (upTo 255 (field 2 fs) && (optionalUpTo 255 (field 3 fs) && upTo 1 (field 4 fs))) ≡ true = and-right (upTo 255 (field 1 fs)) _ w in
-      let y : (optionalUpTo 255 (field 3 fs) && upTo 1 (field 4 fs)) ≡ true = and-right (upTo 255 (field 2 fs)) _ x in (
-        at-most (field 1 fs) 255 (and-left (upTo 255 (field 1 fs)) _ w),
-        at-most (field 2 fs) 255 (and-left (upTo 255 (field 2 fs)) _ x),
-        shifted (field 3 fs) (and-left (optionalUpTo 255 (field 3 fs)) _ y),
-      )
+      let y : (optionalUpTo 255 (field 3 fs) && upTo 1 (field 4 fs)) ≡ true = and-right (upTo 255 (field 2 fs)) _ x in
+      let one : (shown (value (field 1 fs)) ≡ field 1 fs) × (value (field 1 fs) ≤ 255) =
+      up-to-back 255 (field 1 fs) (and-left (upTo 255 (field 1 fs)) _ w) in
+      let two : (shown (value (field 2 fs)) ≡ field 2 fs) × (value (field 2 fs) ≤ 255) =
+      up-to-back 255 (field 2 fs) (and-left (upTo 255 (field 2 fs)) _ x) in
+      let three : ShiftReads (field 3 fs) = shift-reads (field 3 fs) (and-left (optionalUpTo 255 (field 3 fs)) _ y) in
+      let four : digit (asciiOf (field 4 fs)) ≡ field 4 fs = digit-reads (field 4 fs) (and-right (optionalUpTo 255 (field 3 fs)) _ y) in
+      line 5 (variant (sizeOf fs)) (missing (field 3 fs)) (and-left (eqb (length fs) 5) _ e)
+      (λ n. rw (one .0, two .0, three .is, four, ← letter-field fs 82 k (omega arith)) (all-fields 5 0 fs n))
+      (one .1, two .1, three .most) (three .zero)
 
-  array-fits : arrayForm fs ≡ true → Fits (array (value (field 1 fs)) (asciiOf (field 2 fs)))
-  array-fits e = at-most (field 1 fs) 255 (and-left (upTo 255 (field 1 fs)) (upTo 1 (field 2 fs)) (and-right (eqb (length fs) 3) _ e))
+  array-reads : kindOf fs ≡ 65 → arrayForm fs ≡ true → Reads rules writing fs (array (value (field 1 fs)) (asciiOf (field 2 fs)))
+  array-reads k e =
+      let w : (upTo 255 (field 1 fs) && upTo 1 (field 2 fs)) ≡ true = and-right (eqb (length fs) 3) _ e in
+      let one : (shown (value (field 1 fs)) ≡ field 1 fs) × (value (field 1 fs) ≤ 255) =
+      up-to-back 255 (field 1 fs) (and-left (upTo 255 (field 1 fs)) _ w) in
+      plain-line 3 _ (and-left (eqb (length fs) 3) _ e)
+      (λ n. rw (one .0, digit-reads (field 2 fs) (and-right (upTo 255 (field 1 fs)) _ w), ← letter-field fs 65 k (omega arith)) (all-fields 3 0 fs n))
+      (one .1)
 
-  named-fits : namedForm fs ≡ true → (value (field 1 fs) ≤ 255) × (name (field 2 fs) ≡ true)
-  named-fits e =
+  -- a T or a K
+  record Named : Type 0 where
+    pub number : shown (value (field 1 fs)) ≡ field 1 fs
+    pub most : value (field 1 fs) ≤ 255
+    pub named : name (field 2 fs) ≡ true
+
+  named : namedForm fs ≡ true → Named
+  named e =
       let w : (upTo 255 (field 1 fs) && name (field 2 fs)) ≡ true = and-right (eqb (length fs) 3) _ e in
-      (at-most (field 1 fs) 255 (and-left (upTo 255 (field 1 fs)) _ w), and-right (upTo 255 (field 1 fs)) _ w)
+      let one : (shown (value (field 1 fs)) ≡ field 1 fs) × (value (field 1 fs) ≤ 255) =
+      up-to-back 255 (field 1 fs) (and-left (upTo 255 (field 1 fs)) _ w) in
+      record { number = one .0; most = one .1; named = and-right (upTo 255 (field 1 fs)) _ w }
 
-  bits-fit : bitsForm fs ≡ true → BitsFit (bitsOf fs)
-  bits-fit e =
+  flag-reads : kindOf fs ≡ 84 → namedForm fs ≡ true → Reads rules writing fs (bitFlag (value (field 1 fs)) (field 2 fs))
+  flag-reads k e =
+      plain-line 3 _ (and-left (eqb (length fs) 3) _ e)
+      (λ n. rw (named e .number, ← letter-field fs 84 k (omega arith)) (all-fields 3 0 fs n)) (named e .most, named e .named)
+
+  const-reads : kindOf fs ≡ 75 → namedForm fs ≡ true → Reads rules writing fs (const (value (field 1 fs)) (field 2 fs))
+  const-reads k e =
+      plain-line 3 _ (and-left (eqb (length fs) 3) _ e)
+      (λ n. rw (named e .number, ← letter-field fs 75 k (omega arith)) (all-fields 3 0 fs n)) (named e .most, named e .named)
+
+  -- an S or a U
+  record Bitten : Type 0 where
+    pub mask : shown (value (field 1 fs)) ≡ field 1 fs
+    pub shift : ShiftReads (field 2 fs)
+    pub fits : BitsFit (bitsOf fs)
+
+  bitten : bitsForm fs ≡ true → Bitten
+  bitten e =
       let w : bitsFields fs ≡ true = and-right (eqb (length fs) 4) _ e in
       let x : (optionalUpTo 255 (field 2 fs) && name (field 3 fs)) ≡ true = and-right (upTo 255 (field 1 fs)) _ w in
+      let one : (shown (value (field 1 fs)) ≡ field 1 fs) × (value (field 1 fs) ≤ 255) =
+      up-to-back 255 (field 1 fs) (and-left (upTo 255 (field 1 fs)) _ w) in
+      let two : ShiftReads (field 2 fs) = shift-reads (field 2 fs) (and-left (optionalUpTo 255 (field 2 fs)) _ x) in
       record {
-        mask = at-most (field 1 fs) 255 (and-left (upTo 255 (field 1 fs)) _ w);
-        shift = shifted (field 2 fs) (and-left (optionalUpTo 255 (field 2 fs)) _ x);
-        named = and-right (optionalUpTo 255 (field 2 fs)) _ x;
+        mask = one .0;
+        shift = two;
+        fits = record { mask = one .1; shift = two .most; named = and-right (optionalUpTo 255 (field 2 fs)) _ x };
       }
 
-  bitmask-fits : bitmaskForm fs ≡ true → Fits (bitmask (given (field 1 fs)))
-  bitmask-fits e = optionally (field 1 fs) (and-right (eqb (length fs) 2) _ e)
+  field-reads : kindOf fs ≡ 83 → bitsForm fs ≡ true → Reads rules writing fs (bitField (bitsOf fs))
+  field-reads k e =
+      line 4 (bitField (bitsOf fs)) (missing (field 2 fs)) (and-left (eqb (length fs) 4) _ e)
+      (λ n. rw (bitten e .mask, bitten e .shift .is, ← letter-field fs 83 k (omega arith)) (all-fields 4 0 fs n)) (bitten e .fits) (bitten e .shift .zero)
+
+  enum-reads : kindOf fs ≡ 85 → bitsForm fs ≡ true → Reads rules writing fs (fieldEnum (bitsOf fs))
+  enum-reads k e =
+      line 4 (fieldEnum (bitsOf fs)) (missing (field 2 fs)) (and-left (eqb (length fs) 4) _ e)
+      (λ n. rw (bitten e .mask, bitten e .shift .is, ← letter-field fs 85 k (omega arith)) (all-fields 4 0 fs n)) (bitten e .fits) (bitten e .shift .zero)
+
+  bitmask-reads : kindOf fs ≡ 77 → bitmaskForm fs ≡ true → Reads rules writing fs (bitmask (given (field 1 fs)))
+  bitmask-reads k e =
+      let one : (orDash shown (given (field 1 fs)) ≡ field 1 fs) × Optionally (λ n. n ≤ 255) (given (field 1 fs)) =
+      optional-reads (field 1 fs) (and-right (eqb (length fs) 2) _ e) in
+      plain-line 2 _ (and-left (eqb (length fs) 2) _ e)
+      (λ n. rw (one .0, ← letter-field fs 77 k (omega arith)) (all-fields 2 0 fs n)) (one .1)
 
   -- ---- what the fields say
   module _ (x : Record) where
-    one : (b : Bool) (y : Record) → (b ≡ true → Fits y) → said b (some y) ≡ some x → Fits x
-    one true y f e = let q : y ≡ x = cc in subst Fits q (f refl)
+    one : (b : Bool) (y : Record) → (b ≡ true → Reads rules writing fs y) → said b (some y) ≡ some x → Reads rules writing fs x
+    one true y f e = let q : y ≡ x = cc in subst (Reads rules writing fs) q (f refl)
     one false y f e = absurd (let z : _≡_ {A = ℕ} 0 1 = cc in omega arith)
 
-    one-param : (b : Bool) (o : Typed) → ((type : ParamType) → b ≡ true → Fits (param (paramOf fs type))) → said b (ofType fs o) ≡ some x → Fits x
-    one-param true (Is type) f e = let q : param (paramOf fs type) ≡ x = cc in subst Fits q (f type refl)
-    one-param true Not f e = absurd (let z : _≡_ {A = ℕ} 0 1 = cc in omega arith)
-    one-param false o f e = absurd (let z : _≡_ {A = ℕ} 0 1 = cc in omega arith)
+    one-param : (b : Bool) (o : Typed) → paramForm fs ≡ b → typeOf (field 2 fs) ≡ o
+        → ((type : ParamType) → typeOf (field 2 fs) ≡ Is type → paramForm fs ≡ true → Reads rules writing fs (param (paramOf fs type)))
+        → said b (ofType fs o) ≡ some x → Reads rules writing fs x
+    one-param true (Is type) p t f e = let q : param (paramOf fs type) ≡ x = cc in subst (Reads rules writing fs) q (f type t p)
+    one-param true Not p t f e = absurd (let z : _≡_ {A = ℕ} 0 1 = cc in omega arith)
+    one-param false o p t f e = absurd (let z : _≡_ {A = ℕ} 0 1 = cc in omega arith)
 
-    pub said-fits : form fs ≡ some x → Fits x
-    said-fits e = by-kind (eqb (kindOf fs) 81) (eqb (kindOf fs) 71) (eqb (kindOf fs) 82) (eqb (kindOf fs) 65) (eqb (kindOf fs) 84) (eqb (kindOf fs) 83)
-        (eqb (kindOf fs) 85) (eqb (kindOf fs) 75) (eqb (kindOf fs) 77) e
+    pub reads : form fs ≡ some x → Reads rules writing fs x
+    reads e = by-kind (eqb (kindOf fs) 81) (eqb (kindOf fs) 71) (eqb (kindOf fs) 82) (eqb (kindOf fs) 65) (eqb (kindOf fs) 84) (eqb (kindOf fs) 83)
+        (eqb (kindOf fs) 85) (eqb (kindOf fs) 75) (eqb (kindOf fs) 77)
+        refl refl refl refl refl refl refl refl refl e
       where
         by-kind : (q g r a t s u k m : Bool)
+            → eqb (kindOf fs) 81 ≡ q → eqb (kindOf fs) 71 ≡ g → eqb (kindOf fs) 82 ≡ r → eqb (kindOf fs) 65 ≡ a → eqb (kindOf fs) 84 ≡ t
+            → eqb (kindOf fs) 83 ≡ s → eqb (kindOf fs) 85 ≡ u → eqb (kindOf fs) 75 ≡ k → eqb (kindOf fs) 77 ≡ m
             → cond q (paramSaid fs)
             (cond g (said (groupForm fs) (some (group (groupOf fs))))
             (cond r (said (variantForm fs) (some (variant (sizeOf fs))))
@@ -121,17 +224,40 @@ module _ (fs : List (List ℕ)) where
             (cond u (said (bitsForm fs) (some (fieldEnum (bitsOf fs))))
             (cond k (said (namedForm fs) (some (const (value (field 1 fs)) (field 2 fs))))
             (cond m (said (bitmaskForm fs) (some (bitmask (given (field 1 fs))))) none)))))))) ≡ some x
-            → Fits x
-        by-kind true g r a t s u k m e = one-param (paramForm fs) (typeOf (field 2 fs)) param-fits e
-        by-kind false true r a t s u k m e = one (groupForm fs) (group (groupOf fs)) group-fits e
-        by-kind false false true a t s u k m e = one (variantForm fs) (variant (sizeOf fs)) variant-fits e
-        by-kind false false false true t s u k m e = one (arrayForm fs) (array (value (field 1 fs)) (asciiOf (field 2 fs))) array-fits e
-        by-kind false false false false true s u k m e = one (namedForm fs) (bitFlag (value (field 1 fs)) (field 2 fs)) named-fits e
-        by-kind false false false false false true u k m e = one (bitsForm fs) (bitField (bitsOf fs)) bits-fit e
-        by-kind false false false false false false true k m e = one (bitsForm fs) (fieldEnum (bitsOf fs)) bits-fit e
-        by-kind false false false false false false false true m e = one (namedForm fs) (const (value (field 1 fs)) (field 2 fs)) named-fits e
-        by-kind false false false false false false false false true e = one (bitmaskForm fs) (bitmask (given (field 1 fs))) bitmask-fits e
-        by-kind false false false false false false false false false e = absurd (let z : _≡_ {A = ℕ} 0 1 = cc in omega arith)
+            → Reads rules writing fs x
+        by-kind true g r a t s u k m eq eg er ea et es eu ek em e =
+            one-param (paramForm fs) (typeOf (field 2 fs)) refl refl (λ type. param-reads type (eqb-true _ _ eq)) e
+        by-kind false true r a t s u k m eq eg er ea et es eu ek em e = one (groupForm fs) _ (group-reads (eqb-true _ _ eg)) e
+        by-kind false false true a t s u k m eq eg er ea et es eu ek em e = one (variantForm fs) _ (variant-reads (eqb-true _ _ er)) e
+        by-kind false false false true t s u k m eq eg er ea et es eu ek em e = one (arrayForm fs) _ (array-reads (eqb-true _ _ ea)) e
+        by-kind false false false false true s u k m eq eg er ea et es eu ek em e = one (namedForm fs) _ (flag-reads (eqb-true _ _ et)) e
+        by-kind false false false false false true u k m eq eg er ea et es eu ek em e = one (bitsForm fs) _ (field-reads (eqb-true _ _ es)) e
+        by-kind false false false false false false true k m eq eg er ea et es eu ek em e = one (bitsForm fs) _ (enum-reads (eqb-true _ _ eu)) e
+        by-kind false false false false false false false true m eq eg er ea et es eu ek em e = one (namedForm fs) _ (const-reads (eqb-true _ _ ek)) e
+        by-kind false false false false false false false false true eq eg er ea et es eu ek em e =
+            one (bitmaskForm fs) _ (bitmask-reads (eqb-true _ _ em)) e
+        by-kind false false false false false false false false false eq eg er ea et es eu ek em e =
+            absurd (let z : _≡_ {A = ℕ} 0 1 = cc in omega arith)
+
+    -- the kind of a line whose record this is
+    pub kind-letter : form fs ≡ some x → kindOf fs ≡ letter x
+    kind-letter e =
+        let w : Reads rules writing fs x = reads e in
+        ap kindOf (sym (w .print-is)) ∙ by-record (w .line .missing) (w .line .says) ∙ ap letter (w .says-it)
+      where
+        by-record : (m : Bool) (x : Record) → kindOf (print m x) ≡ letter x
+        by-record m (param q) = refl
+        by-record m (group g) = refl
+        by-record m (variant s) = refl
+        by-record m (array n ascii) = refl
+        by-record m (bitFlag mask n) = refl
+        by-record m (bitField b) = refl
+        by-record m (fieldEnum b) = refl
+        by-record m (const v n) = refl
+        by-record m (bitmask n) = refl
+
+    said-fits : form fs ≡ some x → Fits x
+    said-fits e = let w : Reads rules writing fs x = reads e in rw (← w .says-it) (w .fits .fits)
 
 -- every record of a text can be written
 pub records-fit : (ls : List (List ℕ)) → Every Fits (records form ls)

@@ -4,40 +4,29 @@ use mathlib.Core.Bool.{Bool, true, cond}
 use mathlib.Core.Path.{_≡_}
 use mathlib.Core.List.{List, [], _∷_}
 use Rattle.text.specs.Text.{name}
-use Rattle.text.specs.Print.{shown, orDash, Optionally, printed}
-use Rattle.command_text.specs.Form.{Param, Bits, Record, param, group, variant, array, bitFlag, bitField, fieldEnum, const, bitmask}
-use Rattle.command_text.specs.declared.ParamType.{ParamType}
-use Rattle.command_text.specs.declared.ParamType.the-variants.{Byte, StructByte, Const, Marker, Word, Bit24, Dword, Array, Variant, Bitmask, MultiArray}
-
--- the name of a type
-abbrev pub typeName : ParamType → List ℕ
-typeName Byte = 0x42 ∷ 0x59 ∷ 0x54 ∷ 0x45 ∷ []
-typeName StructByte = 0x53 ∷ 0x54 ∷ 0x52 ∷ 0x55 ∷ 0x43 ∷ 0x54 ∷ 0x5f ∷ 0x42 ∷ 0x59 ∷ 0x54 ∷ 0x45 ∷ []
-typeName Const = 0x43 ∷ 0x4f ∷ 0x4e ∷ 0x53 ∷ 0x54 ∷ []
-typeName Marker = 0x4d ∷ 0x41 ∷ 0x52 ∷ 0x4b ∷ 0x45 ∷ 0x52 ∷ []
-typeName Word = 0x57 ∷ 0x4f ∷ 0x52 ∷ 0x44 ∷ []
-typeName Bit24 = 0x42 ∷ 0x49 ∷ 0x54 ∷ 0x5f ∷ 0x32 ∷ 0x34 ∷ []
-typeName Dword = 0x44 ∷ 0x57 ∷ 0x4f ∷ 0x52 ∷ 0x44 ∷ []
-typeName Array = 0x41 ∷ 0x52 ∷ 0x52 ∷ 0x41 ∷ 0x59 ∷ []
-typeName Variant = 0x56 ∷ 0x41 ∷ 0x52 ∷ 0x49 ∷ 0x41 ∷ 0x4e ∷ 0x54 ∷ []
-typeName Bitmask = 0x42 ∷ 0x49 ∷ 0x54 ∷ 0x4d ∷ 0x41 ∷ 0x53 ∷ 0x4b ∷ []
-typeName MultiArray = 0x4d ∷ 0x55 ∷ 0x4c ∷ 0x54 ∷ 0x49 ∷ 0x5f ∷ 0x41 ∷ 0x52 ∷ 0x52 ∷ 0x41 ∷ 0x59 ∷ []
+use Rattle.text.specs.Print.{shown, orDash, Optionally, Writing, IsText}
+use Rattle.command_text.specs.Form.{Param, Bits, Record, param, group, variant, array, bitFlag, bitField, fieldEnum, const, bitmask, typeName}
+use Rattle.command_text.specs.Rules.{shift, rules}
 
 -- ascii, as 0 or 1
 abbrev pub digit : Bool → List ℕ
 digit b = cond b (0x31 ∷ []) (0x30 ∷ [])
 
--- the fields of the line of a record
-abbrev pub print : Record → List (List ℕ)
-print (param q) = (0x51 ∷ []) ∷ shown (q .level) ∷ typeName (q .type) ∷ q .name ∷ orDash shown (q .offset) ∷ orDash shown (q .mask) ∷ []
-print (group g) = (0x47 ∷ []) ∷ g .name ∷ shown (g .offset) ∷ shown (g .mask) ∷ shown (g .shift) ∷ []
-print (variant s) = (0x52 ∷ []) ∷ shown (s .offset) ∷ shown (s .mask) ∷ shown (s .shift) ∷ digit (s .ascii) ∷ []
-print (array length ascii) = (0x41 ∷ []) ∷ shown length ∷ digit ascii ∷ []
-print (bitFlag mask n) = (0x54 ∷ []) ∷ shown mask ∷ n ∷ []
-print (bitField b) = (0x53 ∷ []) ∷ shown (b .mask) ∷ shown (b .shift) ∷ b .name ∷ []
-print (fieldEnum b) = (0x55 ∷ []) ∷ shown (b .mask) ∷ shown (b .shift) ∷ b .name ∷ []
-print (const value n) = (0x4b ∷ []) ∷ shown value ∷ n ∷ []
-print (bitmask length) = (0x4d ∷ []) ∷ orDash shown length ∷ []
+-- T31: a shift; one that is missing is 0
+abbrev pub shiftShown : Bool → ℕ → List ℕ
+shiftShown missing shift = cond missing (0x2d ∷ []) (shown shift)
+
+-- the fields of the line of a record; a shift of R, S and U may be missing
+abbrev pub print : Bool → Record → List (List ℕ)
+print m (param q) = (0x51 ∷ []) ∷ shown (q .level) ∷ typeName (q .type) ∷ q .name ∷ orDash shown (q .offset) ∷ orDash shown (q .mask) ∷ []
+print m (group g) = (0x47 ∷ []) ∷ g .name ∷ shown (g .offset) ∷ shown (g .mask) ∷ shown (g .shift) ∷ []
+print m (variant s) = (0x52 ∷ []) ∷ shown (s .offset) ∷ shown (s .mask) ∷ shiftShown m (s .shift) ∷ digit (s .ascii) ∷ []
+print m (array length ascii) = (0x41 ∷ []) ∷ shown length ∷ digit ascii ∷ []
+print m (bitFlag mask n) = (0x54 ∷ []) ∷ shown mask ∷ n ∷ []
+print m (bitField b) = (0x53 ∷ []) ∷ shown (b .mask) ∷ shiftShown m (b .shift) ∷ b .name ∷ []
+print m (fieldEnum b) = (0x55 ∷ []) ∷ shown (b .mask) ∷ shiftShown m (b .shift) ∷ b .name ∷ []
+print m (const value n) = (0x4b ∷ []) ∷ shown value ∷ n ∷ []
+print m (bitmask length) = (0x4d ∷ []) ∷ orDash shown length ∷ []
 
 -- what a Q can say
 pub record ParamFits (q : Param) : Type 0 where
@@ -64,6 +53,20 @@ Fits (fieldEnum b) = BitsFit b
 Fits (const value n) = (value ≤ 255) × (name n ≡ true)
 Fits (bitmask length) = Optionally (λ n. n ≤ 255) length
 
--- the text of records
-abbrev pub commandText : List Record → List ℕ
-commandText rs = printed print rs
+-- a line: what it says, and whether its shift is missing
+pub record Written : Type 0 where
+  pub says : Record
+  pub missing : Bool
+
+-- a shift that is missing says 0
+pub record LineFits (w : Written) : Type 0 where
+  pub fits : Fits (w .says)
+  pub zero : w .missing ≡ true → shift (w .says) ≡ 0
+
+abbrev pub writing : Writing Record Written
+writing = record { says = λ w. w .says; print = λ w. print (w .missing) (w .says); Fits = LineFits }
+
+-- R1, R2, R3: is it the text of records that fit their forms, keep the limits and have their owners, within 60,000 bytes;
+-- a shift of 0 may be written as a missing one
+abbrev pub IsCommandText : List ℕ → Type 0
+IsCommandText t = IsText rules writing t

@@ -1,37 +1,65 @@
 -- Laws of the command text: how a line is read. Assumes nothing.
 use mathlib.Core.Path.{_≡_, refl, sym, ap, _∙_}
-use mathlib.Core.Bool.{Bool, true, false, _&&_}
-use mathlib.Core.List.{List}
+use mathlib.Core.Bool.{Bool, true, false, cond, _&&_}
+use mathlib.Core.List.{List, [], _∷_}
 use mathlib.Core.Option.{Option, some}
-use Prim.Native.Nat.{ℕ}
+use Prim.Native.Nat.{ℕ, zero, suc, _≤_, _<_}
 use native.Mathlib.Omega.{arith}
 use lib.Dec.{eqb}
-use lib.ListN.{length}
+use lib.ListN.{length, getD}
 use borrow.Author.Tests.{ne-eqb}
-use Rattle.text.specs.Text.{field, upTo, optionalUpTo, optionalValue, name}
+use Rattle.text.specs.Text.{field, same, upTo, optionalUpTo, optionalValue, name}
 use Rattle.text.specs.Text as text
+use Rattle.text.specs.Scan.{wordIn}
 use Rattle.text.specs.Place.{kindOf, cells}
 use Rattle.text.specs.declared.Line.{Line}
 use Rattle.text.proofs.Laws.{cells-length}
 use Rattle.text.proofs.Tests.{and-left, and-right, count-of, value-of, optional-value-of}
 use Rattle.command_kept.specs.declared.Form.{Form}
 use Rattle.command_kept.specs.declared.Form.the-variants.{Param, Group, Item, Bad}
-use Rattle.command_text.specs.Form.{Record, group, variant, bitField, fieldEnum, either, typeOf, known, paramWords, paramCondition, paramFields}
+use Rattle.command_text.specs.Form.{Record, group, variant, bitField, fieldEnum, typeName, types, typeAmong, typeOf, known, paramWords, paramCondition, paramFields}
 use Rattle.command_text.specs.Form.{groupFields, groupForm, variantFields, variantForm, arrayForm, namedForm, bitsFields, bitsForm, bitmaskForm}
 use Rattle.command_text.specs.Form.{groupOf, sizeOf, bitsOf, ofType, said, paramSaid, form}
 use Rattle.command_text.specs.Shape.{tagged, shape}
 use Rattle.command_text.specs.declared.ParamType.{ParamType}
+use Rattle.command_text.specs.declared.ParamType.the-variants.{Byte}
 use Rattle.command_text.specs.declared.Typed.{Typed}
 use Rattle.command_text.specs.declared.Typed.the-variants.{Is, Not}
 
 -- ---- the names of types
+abbrev words : List ParamType → List (List ℕ)
+words [] = []
+words (type ∷ others) = typeName type ∷ words others
+
+module _ (s : List ℕ) (d : ParamType) where
+  found : (these : List ParamType) (k : ℕ) → k ≡ wordIn (words these) s → k < length these → Is (getD these k d) ≡ typeAmong these s
+  found [] k is h = absurd (omega arith)
+  found (type ∷ others) k is h = go (same s (typeName type)) k is h (found others)
+    where
+      go : (b : Bool) (k : ℕ) → k ≡ cond b 0 (suc (wordIn (words others) s)) → k < suc (length others)
+          → ((k : ℕ) → k ≡ wordIn (words others) s → k < length others → Is (getD others k d) ≡ typeAmong others s)
+          → Is (getD (type ∷ others) k d) ≡ cond b (Is type) (typeAmong others s)
+      go true k e h ih = rw e
+      go false zero e h ih = absurd (omega arith)
+      go false (suc k) e h ih = ih k (omega arith) (omega arith)
+
+  unfound : (these : List ParamType) → length these ≤ wordIn (words these) s → Not ≡ typeAmong these s
+  unfound [] h = refl
+  unfound (type ∷ others) h = go (same s (typeName type)) h (unfound others)
+    where
+      go : (b : Bool) → suc (length others) ≤ cond b 0 (suc (wordIn (words others) s)) → (length others ≤ wordIn (words others) s → Not ≡ typeAmong others s)
+          → Not ≡ cond b (Is type) (typeAmong others s)
+      go true h ih = absurd (omega arith)
+      go false h ih = ih (omega arith)
+
+module _ (s : List ℕ) (k : ℕ) (is : k ≡ wordIn (words types) s) where
+  pub type-is : (d : ParamType) → k < 11 → Is (getD types k d) ≡ typeOf s
+  type-is d h = found s d types k is h
+
+  pub type-none : 11 ≤ k → Not ≡ typeOf s
+  type-none h = unfound s Byte types (rw is at h)
+
 module _ (r a : Typed) (says : r ≡ a) where
-  pub either-is : (b : Typed) (type : ParamType) → r ≡ Is type → Is type ≡ either a b
-  either-is b type e = rw (← says, e)
-
-  pub either-not : (b x : Typed) → r ≡ Not → x ≡ b → x ≡ either a b
-  either-not b x e h = rw (← says, e) h
-
   pub known-is : (type : ParamType) → r ≡ Is type → true ≡ known a
   known-is type e = rw (← says, e)
 
@@ -41,7 +69,7 @@ module _ (r a : Typed) (says : r ≡ a) where
 pub of-type : (s f : List ℕ) (r : Bool) → s ≡ f → r ≡ known (typeOf s) → r ≡ known (typeOf f)
 of-type s f r part e = rw part at e
 
-pub ruleset type-laws = (either-is, either-not, known-is, known-not)
+pub ruleset type-laws = (type-is, type-none, known-is, known-not)
 
 -- ---- a line of n fields that has a form, or not
 module _ (t : List ℕ) (l : Line) (n : ℕ) (fields : Bool) (x : Option Record) where

@@ -68,37 +68,32 @@ shiftOf l = cond (missing l) 0 (value l)
 abbrev pub asciiOf : List ℕ → Bool
 asciiOf l = eqb (value l) 1
 
--- T30: the types of one byte, BYTE, STRUCT_BYTE, CONST, MARKER
-abbrev pub byteType : List ℕ → Typed
-byteType l =
-    cond (same l (0x42 ∷ 0x59 ∷ 0x54 ∷ 0x45 ∷ [])) (Is Byte)
-    (cond (same l (0x53 ∷ 0x54 ∷ 0x52 ∷ 0x55 ∷ 0x43 ∷ 0x54 ∷ 0x5f ∷ 0x42 ∷ 0x59 ∷ 0x54 ∷ 0x45 ∷ [])) (Is StructByte)
-    (cond (same l (0x43 ∷ 0x4f ∷ 0x4e ∷ 0x53 ∷ 0x54 ∷ [])) (Is Const)
-    (cond (same l (0x4d ∷ 0x41 ∷ 0x52 ∷ 0x4b ∷ 0x45 ∷ 0x52 ∷ [])) (Is Marker) Not)))
+-- T30: the word for a type
+abbrev pub typeName : ParamType → List ℕ
+typeName Byte = 0x42 ∷ 0x59 ∷ 0x54 ∷ 0x45 ∷ []
+typeName StructByte = 0x53 ∷ 0x54 ∷ 0x52 ∷ 0x55 ∷ 0x43 ∷ 0x54 ∷ 0x5f ∷ 0x42 ∷ 0x59 ∷ 0x54 ∷ 0x45 ∷ []
+typeName Const = 0x43 ∷ 0x4f ∷ 0x4e ∷ 0x53 ∷ 0x54 ∷ []
+typeName Marker = 0x4d ∷ 0x41 ∷ 0x52 ∷ 0x4b ∷ 0x45 ∷ 0x52 ∷ []
+typeName Word = 0x57 ∷ 0x4f ∷ 0x52 ∷ 0x44 ∷ []
+typeName Bit24 = 0x42 ∷ 0x49 ∷ 0x54 ∷ 0x5f ∷ 0x32 ∷ 0x34 ∷ []
+typeName Dword = 0x44 ∷ 0x57 ∷ 0x4f ∷ 0x52 ∷ 0x44 ∷ []
+typeName Array = 0x41 ∷ 0x52 ∷ 0x52 ∷ 0x41 ∷ 0x59 ∷ []
+typeName Variant = 0x56 ∷ 0x41 ∷ 0x52 ∷ 0x49 ∷ 0x41 ∷ 0x4e ∷ 0x54 ∷ []
+typeName Bitmask = 0x42 ∷ 0x49 ∷ 0x54 ∷ 0x4d ∷ 0x41 ∷ 0x53 ∷ 0x4b ∷ []
+typeName MultiArray = 0x4d ∷ 0x55 ∷ 0x4c ∷ 0x54 ∷ 0x49 ∷ 0x5f ∷ 0x41 ∷ 0x52 ∷ 0x52 ∷ 0x41 ∷ 0x59 ∷ []
 
--- T30: those of two to four bytes, WORD, BIT_24, DWORD
-abbrev pub wordType : List ℕ → Typed
-wordType l =
-    cond (same l (0x57 ∷ 0x4f ∷ 0x52 ∷ 0x44 ∷ [])) (Is Word)
-    (cond (same l (0x42 ∷ 0x49 ∷ 0x54 ∷ 0x5f ∷ 0x32 ∷ 0x34 ∷ [])) (Is Bit24)
-    (cond (same l (0x44 ∷ 0x57 ∷ 0x4f ∷ 0x52 ∷ 0x44 ∷ [])) (Is Dword) Not))
+-- T30: all of them
+abbrev pub types : List ParamType
+types = Byte ∷ StructByte ∷ Const ∷ Marker ∷ Word ∷ Bit24 ∷ Dword ∷ Array ∷ Variant ∷ Bitmask ∷ MultiArray ∷ []
 
--- T30: the others, ARRAY, VARIANT, BITMASK, MULTI_ARRAY
-abbrev pub openType : List ℕ → Typed
-openType l =
-    cond (same l (0x41 ∷ 0x52 ∷ 0x52 ∷ 0x41 ∷ 0x59 ∷ [])) (Is Array)
-    (cond (same l (0x56 ∷ 0x41 ∷ 0x52 ∷ 0x49 ∷ 0x41 ∷ 0x4e ∷ 0x54 ∷ [])) (Is Variant)
-    (cond (same l (0x42 ∷ 0x49 ∷ 0x54 ∷ 0x4d ∷ 0x41 ∷ 0x53 ∷ 0x4b ∷ [])) (Is Bitmask)
-    (cond (same l (0x4d ∷ 0x55 ∷ 0x4c ∷ 0x54 ∷ 0x49 ∷ 0x5f ∷ 0x41 ∷ 0x52 ∷ 0x52 ∷ 0x41 ∷ 0x59 ∷ [])) (Is MultiArray) Not)))
-
--- the first that is one
-abbrev pub either : Typed → Typed → Typed
-either (Is type) other = Is type
-either Not other = other
+-- the type among these whose word is l
+abbrev pub typeAmong : List ParamType → List ℕ → Typed
+typeAmong [] l = Not
+typeAmong (type ∷ others) l = cond (same l (typeName type)) (Is type) (typeAmong others l)
 
 -- T30: the type of a Q
 abbrev pub typeOf : List ℕ → Typed
-typeOf l = either (byteType l) (either (wordType l) (openType l))
+typeOf l = typeAmong types l
 
 abbrev pub known : Typed → Bool
 known (Is type) = true

@@ -8,11 +8,12 @@ use text::Place;
 use text::Verdict;
 ghost use mathlib.Core.Path.{_≡_};
 ghost use Rattle.text.specs.Text.{field};
+ghost use Rattle.text.specs.Judge.{Checks};
 ghost use Rattle.text.specs.Place.{kindOf, cells, Marked, Has};
-ghost use Rattle.command_text.specs.Form.{byteType, wordType, openType, either, typeOf, known, paramWords, paramCondition, paramFields, groupFields};
+ghost use Rattle.command_text.specs.Form.{typeOf, known, paramWords, paramCondition, paramFields, groupFields};
 ghost use Rattle.command_text.specs.Form.{variantFields, bitsFields, groupForm, variantForm, arrayForm, namedForm, bitsForm, bitmaskForm, paramSaid};
 ghost use Rattle.command_text.specs.Form.{said, form, group, variant, groupOf, sizeOf, bitField, bitsOf};
-ghost use Rattle.command_text.specs.Rules.{verdict};
+ghost use Rattle.command_text.specs.Rules.{rules};
 ghost use Rattle.command_text.specs.Shape.{tagged, shape};
 ghost use mathlib.Core.Option.{some};
 
@@ -37,77 +38,31 @@ pub enum Typed {
     Not,
 }
 
-// The types of one byte.
-fn byte_type(s: &[u8]) -> Typed
-    ensures { λ r. ⌜ r ≡ byteType (now (s .entry)) ⌝ }
-{
-    if text::is_same(s, b"BYTE") {
-        return Typed::Is(ParamType::Byte);
-    }
-    if text::is_same(s, b"STRUCT_BYTE") {
-        return Typed::Is(ParamType::StructByte);
-    }
-    if text::is_same(s, b"CONST") {
-        return Typed::Is(ParamType::Const);
-    }
-    if text::is_same(s, b"MARKER") {
-        return Typed::Is(ParamType::Marker);
-    }
-    Typed::Not
-}
-
-// The types of two to four bytes.
-fn word_type(s: &[u8]) -> Typed
-    ensures { λ r. ⌜ r ≡ wordType (now (s .entry)) ⌝ }
-{
-    if text::is_same(s, b"WORD") {
-        return Typed::Is(ParamType::Word);
-    }
-    if text::is_same(s, b"BIT_24") {
-        return Typed::Is(ParamType::Bit24);
-    }
-    if text::is_same(s, b"DWORD") {
-        return Typed::Is(ParamType::Dword);
-    }
-    Typed::Not
-}
-
-// The types whose length other lines tell.
-fn open_type(s: &[u8]) -> Typed
-    ensures { λ r. ⌜ r ≡ openType (now (s .entry)) ⌝ }
-{
-    if text::is_same(s, b"ARRAY") {
-        return Typed::Is(ParamType::Array);
-    }
-    if text::is_same(s, b"VARIANT") {
-        return Typed::Is(ParamType::Variant);
-    }
-    if text::is_same(s, b"BITMASK") {
-        return Typed::Is(ParamType::Bitmask);
-    }
-    if text::is_same(s, b"MULTI_ARRAY") {
-        return Typed::Is(ParamType::MultiArray);
-    }
-    Typed::Not
-}
-
-fn long_type(s: &[u8]) -> Typed
-    ensures { λ r. ⌜ r ≡ either (wordType (now (s .entry))) (openType (now (s .entry))) ⌝ }
-{
-    match word_type(s) {
-        Typed::Is(found) => Typed::Is(found),
-        Typed::Not => open_type(s),
-    }
-}
-
 // The type that s names.
 pub fn read_type(s: &[u8]) -> Typed
     ensures { λ r. ⌜ r ≡ typeOf (now (s .entry)) ⌝ }
 {
-    match byte_type(s) {
-        Typed::Is(found) => Typed::Is(found),
-        Typed::Not => long_type(s),
+    let types = [
+        ParamType::Byte,
+        ParamType::StructByte,
+        ParamType::Const,
+        ParamType::Marker,
+        ParamType::Word,
+        ParamType::Bit24,
+        ParamType::Dword,
+        ParamType::Array,
+        ParamType::Variant,
+        ParamType::Bitmask,
+        ParamType::MultiArray,
+    ];
+    let k = text::find_word(
+        b"BYTE STRUCT_BYTE CONST MARKER WORD BIT_24 DWORD ARRAY VARIANT BITMASK MULTI_ARRAY",
+        s,
+    );
+    if k < 11 {
+        return Typed::Is(types[k]);
     }
+    Typed::Not
 }
 
 pub fn is_type(s: &[u8]) -> bool
@@ -295,7 +250,7 @@ fn read_form(text: &[u8], line: Line) -> Form
 
 // The verdict on a command text.
 pub fn check_command_text(text: &[u8]) -> Verdict
-    ensures { λ r. ⌜ r ≡ verdict (now (text .entry)) ⌝ }
+    ensures { λ r. ⌜ Checks rules (now (text .entry)) r ⌝ }
 {
     if 60000 < text.len() {
         return Verdict::Refused(Refusal::Limit(0));

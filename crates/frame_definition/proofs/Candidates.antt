@@ -218,7 +218,7 @@ module _ (t : List ℕ) (p₀ : Place) (key h₀ n₀ : ℕ) (p : Place) (h n : 
   look-kind byte = kind-at t p l (k .counts .readable) inside step ∙ byte
 
   pub look-less : length t - l .next .at < length t - p .at
-  look-less = omega (arith, step .on)
+  look-less = omega (arith, step .passes .on)
 
   module _ (b : Bool) (byte : getD t (p .at) 0 ≡ 72) (is : b ≡ candidate key (cells t l) (from t (l .next))) where
     pub look-next : b ≡ false → Looking t p₀ key h₀ n₀ (l .next) (h + 1) n
@@ -228,10 +228,10 @@ module _ (t : List ℕ) (p₀ : Place) (key h₀ n₀ : ℕ) (p : Place) (h n : 
           counts = record {
             readable = line-here .next;
             short = k .counts .short;
-            headers-few = omega (arith, k .counts .headers-few, step .on);
-            params-few = omega (arith, k .counts .params-few, step .on);
+            headers-few = omega (arith, k .counts .headers-few, step .passes .on);
+            params-few = omega (arith, k .counts .params-few, step .passes .on);
           };
-          after = omega (arith, k .after, step .on);
+          after = omega (arith, k .after, step .passes .on);
           so = k .so ∙ ap (λ (rs : List Record). candidates key (frames h n rs)) (line-here .rest-is)
               ∙ (rw kind-is at (candidates-step (cells t l) (line-here .said) (from t (l .next)) key h n (line-here .view) (sym is ∙ e)));
         }
@@ -243,10 +243,10 @@ module _ (t : List ℕ) (p₀ : Place) (key h₀ n₀ : ℕ) (p : Place) (h n : 
       counted = rw (r .place-is, r .number-is, r .params-is) (record {
         readable = line-here .next;
         short = k .counts .short;
-        headers-few = omega (arith, k .counts .headers-few, step .on);
-        params-few = omega (arith, k .counts .params-few, step .on);
+        headers-few = omega (arith, k .counts .headers-few, step .passes .on);
+        params-few = omega (arith, k .counts .params-few, step .passes .on);
       });
-      on = rw (r .place-is) (omega (arith, k .after, step .on));
+      on = rw (r .place-is) (omega (arith, k .after, step .passes .on));
     }
       where
         kind-is : l .kind ≡ 72

@@ -223,7 +223,7 @@ module _ (t : List ℕ) (region : ℕ) (p : Place) (l : Line) (k : Keying t regi
   key-good = good-line t p l (k .readable) inside step
 
   pub key-less : length t - l .next .at < length t - p .at
-  key-less = omega (arith, step .on)
+  key-less = omega (arith, step .passes .on)
 
   module _ (b : Bool) (byte : getD t (p .at) 0 ≡ 70) (test : b ≡ eqb (value 255 (field 1 (cells t l))) region) where
     f-kind : kindOf (cells t l) ≡ 70
@@ -304,7 +304,7 @@ module _ (t : List ℕ) (key n : ℕ) (p : Place) (l : Line) (k : Basing t key p
   base-good = good-line t p l (k .readable) inside step
 
   pub base-less : length t - l .next .at < length t - p .at
-  base-less = omega (arith, step .on)
+  base-less = omega (arith, step .passes .on)
 
   module _ (b : Bool) (byte : getD t (p .at) 0 ≡ 66) (test : b ≡ eqb (value 255 (field 1 (cells t l))) key) where
     b-kind : kindOf (cells t l) ≡ 66
@@ -322,7 +322,7 @@ module _ (t : List ℕ) (key n : ℕ) (p : Place) (l : Line) (k : Basing t key p
     base-hit e = (sym (rw e at told-base), found-base .next, omega (arith, k .few))
 
     pub base-next : b ≡ false → Basing t key (l .next) n
-    base-next e = record { readable = found-base .next; few = omega (arith, k .few, step .on); so = rw e at told-base }
+    base-next e = record { readable = found-base .next; few = omega (arith, k .few, step .passes .on); so = rw e at told-base }
 
 pub ruleset base-laws = (base-start, base-end, base-few, base-over, over-less, base-good, base-less, base-hit, base-next)
 
@@ -576,7 +576,7 @@ param-next t p q n r l f found-at e step says =
       first = params-of n (from t p) ∙ ap (params n) (s .alike) ∙ sym (params-of n (from t q))
           ∙ ap (λ (rs : List Record). params n (below rs)) (h .rest-is ∙ ap (λ (x : Record). x ∷ from t (l .next)) is);
       readable = h .next;
-      on = omega (arith, s .after, step .on);
+      on = omega (arith, s .after, step .passes .on);
     }
 
 pub validation-none : (t : List ℕ) (p : Place) (r : Under) → NextOf t p 86 r → r ≡ stand.Nothing → FindsValidation t p nextValidation.Nothing
@@ -619,7 +619,7 @@ validation-next t p q r l part v found-at e step says at-v =
       first = validations-of (from t p) ∙ ap validations (s .alike) ∙ sym (validations-of (from t q))
           ∙ ap (λ (rs : List Record). validations (below rs)) (h .rest-is ∙ ap (λ (x : Record). x ∷ from t (l .next)) is);
       readable = h .next;
-      on = omega (arith, s .after, step .on);
+      on = omega (arith, s .after, step .passes .on);
     }
 
 pub ruleset next-validation-laws = (at-in, at-inside, at-good, at-kind, validation-has, validation-none, validation-next)

@@ -5,19 +5,9 @@ use mathlib.Core.Path.{_≡_}
 use mathlib.Core.List.{List, [], _∷_}
 use lib.ListN.{length}
 use Rattle.text.specs.Text.{name, plain}
-use Rattle.text.specs.Print.{shown, orDash, joined, Every, Optionally, printed}
-use Rattle.frame_text.specs.Form.{Path, Header, Param, Record, frequency, base, header, param, validation, set, entry}
-use Rattle.frame_text.specs.declared.ParamType.{ParamType}
-use Rattle.frame_text.specs.declared.ParamType.the-variants.{Hex, Number, NumberSigned, NodeNumber, Boolean, Bitmask}
-
--- the name of a type
-abbrev pub typeName : ParamType → List ℕ
-typeName Hex = 0x48 ∷ 0x45 ∷ 0x58 ∷ []
-typeName Number = 0x4e ∷ 0x55 ∷ 0x4d ∷ 0x42 ∷ 0x45 ∷ 0x52 ∷ []
-typeName NumberSigned = 0x4e ∷ 0x55 ∷ 0x4d ∷ 0x42 ∷ 0x45 ∷ 0x52 ∷ 0x5f ∷ 0x53 ∷ 0x49 ∷ 0x47 ∷ 0x4e ∷ 0x45 ∷ 0x44 ∷ []
-typeName NodeNumber = 0x4e ∷ 0x4f ∷ 0x44 ∷ 0x45 ∷ 0x5f ∷ 0x4e ∷ 0x55 ∷ 0x4d ∷ 0x42 ∷ 0x45 ∷ 0x52 ∷ []
-typeName Boolean = 0x42 ∷ 0x4f ∷ 0x4f ∷ 0x4c ∷ 0x45 ∷ 0x41 ∷ 0x4e ∷ []
-typeName Bitmask = 0x42 ∷ 0x49 ∷ 0x54 ∷ 0x4d ∷ 0x41 ∷ 0x53 ∷ 0x4b ∷ []
+use Rattle.text.specs.Print.{shown, orDash, joined, Every, Optionally, printed, Writing, IsText}
+use Rattle.frame_text.specs.Form.{Path, Header, Param, Record, frequency, base, header, param, validation, set, entry, typeName}
+use Rattle.frame_text.specs.Rules.{rules}
 
 -- a flag
 abbrev pub digit : Bool → ℕ
@@ -71,6 +61,14 @@ Fits (validation path value) = IsPath path × (value ≤ 65535)
 Fits (set n) = name n ≡ true
 Fits (entry key text) = (key ≤ 65535) × (name text ≡ true)
 
+-- a line is written for its record, in one way
+abbrev pub writing : Writing Record Record
+writing = record { says = λ r. r; print = print; Fits = Fits }
+
 -- the text of records
 abbrev pub frameText : List Record → List ℕ
 frameText rs = printed print rs
+
+-- R1, R2, R3: is it the text of records that fit their forms, keep the limits and have their owners, within 60,000 bytes
+abbrev pub IsFrameText : List ℕ → Type 0
+IsFrameText t = IsText rules writing t

@@ -1,15 +1,17 @@
 -- Laws of the frame text: how a line is read. Assumes nothing.
 use mathlib.Core.Path.{_≡_, refl, sym, ap, _∙_}
 use mathlib.Core.Bool.{Bool, true, false, cond, not, _&&_}
-use mathlib.Core.List.{List}
+use mathlib.Core.List.{List, [], _∷_}
 use mathlib.Core.Option.{none, some}
-use Prim.Native.Nat.{ℕ}
+use Prim.Native.Nat.{ℕ, zero, suc, _≤_, _<_}
 use native.Mathlib.Omega.{arith}
 use lib.Dec.{leb}
+use lib.ListN.{length, getD}
 use mir.Syntax.{w8}
 use mir.Val.{Fits}
 use borrow.Author.Tests.{ne-eqb}
-use Rattle.text.specs.Text.{field, worth, decimal, number, missing}
+use Rattle.text.specs.Text.{field, same, worth, decimal, number, missing}
+use Rattle.text.specs.Scan.{wordIn}
 use Rattle.text.specs.Place.{kindOf, cells}
 use Rattle.text.specs.declared.Line.{Line}
 use Rattle.text.specs.declared.Number.{Number}
@@ -18,29 +20,56 @@ use Rattle.text.proofs.Laws.{cells-length, number-most}
 use Rattle.text.proofs.Tests.{and-left, and-right, count-of}
 use Rattle.frame_kept.specs.declared.Form.{Form}
 use Rattle.frame_kept.specs.declared.Form.the-variants.{Frequency, Base, Header, Param, Validation, Set, Entry, Bad}
-use Rattle.frame_text.specs.Form.{Record, either, known, typeOf, flags, names, value, frequencyForm, baseForm, headerForm, paramNumbers, paramWords}
+use Rattle.frame_text.specs.Form.{Record, typeName, types, typeAmong, known, typeOf, flags, names, value, frequencyForm, baseForm, headerForm, paramNumbers, paramWords}
 use Rattle.frame_text.specs.Form.{paramForm, validationForm, setForm, entryForm, ofType, said, paramSaid, form}
 use Rattle.frame_text.specs.Rules.{isGiven}
 use Rattle.frame_text.specs.Shape.{least, levelOf, tagged, shape}
 use Rattle.frame_text.specs.declared.ParamType.{ParamType}
+use Rattle.frame_text.specs.declared.ParamType.the-variants.{Hex}
 use Rattle.frame_text.specs.declared.Typed.{Typed}
 use Rattle.frame_text.specs.declared.Typed.the-variants.{Is, Not}
 
 -- ---- the names of types
+abbrev words : List ParamType → List (List ℕ)
+words [] = []
+words (type ∷ others) = typeName type ∷ words others
+
+module _ (s : List ℕ) (d : ParamType) where
+  found : (these : List ParamType) (k : ℕ) → k ≡ wordIn (words these) s → k < length these → Is (getD these k d) ≡ typeAmong these s
+  found [] k is h = absurd (omega arith)
+  found (type ∷ others) k is h = go (same s (typeName type)) k is h (found others)
+    where
+      go : (b : Bool) (k : ℕ) → k ≡ cond b 0 (suc (wordIn (words others) s)) → k < suc (length others)
+          → ((k : ℕ) → k ≡ wordIn (words others) s → k < length others → Is (getD others k d) ≡ typeAmong others s)
+          → Is (getD (type ∷ others) k d) ≡ cond b (Is type) (typeAmong others s)
+      go true k e h ih = rw e
+      go false zero e h ih = absurd (omega arith)
+      go false (suc k) e h ih = ih k (omega arith) (omega arith)
+
+  unfound : (these : List ParamType) → length these ≤ wordIn (words these) s → Not ≡ typeAmong these s
+  unfound [] h = refl
+  unfound (type ∷ others) h = go (same s (typeName type)) h (unfound others)
+    where
+      go : (b : Bool) → suc (length others) ≤ cond b 0 (suc (wordIn (words others) s)) → (length others ≤ wordIn (words others) s → Not ≡ typeAmong others s)
+          → Not ≡ cond b (Is type) (typeAmong others s)
+      go true h ih = absurd (omega arith)
+      go false h ih = ih (omega arith)
+
+module _ (s : List ℕ) (k : ℕ) (is : k ≡ wordIn (words types) s) where
+  pub type-is : (d : ParamType) → k < 6 → Is (getD types k d) ≡ typeOf s
+  type-is d h = found s d types k is h
+
+  pub type-none : 6 ≤ k → Not ≡ typeOf s
+  type-none h = unfound s Hex types (rw is at h)
+
 module _ (r a : Typed) (says : r ≡ a) where
-  pub either-is : (b : Typed) (type : ParamType) → r ≡ Is type → Is type ≡ either a b
-  either-is b type e = rw (← says, e)
-
-  pub either-not : (b x : Typed) → r ≡ Not → x ≡ b → x ≡ either a b
-  either-not b x e h = rw (← says, e) h
-
   pub known-is : (type : ParamType) → r ≡ Is type → true ≡ known a
   known-is type e = rw (← says, e)
 
   pub known-not : r ≡ Not → false ≡ known a
   known-not e = rw (← says, e)
 
-pub ruleset type-laws = (either-is, either-not, known-is, known-not)
+pub ruleset type-laws = (type-is, type-none, known-is, known-not)
 
 -- what is said of a part of the text is said of the field that the part is
 module _ (s f : List ℕ) (part : s ≡ f) (r : Bool) where

@@ -59,28 +59,27 @@ value l = worth 0 l
 abbrev pub names : List ℕ → Path
 names l = split 0x2e l
 
--- T16: NUMBER, NUMBER_SIGNED, NODE_NUMBER
-abbrev pub numberType : List ℕ → Typed
-numberType l =
-    cond (same l (0x4e ∷ 0x55 ∷ 0x4d ∷ 0x42 ∷ 0x45 ∷ 0x52 ∷ [])) (Is Number)
-    (cond (same l (0x4e ∷ 0x55 ∷ 0x4d ∷ 0x42 ∷ 0x45 ∷ 0x52 ∷ 0x5f ∷ 0x53 ∷ 0x49 ∷ 0x47 ∷ 0x4e ∷ 0x45 ∷ 0x44 ∷ [])) (Is NumberSigned)
-    (cond (same l (0x4e ∷ 0x4f ∷ 0x44 ∷ 0x45 ∷ 0x5f ∷ 0x4e ∷ 0x55 ∷ 0x4d ∷ 0x42 ∷ 0x45 ∷ 0x52 ∷ [])) (Is NodeNumber) Not))
+-- T16: the word for a type
+abbrev pub typeName : ParamType → List ℕ
+typeName Hex = 0x48 ∷ 0x45 ∷ 0x58 ∷ []
+typeName Number = 0x4e ∷ 0x55 ∷ 0x4d ∷ 0x42 ∷ 0x45 ∷ 0x52 ∷ []
+typeName NumberSigned = 0x4e ∷ 0x55 ∷ 0x4d ∷ 0x42 ∷ 0x45 ∷ 0x52 ∷ 0x5f ∷ 0x53 ∷ 0x49 ∷ 0x47 ∷ 0x4e ∷ 0x45 ∷ 0x44 ∷ []
+typeName NodeNumber = 0x4e ∷ 0x4f ∷ 0x44 ∷ 0x45 ∷ 0x5f ∷ 0x4e ∷ 0x55 ∷ 0x4d ∷ 0x42 ∷ 0x45 ∷ 0x52 ∷ []
+typeName Boolean = 0x42 ∷ 0x4f ∷ 0x4f ∷ 0x4c ∷ 0x45 ∷ 0x41 ∷ 0x4e ∷ []
+typeName Bitmask = 0x42 ∷ 0x49 ∷ 0x54 ∷ 0x4d ∷ 0x41 ∷ 0x53 ∷ 0x4b ∷ []
 
--- T16: HEX, BOOLEAN, BITMASK
-abbrev pub otherType : List ℕ → Typed
-otherType l =
-    cond (same l (0x48 ∷ 0x45 ∷ 0x58 ∷ [])) (Is Hex)
-    (cond (same l (0x42 ∷ 0x4f ∷ 0x4f ∷ 0x4c ∷ 0x45 ∷ 0x41 ∷ 0x4e ∷ [])) (Is Boolean)
-    (cond (same l (0x42 ∷ 0x49 ∷ 0x54 ∷ 0x4d ∷ 0x41 ∷ 0x53 ∷ 0x4b ∷ [])) (Is Bitmask) Not))
+-- T16: all of them
+abbrev pub types : List ParamType
+types = Hex ∷ Number ∷ NumberSigned ∷ NodeNumber ∷ Boolean ∷ Bitmask ∷ []
 
--- the first that is one
-abbrev pub either : Typed → Typed → Typed
-either (Is type) other = Is type
-either Not other = other
+-- the type among these whose word is l
+abbrev pub typeAmong : List ParamType → List ℕ → Typed
+typeAmong [] l = Not
+typeAmong (type ∷ others) l = cond (same l (typeName type)) (Is type) (typeAmong others l)
 
 -- T16: the type of a P
 abbrev pub typeOf : List ℕ → Typed
-typeOf l = either (numberType l) (otherType l)
+typeOf l = typeAmong types l
 
 abbrev pub known : Typed → Bool
 known (Is type) = true

@@ -10,10 +10,11 @@ use text::Verdict;
 ghost use mathlib.Core.Path.{_≡_};
 ghost use mathlib.Core.Bool.{_&&_};
 ghost use Rattle.text.specs.Text.{field, number};
+ghost use Rattle.text.specs.Judge.{Checks};
 ghost use Rattle.text.specs.Place.{kindOf, cells, Marked, Has};
-ghost use Rattle.frame_text.specs.Form.{numberType, otherType, typeOf, known, flags, frequencyForm, baseForm, headerForm, paramNumbers, paramPaths};
+ghost use Rattle.frame_text.specs.Form.{typeOf, known, flags, frequencyForm, baseForm, headerForm, paramNumbers, paramPaths};
 ghost use Rattle.frame_text.specs.Form.{paramWords, paramSaid, validationForm, setForm, entryForm, form};
-ghost use Rattle.frame_text.specs.Rules.{verdict};
+ghost use Rattle.frame_text.specs.Rules.{rules};
 ghost use Rattle.frame_text.specs.Shape.{levelOf, shape, tagged};
 
 // The type of a field, by the XML names of the source.
@@ -32,46 +33,23 @@ pub enum Typed {
     Not,
 }
 
-// The types that show a number.
-fn number_type(s: &[u8]) -> Typed
-    ensures { λ r. ⌜ r ≡ numberType (now (s .entry)) ⌝ }
-{
-    if text::is_same(s, b"NUMBER") {
-        return Typed::Is(ParamType::Number);
-    }
-    if text::is_same(s, b"NUMBER_SIGNED") {
-        return Typed::Is(ParamType::NumberSigned);
-    }
-    if text::is_same(s, b"NODE_NUMBER") {
-        return Typed::Is(ParamType::NodeNumber);
-    }
-    Typed::Not
-}
-
-// The other types.
-fn other_type(s: &[u8]) -> Typed
-    ensures { λ r. ⌜ r ≡ otherType (now (s .entry)) ⌝ }
-{
-    if text::is_same(s, b"HEX") {
-        return Typed::Is(ParamType::Hex);
-    }
-    if text::is_same(s, b"BOOLEAN") {
-        return Typed::Is(ParamType::Boolean);
-    }
-    if text::is_same(s, b"BITMASK") {
-        return Typed::Is(ParamType::Bitmask);
-    }
-    Typed::Not
-}
-
 // The type that s names.
 pub fn read_type(s: &[u8]) -> Typed
     ensures { λ r. ⌜ r ≡ typeOf (now (s .entry)) ⌝ }
 {
-    match number_type(s) {
-        Typed::Is(found) => Typed::Is(found),
-        Typed::Not => other_type(s),
+    let types = [
+        ParamType::Hex,
+        ParamType::Number,
+        ParamType::NumberSigned,
+        ParamType::NodeNumber,
+        ParamType::Boolean,
+        ParamType::Bitmask,
+    ];
+    let k = text::find_word(b"HEX NUMBER NUMBER_SIGNED NODE_NUMBER BOOLEAN BITMASK", s);
+    if k < 6 {
+        return Typed::Is(types[k]);
     }
+    Typed::Not
 }
 
 pub fn is_type(s: &[u8]) -> bool
@@ -253,7 +231,7 @@ fn read_form(text: &[u8], line: Line) -> Form
 
 // The verdict on a frame text.
 pub fn check_frame_text(text: &[u8]) -> Verdict
-    ensures { λ r. ⌜ r ≡ verdict (now (text .entry)) ⌝ }
+    ensures { λ r. ⌜ Checks rules (now (text .entry)) r ⌝ }
 {
     if 60000 < text.len() {
         return Verdict::Refused(Refusal::Limit(0));

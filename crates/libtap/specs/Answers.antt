@@ -8,8 +8,8 @@ use Rattle.frame.specs.declared.Parsed.{Parsed}
 use Rattle.frame.specs.declared.Parsed.the-variants.{Frame, Refused as NoFrame}
 use Rattle.frame.specs.Frame.{said}
 use Rattle.pti.specs.Payload.{framesOf, saidOf, tableAfter}
+use Rattle.text.specs.Judge as text
 use Rattle.text.specs.declared.Verdict.{Verdict}
-use Rattle.text.specs.declared.Verdict.the-variants.{Accepted, Refused as Unfit}
 use Rattle.libtap.specs.declared.TapAnswer.{TapAnswer}
 use Rattle.libtap.specs.declared.frames.TapFrame.{TapFrame}
 use Rattle.libtap.specs.declared.frames.TapPart.{TapPart}
@@ -55,10 +55,9 @@ toldFrame (NoFrame x) =
       length = 0;
     }
 
--- 0, or the refusal's number and its line
+-- a verdict's number and its line
 abbrev pub judged : Verdict → TapAnswer
-judged Accepted = record { refusal = 0; value = 0 }
-judged (Unfit x) = record { refusal = numberOf x; value = carriedBy x }
+judged v = record { refusal = text.numberOf v; value = text.lineOf v }
 
 -- what `tap_parse_payload` answers and leaves, for a payload s and a table t
 pub record Told (s t : List ℕ) (r : TapAnswer) (t′ : List ℕ) : Type 0 where

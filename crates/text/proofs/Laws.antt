@@ -7,17 +7,17 @@ use native.Mathlib.Numerals.{add-one}
 use native.Mathlib.Omega.{arith}
 use native.Mathlib.Decide.{decLe}
 use lib.ListN.{length, getD, take, drop, set, replicate, length-append, length-drop, length-set}
-use lib.Seq.{length-take-le, drop-drop, getD-set-same, getD-set-other}
+use lib.Seq.{take-all, length-take-le, drop-drop, getD-set-same, getD-set-other}
 use lib.Dec.{eqb, leb}
 use mir.Syntax.{w64}
 use mir.Val.{Fits}
-use borrow.Author.Tests.{le-leb, lt-leb, eq-eqb, ne-eqb, eqb-true, leb-true}
+use borrow.Author.Tests.{le-leb, lt-leb, eq-eqb, ne-eqb, eqb-true, eqb-false, leb-true}
 pub use Rattle.laws.proofs.Lists.{next, done, tail}
 use Rattle.text.specs.Text.{onto, split, field, within, without, same, worth, decimal, upTo, value, number, missing, optionalUpTo, optionalValue}
 use Rattle.text.specs.Text.{optional, name, plain, names, path, optionalName, optionalPath}
-use Rattle.text.specs.Scan.{cut, low, halt, digits}
-use Rattle.text.specs.Place.{First, unended, ended, after, longer, first, short, kindOf, In, cell, cellsFrom, cells, Marked, Cuts, Has, Steps, IsPart}
-use Rattle.text.specs.Place.{IsOptionalPart}
+use Rattle.text.specs.Scan.{cut, low, halt, digits, wordIn}
+use Rattle.text.specs.Place.{First, unended, ended, after, longer, first, short, kindOf, In, cell, cellsFrom, cells, Marked, Cuts, Has, Passes, Steps}
+use Rattle.text.specs.Place.{IsPart, IsOptionalPart}
 use Rattle.text.specs.declared.Place.{Place}
 use Rattle.text.specs.declared.Line.{Line}
 use Rattle.text.specs.declared.lines.Fields.{Fields}
@@ -651,6 +651,48 @@ cut-many t at n a m so-far h = record {
         let l : 9 < length (cellsFrom t m 0 n ++ fs) = rw (length-append, cells-length) (omega arith) in
         rw (lt-leb (length (cellsFrom t m 0 n ++ fs)) 9 l)
 
+-- ---- words
+module _ (words s : List ℕ) (at n e : ℕ) (r : Bool) (inv : wordIn (split 32 words) s ≡ n + wordIn (split 32 (drop at words)) s)
+    (at-e : e ≡ cut 32 (take (length words - at) (drop at words))) (is : r ≡ same s (take e (take (length words - at) (drop at words)))) where
+  said : r ≡ same s (take e (drop at words))
+  said = rw tail at is
+
+  e-is : e ≡ cut 32 (drop at words)
+  e-is = rw tail at at-e
+
+  module _ (end : e ≡ length (take (length words - at) (drop at words))) where
+    alone : split 32 (drop at words) ≡ take e (drop at words) ∷ []
+    alone =
+        let l : e ≡ length (drop at words) = rw tail at end in
+        rw (take-all e (drop at words) (omega arith)) (split-last 32 (drop at words) (sym e-is ∙ l))
+
+    pub word-none : r ≡ false → n + 1 ≡ wordIn (split 32 words) s
+    word-none b = rw (inv, alone, ← said, b)
+
+  module _ (in-e : e ≤ length (take (length words - at) (drop at words))) (more : e ≡ length (take (length words - at) (drop at words)) → ⊥) where
+    in-rest : e < length (drop at words)
+    in-rest = let v : e < length (take (length words - at) (drop at words)) = omega (arith, more) in rw tail at v
+
+    one-more : split 32 (drop at words) ≡ take e (drop at words) ∷ split 32 (drop (e + 1) (drop at words))
+    one-more = rw e-is (split-more 32 (drop at words) (rw (← e-is) in-rest))
+
+    pub word-more : r ≡ false → wordIn (split 32 words) s ≡ n + 1 + wordIn (split 32 (drop (at + e + 1) words)) s
+    word-more b =
+        let z : at + e + 1 ≡ at + (e + 1) = omega arith in
+        rw (z, ← drop-drop (e + 1) at words, inv, one-more, ← said, b) (omega arith)
+
+    pub word-inside : at + e + 1 ≤ length words
+    word-inside = let v : e < length words - at = rw length-drop at in-rest in omega arith
+
+  pub word-here : e ≤ length (take (length words - at) (drop at words)) → r ≡ true → n ≡ wordIn (split 32 words) s
+  word-here in-e b = go (eqb e (length (take (length words - at) (drop at words)))) refl
+    where
+      go : (x : Bool) → eqb e (length (take (length words - at) (drop at words))) ≡ x → n ≡ wordIn (split 32 words) s
+      go true q = rw (inv, alone (eqb-true _ _ q), ← said, b) (omega arith)
+      go false q = rw (inv, one-more in-e (eqb-false _ _ q), ← said, b) (omega arith)
+
+pub ruleset word-laws = (word-none, word-more, word-inside, word-here)
+
 -- ---- one field
 cells-field : (t m : List ℕ) (n i k : ℕ) → k < n → field k (cellsFrom t m i n) ≡ cell t m (i + k)
 cells-field t m zero i k h = absurd (omega arith)
@@ -774,16 +816,36 @@ pub ruleset kind-laws = (kind-one, kind-none)
 pub ruleset line-laws = (cutting-start, cut-open, cut-tab, cut-line, cut-many, cut-fits, cut-sum-fits)
 
 -- ---- a step
-pub step-open : (t : List ℕ) (p : Place) (f : Fields) → In t p → p .at < length t → Cuts t (p .at) f → f .count ≡ 0
-    → Steps t p (record { kind = 0; fields = 0; marks = f .marks; next = record { at = length t; line = p .line + 1 } })
-step-open t p f i h cuts z = record {
-  marked = rw z at (cuts .marked);
-  says = cuts .says ∙ rw z;
-  kind-is = refl;
-  count = refl;
-  on = h;
-  within = record { at-in = omega arith; line-in = omega (arith, i .line-in) };
-}
+pub step-open : (t : List ℕ) (p q : Place) (f : Fields) → Cuts t (p .at) f → f .count ≡ 0 → Passes t p q
+    → Steps t p (record { kind = 0; fields = 0; marks = f .marks; next = q })
+step-open t p q f cuts z passes = record { marked = rw z at (cuts .marked); says = cuts .says ∙ rw z; kind-is = refl; passes = passes }
+
+-- what stands behind a line that is ended
+abbrev Behind : List ℕ → First → Type 0
+Behind l unended = Unit {0}
+Behind l (ended fs rest) = rest ≡ drop (suc (cut 0x0a l)) l
+
+first-behind : (l : List ℕ) → Behind l (first l)
+first-behind [] = tt
+first-behind (x ∷ xs) = go (eqb x 10) (eqb x 9) refl (first xs) (first-behind xs)
+  where
+    go : (a b : Bool) → eqb x 10 ≡ a → (r : First) → Behind xs r → Behind (x ∷ xs) (cond a (ended ([] ∷ []) xs) (cond b (after ([] ∷ []) r) (longer x r)))
+    go true b p r h = rw p
+    go false true p unended h = tt
+    go false true p (ended fs rest) h = rw p h
+    go false false p unended h = tt
+    go false false p (ended fs rest) h = rw p h
+
+told-behind : (l : List ℕ) (fs : List (List ℕ)) (rest : List ℕ) → short (first l) ≡ ended fs rest → rest ≡ drop (cut 0x0a l + 1) l
+told-behind l fs rest e = go (first l) (first-behind l) e
+  where
+    go : (r : First) → Behind l r → short r ≡ ended fs rest → rest ≡ drop (cut 0x0a l + 1) l
+    go unended h q = absurd (let z : _≡_ {A = ℕ} 0 1 = cc in omega arith)
+    go (ended gs more) h q = few (leb (length gs) 9) q
+      where
+        few : (b : Bool) → cond b (ended gs more) unended ≡ ended fs rest → rest ≡ drop (cut 0x0a l + 1) l
+        few true q = let m : more ≡ rest = cc in rw (add-one) (rw m at h)
+        few false q = absurd (let z : _≡_ {A = ℕ} 0 1 = cc in omega arith)
 
 kind-first : (t m : List ℕ) (n at : ℕ) → (n ≡ 0 → ⊥) → getD m 0 0 ≡ at
     → kindOf (take (getD m 1 0 - 1 - at) (drop at t) ∷ []) ≡ kindOf (cellsFrom t m 0 n)
@@ -819,9 +881,14 @@ module _ (t : List ℕ) (p : Place) (f : Fields) (i : In t p) (cuts : Cuts t (p 
     marked = cuts .marked;
     says = cuts .says;
     kind-is = e ∙ kind-first t (f .marks) (f .count) (p .at) some (cuts .start);
-    count = refl;
-    on = next-past;
-    within = record { at-in = inside-text; line-in = omega (arith, next-past, i .line-in) };
+    passes = record {
+      says =
+          told-behind (drop (p .at) t) (cellsFrom t (f .marks) 0 (f .count)) (drop (getD (f .marks) (f .count) 0) t)
+          (rw (ne-eqb (f .count) 0 some) at (cuts .says));
+      count = refl;
+      on = next-past;
+      within = record { at-in = inside-text; line-in = omega (arith, next-past, i .line-in) };
+    };
   }
 
   pub step-first : p .at < getD (f .marks) 1 0

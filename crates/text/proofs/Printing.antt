@@ -1,16 +1,18 @@
 -- Laws on writing a text: what is written is read back. Assumes nothing.
-use mathlib.Core.Path.{_≡_, refl, ap, _∙_}
+use mathlib.Core.Path.{_≡_, refl, sym, ap, _∙_}
 use mathlib.Core.Bool.{Bool, true, false, cond, not, _&&_}
-use mathlib.Core.List.{List, [], _∷_, _++_}
+use mathlib.Core.List.{List, [], _∷_, _++_, append-nil, append-assoc}
 use mathlib.Core.Option.{Option, none, some}
 use Prim.Native.Nat.{ℕ, zero, suc, _+_, _-_, _*_, _/_, _%_, _≤_, _<_}
 use native.Mathlib.Nat.{div-add-mod', mod-lt}
 use native.Mathlib.Omega.{arith}
 use lib.Dec.{eqb, leb, ltb}
-use lib.ListN.{length, getD}
-use borrow.Author.Tests.{le-leb, le-ltb, eq-eqb, ne-eqb, eqb-true, leb-true, ltb-true, ltb-false}
-use Rattle.text.specs.Text.{split, lines, fields, within, without, worth, decimal, upTo, missing, optionalUpTo, name, path}
-use Rattle.text.specs.Print.{digitsIn, shown, orDash, joined, Every, Optionally, Clean, Prints, printed}
+use lib.ListN.{length, getD, drop, drop-of-length-le}
+use lib.Seq.{drop-cons}
+use borrow.Author.Tests.{le-leb, le-ltb, lt-ltb, eq-eqb, ne-eqb, eqb-true, eqb-false, leb-true, ltb-true, ltb-false}
+use Rattle.text.specs.Text.{onto, split, lines, fields, field, within, without, same, worth, decimal, upTo, missing, optionalUpTo, name, path}
+use Rattle.text.specs.Place.{kindOf}
+use Rattle.text.specs.Print.{digitsIn, shown, orDash, joined, Every, Optionally, Clean, printed, Writing, said, IsText, Prints, Reads, Faithful}
 use Rattle.text.specs.Judge.{Rules, judge, verdict}
 use Rattle.text.specs.Records.{records}
 use Rattle.text.specs.Honest.{Keeps}
@@ -18,7 +20,7 @@ use Rattle.text.specs.declared.Verdict.the-variants.{Accepted}
 use Rattle.text.proofs.Laws.{and-false}
 use Rattle.text.proofs.Tests.{and-left, and-right}
 use Rattle.text.proofs.Judging.{split-some, judge-line}
-use Rattle.text.proofs.Reading.{records-line}
+use Rattle.text.proofs.Reading.{Allowed, accepted-line, accepted-lines, accepted-short, records-line}
 
 -- ---- numbers
 pub record Shows (n : ℕ) (l : List ℕ) : Type 0 where
@@ -194,32 +196,191 @@ path-given (x ∷ y ∷ ys) e = and-false (eqb x 45)
 pub clean-joined : (b : ℕ) (ps : List (List ℕ)) → (b ≡ 9 → ⊥) → (b ≡ 10 → ⊥) → Every Clean ps → Clean (joined b ps)
 clean-joined b ps h e c = record { tab = without-joined 9 b ps h (clean-tabs ps c); end = without-joined 10 b ps e (clean-ends ps c) }
 
--- ---- records that are written
-module _ {R : Type 0} (rules : Rules R) (print : R → List (List ℕ)) where
-  -- the fields of a line that is written for a record
-  fields-of : (r : R) → Prints rules print r → fields (joined 9 (print r)) ≡ print r
-  fields-of r p = split-joined 9 (print r) (p .some-field) (clean-tabs (print r) (p .clean))
+-- ---- a number is written in one way
+-- one more digit behind those of v
+next-digit : (v x : ℕ) (front : List ℕ) → 48 ≤ x → x ≤ 57 → 1 ≤ v → ((k : ℕ) → v < k → digitsIn k v ≡ front)
+    → (k : ℕ) → v * 10 + (x - 48) < k → digitsIn k (v * 10 + (x - 48)) ≡ front ++ (x ∷ [])
+next-digit v x front low high least is zero h = absurd (omega arith)
+next-digit v x front low high least is (suc k) h =
+    let n : ℕ = v * 10 + (x - 48) in
+    let parts : n / 10 * 10 + n % 10 ≡ n = div-add-mod' n 10 in
+    let small : n % 10 < 10 = mod-lt n (omega arith) in
+    let q : n / 10 ≡ v = omega arith in
+    let m : 48 + n % 10 ≡ x = omega arith in
+    rw (le-ltb n 10 (omega arith), q, m, is k (omega arith))
 
-  lines-of : (r : R) (rs : List R) → Prints rules print r → lines (printed print (r ∷ rs)) ≡ joined 9 (print r) ∷ lines (printed print rs)
-  lines-of r rs p =
-      split-append 10 (joined 9 (print r)) (printed print rs) (without-joined 10 9 (print r) (λ e. omega arith) (clean-ends (print r) (p .clean)))
+digits-back : (l : List ℕ) (v : ℕ) (front : List ℕ) → within 48 57 l ≡ true → 1 ≤ v → ((k : ℕ) → v < k → digitsIn k v ≡ front)
+    → (k : ℕ) → worth v l < k → digitsIn k (worth v l) ≡ front ++ l
+digits-back [] v front w least is k h = is k h ∙ sym (append-nil front)
+digits-back (x ∷ xs) v front w least is k h =
+    let low : 48 ≤ x = leb-true 48 x (and-left (leb 48 x) _ w) in
+    let rest : (leb x 57 && within 48 57 xs) ≡ true = and-right (leb 48 x) _ w in
+    let high : x ≤ 57 = leb-true x 57 (and-left (leb x 57) (within 48 57 xs) rest) in
+    digits-back xs (v * 10 + (x - 48)) (front ++ (x ∷ [])) (and-right (leb x 57) (within 48 57 xs) rest) (omega arith)
+    (next-digit v x front low high least is) k h
+    ∙ append-assoc front (x ∷ []) xs
 
-  judge-printed : (before : List R) (n : ℕ) (rs : List R) → Every (Prints rules print) rs → Keeps rules before rs
-      → judge rules before n (lines (printed print rs)) ≡ Accepted
+one-digit : (x : ℕ) → 48 ≤ x → x ≤ 57 → (k : ℕ) → x - 48 < k → digitsIn k (x - 48) ≡ x ∷ []
+one-digit x low high zero h = absurd (omega arith)
+one-digit x low high (suc k) h = let e : 48 + (x - 48) ≡ x = omega arith in rw (lt-ltb (x - 48) 10 (omega arith), e)
+
+pub shown-back : (l : List ℕ) → decimal l ≡ true → shown (worth 0 l) ≡ l
+unfolding shown
+shown-back [] e = absurd (let z : _≡_ {A = ℕ} 0 1 = cc in omega arith)
+shown-back (x ∷ []) e =
+    let low : 48 ≤ x = leb-true 48 x (and-left (leb 48 x) _ e) in
+    let high : x ≤ 57 = leb-true x 57 (and-left (leb x 57) true (and-right (leb 48 x) _ e)) in
+    let z : 0 * 10 + (x - 48) ≡ x - 48 = omega arith in
+    rw z (one-digit x low high (suc (x - 48)) (omega arith))
+shown-back (x ∷ y ∷ ys) e =
+    let w : within 48 57 (x ∷ y ∷ ys) ≡ true = and-right (not (eqb x 48)) _ e in
+    let other : eqb x 48 ≡ false = not-not (eqb x 48) (and-left (not (eqb x 48)) _ e) in
+    let low : 48 ≤ x = leb-true 48 x (and-left (leb 48 x) _ w) in
+    let rest : (leb x 57 && within 48 57 (y ∷ ys)) ≡ true = and-right (leb 48 x) _ w in
+    let high : x ≤ 57 = leb-true x 57 (and-left (leb x 57) (within 48 57 (y ∷ ys)) rest) in
+    let z : 0 * 10 + (x - 48) ≡ x - 48 = omega arith in
+    rw z (digits-back (y ∷ ys) (x - 48) (x ∷ []) (and-right (leb x 57) (within 48 57 (y ∷ ys)) rest) (omega (arith, eqb-false x 48 other))
+    (one-digit x low high) (suc (worth (x - 48) (y ∷ ys))) (omega arith))
+
+pub up-to-back : (limit : ℕ) (l : List ℕ) → upTo limit l ≡ true → (shown (worth 0 l) ≡ l) × (worth 0 l ≤ limit)
+up-to-back limit l e =
+    (shown-back l (and-left (decimal l) (leb (worth 0 l) limit) e), leb-true (worth 0 l) limit (and-right (decimal l) (leb (worth 0 l) limit) e))
+
+-- what may be missing
+pub missing-is : (l : List ℕ) → missing l ≡ true → l ≡ 45 ∷ []
+missing-is [] e = absurd (let z : _≡_ {A = ℕ} 0 1 = cc in omega arith)
+missing-is (x ∷ []) e = rw (eqb-true x 45 (and-left (eqb x 45) true e))
+missing-is (x ∷ y ∷ ys) e = absurd (let z : _≡_ {A = Bool} false true = sym (and-false (eqb x 45)) ∙ e in let w : _≡_ {A = ℕ} 0 1 = cc in omega arith)
+
+-- ---- what b parts, joined by b
+onto-joined : (b x : ℕ) (ps : List (List ℕ)) → (ps ≡ [] → ⊥) → joined b (onto x ps) ≡ x ∷ joined b ps
+onto-joined b x [] h = absurd (h refl)
+onto-joined b x (p ∷ []) h = refl
+onto-joined b x (p ∷ q ∷ ps) h = refl
+
+pub joined-split : (b : ℕ) (l : List ℕ) → joined b (split b l) ≡ l
+joined-split b [] = refl
+joined-split b (x ∷ xs) = go (eqb x b) refl (joined-split b xs)
+  where
+    behind : (ps : List (List ℕ)) → (ps ≡ [] → ⊥) → joined b ([] ∷ ps) ≡ b ∷ joined b ps
+    behind [] h = absurd (h refl)
+    behind (p ∷ ps) h = refl
+
+    go : (t : Bool) → eqb x b ≡ t → joined b (split b xs) ≡ xs → joined b (cond t ([] ∷ split b xs) (onto x (split b xs))) ≡ x ∷ xs
+    go true q ih = behind (split b xs) (split-some b xs) ∙ rw (ih, eqb-true x b q)
+    go false q ih = onto-joined b x (split b xs) (split-some b xs) ∙ rw ih
+
+pub split-long : (b : ℕ) (l : List ℕ) → 1 ≤ length (split b l)
+split-long b l = go (split b l) (split-some b l)
+  where
+    go : (ps : List (List ℕ)) → (ps ≡ [] → ⊥) → 1 ≤ length ps
+    go [] h = absurd (h refl)
+    go (p ∷ ps) h = omega arith
+
+-- no piece has what parts them
+pub split-without : (b : ℕ) (l : List ℕ) → Every (λ p. without b p ≡ true) (split b l)
+split-without b [] = (refl, tt)
+split-without b (x ∷ xs) = go (eqb x b) refl (split b xs) (split-without b xs)
+  where
+    go : (t : Bool) → eqb x b ≡ t → (ps : List (List ℕ)) → Every (λ p. without b p ≡ true) ps
+        → Every (λ p. without b p ≡ true) (cond t ([] ∷ ps) (onto x ps))
+    go true q ps e = (refl, e)
+    go false q [] e = (rw q, tt)
+    go false q (p ∷ ps) e = (rw q (e .0), e .1)
+
+pub same-is : (l m : List ℕ) → same l m ≡ true → l ≡ m
+same-is [] [] e = refl
+same-is [] (y ∷ ys) e = absurd (let z : _≡_ {A = ℕ} 0 1 = cc in omega arith)
+same-is (x ∷ xs) [] e = absurd (let z : _≡_ {A = ℕ} 0 1 = cc in omega arith)
+same-is (x ∷ xs) (y ∷ ys) e =
+    let h : x ≡ y = eqb-true x y (and-left (eqb x y) (same xs ys) e) in
+    let t : xs ≡ ys = same-is xs ys (and-right (eqb x y) (same xs ys) e) in
+    cc
+
+-- ---- the fields of a line, one by one
+abbrev pub fieldsAt : ℕ → ℕ → List (List ℕ) → List (List ℕ)
+fieldsAt i zero fs = []
+fieldsAt i (suc n) fs = field i fs ∷ fieldsAt (suc i) n fs
+
+pub all-fields : (n i : ℕ) (fs : List (List ℕ)) → length fs ≡ i + n → fieldsAt i n fs ≡ drop i fs
+all-fields zero i fs h = sym (drop-of-length-le fs {i = i} (omega arith))
+all-fields (suc n) i fs h = rw (all-fields n (suc i) fs (omega arith)) (sym (drop-cons fs i [] (omega arith)))
+
+pub letter-field : (fs : List (List ℕ)) (b : ℕ) → kindOf fs ≡ b → 1 ≤ b → field 0 fs ≡ b ∷ []
+letter-field [] b e h = absurd (omega arith)
+letter-field ([] ∷ fs) b e h = absurd (omega arith)
+letter-field ((x ∷ []) ∷ fs) b e h = rw e
+letter-field ((x ∷ y ∷ ys) ∷ fs) b e h = absurd (omega arith)
+
+-- ---- lines that are written
+module _ {R W : Type 0} (rules : Rules R) (writing : Writing R W) where
+  -- the fields of a line that is written
+  fields-of : (w : W) → Prints rules writing w → fields (joined 9 (writing .print w)) ≡ writing .print w
+  fields-of w p = split-joined 9 (writing .print w) (p .some-field) (clean-tabs (writing .print w) (p .clean))
+
+  lines-of : (w : W) (ws : List W) → Prints rules writing w
+      → lines (printed (writing .print) (w ∷ ws)) ≡ joined 9 (writing .print w) ∷ lines (printed (writing .print) ws)
+  lines-of w ws p =
+      split-append 10 (joined 9 (writing .print w)) (printed (writing .print) ws)
+      (without-joined 10 9 (writing .print w) (λ e. omega arith) (clean-ends (writing .print w) (p .clean)))
+
+  judge-printed : (before : List R) (n : ℕ) (ws : List W) → Every (Prints rules writing) ws → Keeps rules before (said rules writing ws)
+      → judge rules before n (lines (printed (writing .print) ws)) ≡ Accepted
   judge-printed before n [] p k = refl
-  judge-printed before n (r ∷ rs) p k =
-      ap (judge rules before n) (lines-of r rs (p .0)) ∙ judge-line rules before n (joined 9 (print r)) (lines (printed print rs))
-      (split-some 10 (printed print rs))
-      ∙ rw (fields-of r (p .0), p .0 .form-is, k .0, k .1) (judge-printed (r ∷ before) (suc n) rs (p .1) (k .2))
+  judge-printed before n (w ∷ ws) p k =
+      ap (judge rules before n) (lines-of w ws (p .0)) ∙ judge-line rules before n (joined 9 (writing .print w)) (lines (printed (writing .print) ws))
+      (split-some 10 (printed (writing .print) ws))
+      ∙ rw (fields-of w (p .0), p .0 .form-is, k .0, k .1) (judge-printed (writing .says w ∷ before) (suc n) ws (p .1) (k .2))
 
-  records-printed : (rs : List R) → Every (Prints rules print) rs → records (rules .form) (lines (printed print rs)) ≡ rs
+  records-printed : (ws : List W) → Every (Prints rules writing) ws → records (rules .form) (lines (printed (writing .print) ws)) ≡ said rules writing ws
   records-printed [] p = refl
-  records-printed (r ∷ rs) p =
-      ap (records (rules .form)) (lines-of r rs (p .0)) ∙ records-line rules (joined 9 (print r)) (lines (printed print rs))
-      (split-some 10 (printed print rs))
-      ∙ rw (fields-of r (p .0), p .0 .form-is, records-printed rs (p .1))
+  records-printed (w ∷ ws) p =
+      ap (records (rules .form)) (lines-of w ws (p .0)) ∙ records-line rules (joined 9 (writing .print w)) (lines (printed (writing .print) ws))
+      (split-some 10 (printed (writing .print) ws))
+      ∙ rw (fields-of w (p .0), p .0 .form-is, records-printed ws (p .1))
 
-  -- what is written of records within the rules is accepted, and says these records
-  pub printed-accepted : (rs : List R) → Every (Prints rules print) rs → Keeps rules [] rs → length (printed print rs) ≤ 60000
-      → (verdict rules (printed print rs) ≡ Accepted) × (records (rules .form) (lines (printed print rs)) ≡ rs)
-  printed-accepted rs p k h = (rw (le-ltb 60000 (length (printed print rs)) h) (judge-printed [] 1 rs p k), records-printed rs p)
+  -- the lines that were written
+  record Wrote (before : List R) (ls : List (List ℕ)) : Type 0 where
+    pub these : List W
+    pub text : joined 10 ls ≡ printed (writing .print) these
+    pub fit : Every (writing .Fits) these
+    pub keep : Keeps rules before (said rules writing these)
+
+  module _ (faithful : Faithful rules writing) where
+    all-print : (ws : List W) → Every (writing .Fits) ws → Every (Prints rules writing) ws
+    all-print [] f = tt
+    all-print (w ∷ ws) f = (faithful .prints w (f .0), all-print ws (f .1))
+
+    judge-wrote : (before : List R) (n : ℕ) (ls : List (List ℕ)) → judge rules before n ls ≡ Accepted → Wrote before ls
+    judge-wrote before n [] e = record { these = []; text = refl; fit = tt; keep = tt }
+    judge-wrote before n ([] ∷ []) e = record { these = []; text = refl; fit = tt; keep = tt }
+    judge-wrote before n ((x ∷ xs) ∷ []) e = absurd (let z : _≡_ {A = ℕ} 0 1 = cc in omega arith)
+    judge-wrote before n (l ∷ m ∷ ms) e =
+        go (accepted-line rules before n (rules .form (fields l)) (λ r. judge rules (r ∷ before) (suc n) (m ∷ ms))
+        (sym (judge-line rules before n l (m ∷ ms) (λ q. let z : _≡_ {A = ℕ} 0 1 = cc in omega arith)) ∙ e))
+        (λ r. judge-wrote (r ∷ before) (suc n) (m ∷ ms))
+      where
+        go : Allowed rules before (rules .form (fields l)) (λ r. judge rules (r ∷ before) (suc n) (m ∷ ms))
+            → ((r : R) → judge rules (r ∷ before) (suc n) (m ∷ ms) ≡ Accepted → Wrote (r ∷ before) (m ∷ ms)) → Wrote before (l ∷ m ∷ ms)
+        go a ih =
+            let w : Reads rules writing (fields l) (a .said) = faithful .reads (fields l) (a .said) (a .is) in
+            let rest : Wrote (a .said ∷ before) (m ∷ ms) = ih (a .said) (a .on) in
+            record {
+              these = w .line ∷ rest .these;
+              text = rw (rest .text, w .print-is, joined-split 9 l);
+              fit = (w .fits, rest .fit);
+              keep = rw (w .says-it) (a .within, a .owned, rest .keep);
+            }
+
+    -- what is written is accepted, and stands for what its lines say
+    pub text-accepted : (t : List ℕ) (is : IsText rules writing t)
+        → (verdict rules t ≡ Accepted) × (records (rules .form) (lines t) ≡ said rules writing (is .lines))
+    text-accepted t is =
+        let p : Every (Prints rules writing) (is .lines) = all-print (is .lines) (is .fit) in
+        rw (le-ltb 60000 (length t) (is .short)) (rw (is .text) (judge-printed [] 1 (is .lines) p (is .keep), records-printed (is .lines) p))
+
+    -- what is accepted was written
+    pub accepted-text : (t : List ℕ) → verdict rules t ≡ Accepted → IsText rules writing t
+    accepted-text t e =
+        let w : Wrote [] (lines t) = judge-wrote [] 1 (lines t) (accepted-lines rules t e) in
+        record { lines = w .these; text = sym (joined-split 10 t) ∙ w .text; fit = w .fit; keep = w .keep; short = accepted-short rules t e }

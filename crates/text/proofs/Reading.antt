@@ -118,9 +118,9 @@ module _ {R : Type 0} (rules : Rules R) where
         owned = a .owned;
         rest-is = records-step brief t p l (a .said) step (a .is);
         next = record {
-          inn = step .within;
+          inn = step .passes .within;
           before = a .said ∷ readable .before;
-          good = ap (λ (n : ℕ). judge rules (a .said ∷ readable .before) n (lines (left t (l .next)))) (step .count ∙ add-one (p .line)) ∙ a .on;
+          good = ap (λ (n : ℕ). judge rules (a .said ∷ readable .before) n (lines (left t (l .next)))) (step .passes .count ∙ add-one (p .line)) ∙ a .on;
         };
       }
 

@@ -22,6 +22,7 @@ pub use numbers::read_value;
 use refusal::Refusal;
 pub use scan::all_within;
 pub use scan::find;
+pub use scan::find_word;
 pub use scan::is_same;
 
 // What a check says of a text.

@@ -77,7 +77,7 @@ impl Place {
         Place { at: 0, line: 1 }
     }
 
-    // The line at this place, and the next place. After a line that isn't ended that is the end of the text.
+    // The line at this place, and the next place, as `pass` tells it.
     pub fn step(self, text: &[u8]) -> Line
         requires { ⌜ (In (now text) self) × (self .at < length (now text)) ⌝ }
         ensures { λ r. ⌜ Steps (now (text .entry)) self r ⌝ }
@@ -88,14 +88,12 @@ impl Place {
         let fields = f.count;
         let marks = f.marks;
         if fields == 0 {
+            let next = self.pass(text);
             return Line {
                 kind: 0,
                 fields: 0,
                 marks,
-                next: Place {
-                    at: text.len(),
-                    line: number + 1,
-                },
+                next,
             };
         }
         let kind = kind_of(text, at, marks[1]);
