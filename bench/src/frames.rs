@@ -145,19 +145,25 @@ pub fn lines(text: &[u8], definition: &FrameDefinition, frame: &Frame) -> Loaded
     Loaded { candidates: candidates.collect(), base }
 }
 
-/// A P line as twelve numbers: level, order and bits, where name, set, optional and size path begin
-/// and how long they are, and the line's number among the P lines.
-fn numbers(fields: &[&[u8]], at: usize, number: u64) -> [u64; 12] {
+/// A P line as thirteen numbers: level, order, bits and type, where name, set, optional and size path
+/// begin and how long they are, and the line's number among the P lines.
+fn numbers(fields: &[&[u8]], at: usize, number: u64) -> [u64; 13] {
     let value = |k: usize| str::from_utf8(fields[k]).expect("digits").parse().expect("a number");
     let part = |k: usize| {
         let before: usize = fields[..k].iter().map(|field| field.len() + 1).sum();
         if fields[k] == b"-" { [0, 0] } else { [(at + before) as u64, fields[k].len() as u64] }
     };
     let [name, set, optional, size] = [part(5), part(6), part(7), part(8)];
-    let mut numbers = [number; 12];
-    numbers[..3].copy_from_slice(&[value(1), value(2), value(3)]);
-    numbers[3..11].copy_from_slice([name, set, optional, size].as_flattened());
+    let mut numbers = [number; 13];
+    numbers[..4].copy_from_slice(&[value(1), value(2), value(3), type_number(fields[4])]);
+    numbers[4..12].copy_from_slice([name, set, optional, size].as_flattened());
     numbers
+}
+
+/// The number that stands for a type in a line.
+fn type_number(word: &[u8]) -> u64 {
+    let words = ["HEX", "NUMBER", "NUMBER_SIGNED", "NODE_NUMBER", "BOOLEAN", "BITMASK"];
+    words.iter().position(|known| known.as_bytes() == word).expect("a type") as u64
 }
 
 /// The text with so many candidates more of the first base header, in front of the others. The base's

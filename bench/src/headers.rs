@@ -15,7 +15,7 @@ const TABLE: usize = 1_400;
 /// The numbers of the walk's scratch rows.
 const SCRATCH: usize = 768;
 /// The numbers of a loaded line.
-const LINE: usize = 12;
+const LINE: usize = 13;
 /// What the accepted call and the walk over loaded lines may cost of what zniff-rs does.
 const ACCEPTED: f64 = 1.0;
 const WALK: f64 = 0.2;

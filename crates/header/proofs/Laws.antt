@@ -22,8 +22,8 @@ use Rattle.frame_definition.specs.declared.Candidate.{Candidate}
 use Rattle.frame_definition.specs.declared.Found.{Found}
 use Rattle.frame_definition.specs.declared.Found.the-variants as found
 use Rattle.crc.specs.Crc.{right}
-use Rattle.header_fields.specs.Fields.{fieldsIn, untyped}
-use Rattle.header_rules.specs.Data.{P, Field, total}
+use Rattle.header_fields.specs.Fields.{fieldsIn}
+use Rattle.header_rules.specs.Data.{total}
 use Rattle.header_rules.specs.Walk.{reading}
 use Rattle.header_rules.specs.Answer.{refused, answer}
 use Rattle.header_rules.specs.Table.{rowWidth, tableOf}
@@ -31,7 +31,6 @@ use Rattle.header_rules.specs.Trees.{trees}
 use Rattle.header_rules.specs.Loaded.{shown}
 use Rattle.header_rules.proofs.Walked.{flat-rows, flat-bit}
 use Rattle.header_rules.specs.Told.{more-rows, header, offsetOf, fitted, candidatesOf, told}
-use Rattle.header_candidates.proofs.Untyped.{trees-untyped}
 use Rattle.header_paths.specs.Scratch.{rowsIn}
 use Rattle.header_paths.proofs.Scratch.{length-rowsIn}
 use Rattle.header_candidates.specs.Read.{Roomy, baseOf, HoldsBase, ReadsBase}
@@ -102,17 +101,12 @@ module _ (t d : List ℕ) (key : ℕ) (bs : List Numbered) (fields scratch : Lis
   abbrev own : List Numbered
   own = linesAt t (c .place) (c .params)
 
-  the-reading : reading 7 d (trees bs) (trees (map untyped own)) ≡ reading 7 d (trees bs) (trees own)
-  the-reading = ap (λ (ts : List (P 7)). reading 7 d (trees bs) ts) (trees-untyped own)
-
   the-bit : read .bit .0 ≡ total (reading 7 d (trees bs) (trees own))
-  the-bit = chosen .own .bit-is ∙ flat-bit bs (map untyped own) d ∙ ap (λ (fs : List (Field 7)). total fs) the-reading
+  the-bit = chosen .own .bit-is ∙ flat-bit bs own d
 
   the-rows : map (shown (fieldsIn t fields (read .count)) (definition t .sets)) (rowsIn scratch (read .rows))
       ≡ tableOf 7 d (definition t .sets) (reading 7 d (trees bs) (trees own))
-  the-rows =
-      rw (chosen .own .lines, chosen .own .rows) (flat-rows bs (map untyped own) d (definition t .sets))
-      ∙ ap (tableOf 7 d (definition t .sets)) the-reading
+  the-rows = rw (chosen .own .lines, chosen .own .rows) (flat-rows bs own d (definition t .sets))
 
   pub picks-one : (speed : ℕ) (table : List ℕ) (x : Decoded) (table′ : List ℕ) → Shows t d speed fields scratch c read table x table′
       → Picks t d speed key bs table x table′
@@ -132,7 +126,7 @@ pub reads-picked : (t d : List ℕ) (speed key : ℕ) (p : Place) (n : ℕ) (fie
     → Reads t d speed key table x table′
 unfolding told
 reads-picked t d speed key p n fields scratch base table x table′ r f picks =
-    let same-trees : trees (baseOf t fields base) ≡ trees (linesAt t p n) = ap trees (r .lines) ∙ trees-untyped (linesAt t p n) in
+    let same-trees : trees (baseOf t fields base) ≡ trees (linesAt t p n) = ap trees (r .lines) in
     rw (f .0, ← same-trees) picks
 
 -- ---- an accepted text

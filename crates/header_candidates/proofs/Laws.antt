@@ -22,10 +22,9 @@ use Rattle.frame_definition.proofs.Leveled.{candidates-leveled}
 use Rattle.frame_definition.specs.declared.Candidate.{Candidate}
 use Rattle.frame_definition.specs.declared.NextCandidate.{NextCandidate}
 use Rattle.frame_definition.specs.declared.NextCandidate.the-variants as next
-use Rattle.header_fields.specs.Fields.{lineWidth, fieldsFrom, fieldsIn, untyped}
+use Rattle.header_fields.specs.Fields.{lineWidth, fieldsFrom, fieldsIn}
 use Rattle.header_fields.specs.Load.{Loads}
 use Rattle.header_fields.proofs.Laws.{fields-length}
-use Rattle.header_rules.specs.Data.{P}
 use Rattle.header_rules.specs.Walk.{reading}
 use Rattle.header_rules.specs.Answer.{answered, answer, meetsAll}
 use Rattle.header_rules.specs.Trees.{trees, candidateOf}
@@ -45,7 +44,6 @@ use Rattle.header_candidates.specs.declared.Read.{Read}
 use Rattle.header_candidates.specs.declared.Held.{Held}
 use Rattle.header_candidates.specs.declared.Held.the-variants.{Holds, Fails}
 use Rattle.header_candidates.specs.declared.Choice.the-variants as choice
-use Rattle.header_candidates.proofs.Untyped.{trees-untyped}
 
 -- a candidate has a V
 pub candidate-some : (key : ℕ) (gs : List Frame) (f : Frame) (fs : List Frame) → candidates key gs ≡ f ∷ fs → some? (f .validations) ≡ true
@@ -86,7 +84,7 @@ module _ (t d : List ℕ) (p : Place) (n : ℕ) (fields₀ fields scratch₀ scr
   bs = baseOf t fields₀ base
 
   own-walk : walkedFrom (fieldsIn t fields count) d (base .count) (base .bit .0) (rowsIn scratch₀ (base .rows))
-      ≡ ownWalked bs (map untyped (linesAt t p n)) d
+      ≡ ownWalked bs (linesAt t p n) d
   own-walk =
       let size : length bs ≡ base .count = fields-length t fields₀ (base .count) 0 in
       rw (load .lines, holds .bit-is, holds .rows, size) refl
@@ -122,10 +120,7 @@ module _ (t d : List ℕ) (p : Place) (n : ℕ) (fields₀ : List ℕ) (base : R
     (test : b ≡ flatMeets (nameOf (fieldsIn t fields (r .count))) (rowsIn scratch (r .rows)) (validations (below (from t p)))) where
   is-held : b ≡ holdsAt t d (baseOf t fields₀ base) p (linesAt t p n)
   is-held =
-      test
-      ∙ (rw (read .both .lines, read .both .rows) (flat-meets (baseOf t fields₀ base) (map untyped (linesAt t p n)) d (validations (below (from t p)))))
-      ∙ ap (λ (ts : List (P 7)). meetsAll 7 d (reading 7 d (trees (baseOf t fields₀ base)) ts) (validations (below (from t p))))
-      (trees-untyped (linesAt t p n))
+      test ∙ (rw (read .both .lines, read .both .rows) (flat-meets (baseOf t fields₀ base) (linesAt t p n) d (validations (below (from t p)))))
 
   pub tries-holds : b ≡ true → Tries t d p n fields₀ base fields scratch (Holds r)
   tries-holds e = record { kept = read .kept; held-by = (sym is-held ∙ e, read .both) }
@@ -142,10 +137,7 @@ tries-ruled t d p n fields scratch base b holds test e =
     rw (holds .rows) at (sym test ∙ e) in
     record {
       kept = record { lines = refl; holds = holds };
-      held-by =
-          ap (λ (ts : List (P 7)). meetsAll 7 d (reading 7 d (trees (baseOf t fields base)) ts) (validations (below (from t p))))
-          (sym (trees-untyped (linesAt t p n)))
-          ∙ base-refutes (baseOf t fields base) (map untyped (linesAt t p n)) d (validations (below (from t p))) ruled;
+      held-by = base-refutes (baseOf t fields base) (linesAt t p n) d (validations (below (from t p))) ruled;
     }
 
 -- what is read fits the tables

@@ -1,10 +1,10 @@
 -- What the tables hold of a base header and, behind it, of a candidate. d are the bytes of the MPDU.
 use mathlib.Core.Path.{_≡_}
-use mathlib.Core.List.{List, _++_, map}
+use mathlib.Core.List.{List, _++_}
 use Prim.Native.Nat.{ℕ, _*_, _≤_}
 use lib.ListN.{length}
 use Rattle.frame_definition.specs.Definition.{Numbered}
-use Rattle.header_fields.specs.Fields.{lineWidth, fieldsIn, untyped}
+use Rattle.header_fields.specs.Fields.{lineWidth, fieldsIn}
 use Rattle.header_rules.specs.Loaded.{baseWalked, ownWalked}
 use Rattle.header_paths.specs.Scratch.{scratchWidth, rowsIn}
 use Rattle.header_candidates.specs.declared.Read.{Read}
@@ -29,16 +29,16 @@ pub record HoldsBase (t d fields scratch : List ℕ) (r : Read) : Type 0 where
 
 -- they hold these lines of a base
 pub record ReadsBase (t d : List ℕ) (ps : List Numbered) (fields scratch : List ℕ) (r : Read) : Type 0 where
-  pub lines : baseOf t fields r ≡ map untyped ps
+  pub lines : baseOf t fields r ≡ ps
   pub holds : HoldsBase t d fields scratch r
 
 -- they hold the base's lines bs and a candidate's behind them, and the rows of the walk of both
 pub record ReadsOwn (t d : List ℕ) (bs own : List Numbered) (fields scratch : List ℕ) (r : Read) : Type 0 where
-  pub lines : fieldsIn t fields (r .count) ≡ bs ++ map untyped own
+  pub lines : fieldsIn t fields (r .count) ≡ bs ++ own
   pub few : r .count ≤ 128
-  pub bit-is : r .bit .0 ≡ ownWalked bs (map untyped own) d .bit
+  pub bit-is : r .bit .0 ≡ ownWalked bs own d .bit
   pub within : r .bit .0 ≤ length d * 8
-  pub rows : rowsIn scratch (r .rows) ≡ ownWalked bs (map untyped own) d .rows
+  pub rows : rowsIn scratch (r .rows) ≡ ownWalked bs own d .rows
   pub rows-few : r .rows ≤ 128
 
 -- the base is as it was

@@ -1,6 +1,6 @@
 -- Laws of loaded P lines. Assumes nothing.
 use mathlib.Core.Path.{_≡_, refl, ap, _∙_}
-use mathlib.Core.List.{List, [], _∷_, _++_, map, append-nil, append-assoc}
+use mathlib.Core.List.{List, [], _∷_, _++_, append-nil, append-assoc}
 use Prim.Native.Nat.{ℕ, zero, suc, _+_, _-_, _*_, _^_, _≤_, _<_}
 use native.Mathlib.Nat.{add-zero, zero-add}
 use native.Mathlib.Numerals.{add-one}
@@ -15,12 +15,14 @@ use Rattle.rows.proofs.Reading.{read-before, read-row}
 use Rattle.text.specs.Records.{Readable}
 use Rattle.text.specs.declared.Place.{Place}
 use Rattle.frame_text.specs.Rules.{rules}
+use Rattle.frame_text.specs.declared.ParamType.{ParamType}
+use Rattle.frame_text.specs.declared.ParamType.the-variants.{Hex, Number, NumberSigned, NodeNumber, Boolean, Bitmask}
 use Rattle.frame_definition.specs.Definition.{Numbered, below, params}
 use Rattle.frame_definition.specs.Find.{from, meant, IsParam, FindsParam}
 use Rattle.frame_definition.specs.declared.Field.{Field}
 use Rattle.frame_definition.specs.declared.NextParam.{NextParam}
 use Rattle.frame_definition.specs.declared.NextParam.the-variants.{At, Nothing}
-use Rattle.header_fields.specs.Fields.{lineWidth, paramAt, fieldsFrom, fieldsIn, untyped}
+use Rattle.header_fields.specs.Fields.{lineWidth, paramAt, fieldsFrom, fieldsIn, typeNumber, typeBy}
 use Rattle.header_fields.specs.Load.{lineOf, Loads}
 
 -- ---- the lines of a table
@@ -35,14 +37,15 @@ same-line text t u i h =
       h (i * lineWidth + 1) (omega arith),
       h (i * lineWidth + 2) (omega arith),
       h (i * lineWidth + 3) (omega arith),
-      h (i * lineWidth + 3 + 1) (omega arith),
-      h (i * lineWidth + 5) (omega arith),
-      h (i * lineWidth + 5 + 1) (omega arith),
-      h (i * lineWidth + 7) (omega arith),
-      h (i * lineWidth + 7 + 1) (omega arith),
-      h (i * lineWidth + 9) (omega arith),
-      h (i * lineWidth + 9 + 1) (omega arith),
-      h (i * lineWidth + 11) (omega arith),
+      h (i * lineWidth + 4) (omega arith),
+      h (i * lineWidth + 4 + 1) (omega arith),
+      h (i * lineWidth + 6) (omega arith),
+      h (i * lineWidth + 6 + 1) (omega arith),
+      h (i * lineWidth + 8) (omega arith),
+      h (i * lineWidth + 8 + 1) (omega arith),
+      h (i * lineWidth + 10) (omega arith),
+      h (i * lineWidth + 10 + 1) (omega arith),
+      h (i * lineWidth + 12) (omega arith),
     )
 
 same-lines : (text t u : List ℕ) (n i : ℕ) → ((k : ℕ) → k < (i + n) * lineWidth → getD t k 0 ≡ getD u k 0)
@@ -68,6 +71,22 @@ fields-length text t zero i = refl
 fields-length text t (suc n) i = ap suc (fields-length text t n (i + 1))
 
 -- ---- a line that is written
+type-told : (k : ParamType) → typeBy (typeNumber k) ≡ k
+type-told Hex = refl
+type-told Number = refl
+type-told NumberSigned = refl
+type-told NodeNumber = refl
+type-told Boolean = refl
+type-told Bitmask = refl
+
+pub line-is : (f : Field) (n k : ℕ) → k ≡ typeNumber (f .kind)
+    → f .level ∷ f .order ∷ f .bits ∷ k ∷ f .name .start ∷ f .name .len ∷ f .set .start ∷ f .set .len ∷ f .optional .start ∷ f .optional .len
+    ∷ f .size .start ∷ f .size .len ∷ n ∷ []
+    ≡ lineOf f n
+line-is f n k e = rw e
+
+pub ruleset line-laws = (line-is)
+
 module _ (text t : List ℕ) (at : ℕ) (f : Field) (n : ℕ) (room : (at + 1) * lineWidth ≤ length t) where
   abbrev written : List ℕ
   written = sets t (at * lineWidth) (lineOf f n)
@@ -75,7 +94,7 @@ module _ (text t : List ℕ) (at : ℕ) (f : Field) (n : ℕ) (room : (at + 1) *
   number : (k j : ℕ) → k ≡ at * lineWidth + j → j < lineWidth → getD written k 0 ≡ getD (lineOf f n) j 0
   number k j e h = rw e (read-row t (at * lineWidth) (lineOf f n) j (omega arith) h)
 
-  the-line : paramAt text written at ≡ untyped (record { number = n; says = meant text f })
+  the-line : paramAt text written at ≡ record { number = n; says = meant text f }
   unfolding paramAt
   the-line =
       rw (
@@ -83,21 +102,23 @@ module _ (text t : List ℕ) (at : ℕ) (f : Field) (n : ℕ) (room : (at + 1) *
         number (at * lineWidth + 1) 1 refl (omega arith),
         number (at * lineWidth + 2) 2 refl (omega arith),
         number (at * lineWidth + 3) 3 refl (omega arith),
-        number (at * lineWidth + 3 + 1) 4 (omega arith) (omega arith),
-        number (at * lineWidth + 5) 5 refl (omega arith),
-        number (at * lineWidth + 5 + 1) 6 (omega arith) (omega arith),
-        number (at * lineWidth + 7) 7 refl (omega arith),
-        number (at * lineWidth + 7 + 1) 8 (omega arith) (omega arith),
-        number (at * lineWidth + 9) 9 refl (omega arith),
-        number (at * lineWidth + 9 + 1) 10 (omega arith) (omega arith),
-        number (at * lineWidth + 11) 11 refl (omega arith),
+        type-told (f .kind),
+        number (at * lineWidth + 4) 4 refl (omega arith),
+        number (at * lineWidth + 4 + 1) 5 (omega arith) (omega arith),
+        number (at * lineWidth + 6) 6 refl (omega arith),
+        number (at * lineWidth + 6 + 1) 7 (omega arith) (omega arith),
+        number (at * lineWidth + 8) 8 refl (omega arith),
+        number (at * lineWidth + 8 + 1) 9 (omega arith) (omega arith),
+        number (at * lineWidth + 10) 10 refl (omega arith),
+        number (at * lineWidth + 10 + 1) 11 (omega arith) (omega arith),
+        number (at * lineWidth + 12) 12 refl (omega arith),
       )
 
   -- the lines before it are as they were
   lines-kept : (m : ℕ) → m ≤ at → fieldsIn text written m ≡ fieldsIn text t m
   lines-kept m h = same-lines text written t m 0 (λ k low. read-before t (at * lineWidth) (lineOf f n) k (omega arith))
 
-  line-added : fieldsIn text written (at + 1) ≡ fieldsIn text t at ++ (untyped (record { number = n; says = meant text f }) ∷ [])
+  line-added : fieldsIn text written (at + 1) ≡ fieldsIn text t at ++ (record { number = n; says = meant text f } ∷ [])
   line-added =
       ap (fieldsIn text written) (add-one at)
       ∙ (rw zero-add at (one-more text written at 0))
@@ -109,8 +130,8 @@ pub record Loading (text : List ℕ) (p₀ : Place) (n₀ : ℕ) (t₀ : List �
   pub readable : Readable rules text p
   pub low : n + p₀ .at ≤ n₀ + p .at
   pub left : at + length (params n (below (from text p))) ≡ at₀ + length (params n₀ (below (from text p₀)))
-  pub lines : fieldsIn text t at ++ map untyped (params n (below (from text p))) ≡ fieldsIn text t₀ at₀
-      ++ map untyped (params n₀ (below (from text p₀)))
+  pub lines : fieldsIn text t at ++ params n (below (from text p)) ≡ fieldsIn text t₀ at₀
+      ++ params n₀ (below (from text p₀))
   pub kept : fieldsIn text t at₀ ≡ fieldsIn text t₀ at₀
   pub behind : at₀ ≤ at
   pub room : (at + length (params n (below (from text p)))) * lineWidth ≤ length t
@@ -165,9 +186,9 @@ module _ (text : List ℕ) (p₀ : Place) (n₀ : ℕ) (t₀ : List ℕ) (at₀ 
           let left : at + suc (length (params (suc n) (below (from text q)))) ≡ at₀ + length (params n₀ (below (from text p₀))) =
           rw (is .first) at (w .left) in
           let room : (at + suc (length (params (suc n) (below (from text q))))) * lineWidth ≤ length t = rw (is .first) at (w .room) in
-          let lines : fieldsIn text t at ++ (untyped (record { number = n; says = meant text f }) ∷ map untyped (params (suc n) (below (from text q))))
-          ≡ fieldsIn text t₀ at₀ ++ map untyped (params n₀ (below (from text p₀))) = rw (is .first) at (w .lines) in
-          let added : fieldsIn text t′ (at + 1) ≡ fieldsIn text t at ++ (untyped (record { number = n; says = meant text f }) ∷ []) =
+          let lines : fieldsIn text t at ++ (record { number = n; says = meant text f } ∷ params (suc n) (below (from text q)))
+          ≡ fieldsIn text t₀ at₀ ++ params n₀ (below (from text p₀)) = rw (is .first) at (w .lines) in
+          let added : fieldsIn text t′ (at + 1) ≡ fieldsIn text t at ++ (record { number = n; says = meant text f } ∷ []) =
           rw the-table (line-added text t at f n line-room) in
           record {
             readable = is .readable;

@@ -2,6 +2,7 @@
 use frame_definition::Field;
 use frame_definition::NextParam;
 use frame_definition::next_param;
+use frame_text::ParamType;
 use rows::put_row;
 use text::Place;
 ghost use mathlib.Core.Path.{_≡_};
@@ -11,7 +12,7 @@ ghost use Rattle.text.specs.Records.{Readable};
 ghost use Rattle.frame_text.specs.Rules.{rules};
 ghost use Rattle.frame_definition.specs.Definition.{below, params};
 ghost use Rattle.frame_definition.specs.Find.{from};
-ghost use Rattle.header_fields.specs.Fields.{lineWidth};
+ghost use Rattle.header_fields.specs.Fields.{lineWidth, typeNumber};
 ghost use Rattle.header_fields.specs.Load.{lineOf, Loads};
 
 // The columns of a line. A part of the text takes two: its start, and behind that its length.
@@ -21,23 +22,40 @@ pub const ORDER: usize = 1;
 
 pub const BITS: usize = 2;
 
-pub const NAME: usize = 3;
+pub const TYPE: usize = 3;
 
-pub const SET: usize = 5;
+pub const NAME: usize = 4;
 
-pub const OPTIONAL: usize = 7;
+pub const SET: usize = 6;
 
-pub const SIZE: usize = 9;
+pub const OPTIONAL: usize = 8;
 
-pub const NUMBER: usize = 11;
+pub const SIZE: usize = 10;
+
+pub const NUMBER: usize = 12;
 
 // The numbers of a line.
 pub const LINE_WIDTH: usize = NUMBER + 1;
+
+// The number that stands for a type in a line.
+fn type_number(kind: ParamType) -> u64
+    ensures { λ r. ⌜ r ≡ typeNumber kind ⌝ }
+{
+    match kind {
+        ParamType::Hex => 0,
+        ParamType::Number => 1,
+        ParamType::NumberSigned => 2,
+        ParamType::NodeNumber => 3,
+        ParamType::Boolean => 4,
+        ParamType::Bitmask => 5,
+    }
+}
 
 // The line of a P that has this number.
 fn line_of(field: Field, number: usize) -> [u64; LINE_WIDTH]
     ensures { λ r. ⌜ r ≡ lineOf field number ⌝ }
 {
+    let kind = field.kind;
     let name = field.name;
     let set = field.set;
     let optional = field.optional;
@@ -46,6 +64,7 @@ fn line_of(field: Field, number: usize) -> [u64; LINE_WIDTH]
         field.level as u64,
         field.order as u64,
         field.bits as u64,
+        type_number(kind),
         name.start as u64,
         name.len as u64,
         set.start as u64,

@@ -2,7 +2,7 @@
 use mathlib.Core.Bool.{Bool, true, false, cond}
 use mathlib.Core.Path.{_≡_, refl, ap, _∙_}
 use Prim.Native.Nat.{ℕ, zero, suc}
-use mathlib.Core.List.{List, [], _∷_, map, map-id}
+use mathlib.Core.List.{List, [], _∷_, map}
 use mathlib.Core.Option.{Option}
 use lib.Dec.{ltb, eqb}
 use Rattle.text.specs.Print.{Every}
@@ -46,24 +46,6 @@ module _ (g : ℕ → ℕ) where
   trees-renumber qs =
       level-map renumber (renode g 7) (λ p rest. node p (kids 7 1 rest)) (λ p rest. node p (kids 7 1 rest)) (λ p. refl)
       (λ p rest. ap (node (renumber p)) (kids-renumber 7 1 rest)) 0 qs
-
--- ---- lines that differ only in what no tree looks at
-module _ (u : Numbered → Numbered) (levels : (p : Numbered) → u p .says .level ≡ p .says .level)
-    (nodes : (K : Type 0) (p : Numbered) (ks : List K) → node (u p) ks ≡ node p ks) where
-  kids-alike : (n l : ℕ) (qs : List Numbered) → kids n l (map u qs) ≡ kids n l qs
-  unfolding kids
-  kids-alike zero l qs = refl
-  kids-alike (suc n) l qs =
-      level-map u (λ (k : P n). k) (λ p rest. node p (kids n (suc l) rest)) (λ p rest. node p (kids n (suc l) rest)) levels
-      (λ p rest. ap (node (u p)) (kids-alike n (suc l) rest) ∙ nodes (Kid n) p (kids n (suc l) rest)) l qs
-      ∙ map-id (ofLevel (λ p rest. node p (kids n (suc l) rest)) l qs)
-
-  pub trees-alike : (qs : List Numbered) → trees (map u qs) ≡ trees qs
-  unfolding trees
-  trees-alike qs =
-      level-map u (λ (k : P 7). k) (λ p rest. node p (kids 7 1 rest)) (λ p rest. node p (kids 7 1 rest)) levels
-      (λ p rest. ap (node (u p)) (kids-alike 7 1 rest) ∙ nodes (Kid 7) p (kids 7 1 rest)) 0 qs
-      ∙ map-id (ofLevel (λ p rest. node p (kids 7 1 rest)) 0 qs)
 
 -- ---- what is so of every line is so of every P of the trees
 module _ (Q : ℕ → Name → Option Name → Type 0) where
