@@ -103,13 +103,15 @@ typedef struct {
     uint64_t value;
 } TapBits;
 
-/* Which of the text's H lines it is, from 0, and its key; the payload starts at byte `payload` of the MPDU; how many rows there are;
- * whether the checksum or CRC is right; the H's flags. */
+/* Which of the text's H lines it is, from 0, and its key; its name has `name_length` bytes from byte `name` of the text on; the payload
+ * starts at byte `payload` of the MPDU; how many rows there are; whether the checksum or CRC is right; the H's flags. */
 typedef struct {
     uint64_t refusal;
     uint64_t value;
     uint64_t number;
     uint64_t key;
+    uint64_t name;
+    uint64_t name_length;
     uint64_t payload;
     uint64_t rows;
     bool right;

@@ -86,8 +86,8 @@ static void show_frame(const uint64_t *frame, size_t frame_text_length, size_t c
         print_refusal(header.refusal, header.value);
         return;
     }
-    printf("  header %llu, key %llu, %s%s, payload at %llu, checksum %s\n", (unsigned long long)header.number,
-           (unsigned long long)header.key, header.routed ? "routed" : "direct", header.ack ? " ack" : "", (unsigned long long)header.payload,
+    printf("  header %llu, %.*s, key %llu, %s%s, payload at %llu, checksum %s\n", (unsigned long long)header.number,
+           (int)header.name_length, (const char *)frame_text + header.name, (unsigned long long)header.key, header.routed ? "routed" : "direct", header.ack ? " ack" : "", (unsigned long long)header.payload,
            header.right ? "right" : "wrong");
     for (uint64_t i = 0; i < header.rows; i++) {
         print_numbers("    field", header_rows + i * TAP_HEADER_WIDTH, TAP_HEADER_WIDTH);

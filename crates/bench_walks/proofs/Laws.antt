@@ -12,9 +12,9 @@ use Rattle.refusal.specs.Refusal.{numberOf}
 use Rattle.text.specs.declared.Place.{Place}
 use Rattle.text.specs.declared.Verdict.{Verdict}
 use Rattle.text.specs.declared.Verdict.the-variants as text
-use Rattle.text.proofs.Reading.{readable-start, accepted-short}
 use Rattle.frame_text.specs.Rules.{rules, verdict}
 use Rattle.frame_definition.specs.Find.{Counted, FindsBase, IsCandidate, FindsCandidate}
+use Rattle.frame_definition.proofs.Candidates.{counted-starts}
 use Rattle.frame_definition.specs.declared.Candidate.{Candidate}
 use Rattle.frame_definition.specs.declared.Found.{Found}
 use Rattle.frame_definition.specs.declared.Found.the-variants as found
@@ -55,16 +55,6 @@ pub tells-unfit : (t d : List ℕ) (region speed n : ℕ) (v : Verdict) (x : Ref
 tells-unfit t d region speed n v x r e q is = rw (sym e ∙ q) is
 
 -- ---- candidates
-pub count-starts : (t : List ℕ) (p : Place) → verdict t ≡ text.Accepted → p ≡ record { at = 0; line = 1 } → Counted t p 0 0
-count-starts t p accepted e =
-    rw e (record {
-      readable = readable-start rules t _ accepted refl;
-      short = accepted-short rules t accepted;
-      headers-few = omega arith;
-      params-few =
-          omega arith;
-    })
-
 module _ (t : List ℕ) (p : Place) (key h n : ℕ) (r : NextCandidate) (finds : FindsCandidate t p key h n r) (c : Candidate) (e : r ≡ next.At c) where
   is : IsCandidate t p key h n c
   is = rw e at finds
@@ -90,7 +80,7 @@ pub ruleset laws = (
   tells-decoded′,
   tells-first,
   tells-unfit,
-  count-starts,
+  counted-starts,
   count-more,
   count-fits,
   base-readable,

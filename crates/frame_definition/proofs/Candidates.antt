@@ -5,35 +5,40 @@ use mathlib.Core.List.{List, [], _∷_}
 use mathlib.Core.Option.{Option, none, some}
 use Prim.Native.Nat.{ℕ, suc, _+_, _-_, _≤_, _<_}
 use native.Mathlib.Omega.{arith}
+use native.Mathlib.Nat.{zero-add}
 use native.Mathlib.Numerals.{add-one}
 use lib.Dec.{eqb, leb}
 use lib.ListN.{length, getD}
 use mir.Syntax.{w64}
 use mir.Val.{Fits}
 use borrow.Author.Tests.{eqb-true, eq-eqb, ne-eqb}
-use Rattle.text.specs.Text.{field, within, upTo, value, worth, missing, name, optionalUpTo, optional}
+use Rattle.text.specs.Text.{lines, field, within, upTo, value, worth, missing, name, optionalUpTo, optional}
 use Rattle.text.specs.Text as text
-use Rattle.text.specs.Place.{kindOf, cells, Steps, Passes, Has}
+use Rattle.text.specs.Place.{kindOf, left, cells, Steps, Passes, Has, partOf}
 use Rattle.text.specs.Listing.{listed, starts, Stands}
 use Rattle.text.specs.declared.Under.{Under}
 use Rattle.text.specs.declared.Under.the-variants as stand
 use Rattle.text.specs.Records.{Readable}
 use Rattle.text.specs.declared.Place.{Place}
 use Rattle.text.specs.declared.Line.{Line}
+use Rattle.text.specs.declared.Part.{Part}
+use Rattle.text.specs.declared.Verdict.the-variants.{Accepted}
 use Rattle.text.specs.declared.Number.the-variants.{Is, Over as TooHigh, Not}
 use Rattle.text.specs.declared.Optional.{Optional}
 use Rattle.text.specs.declared.Optional.the-variants.{Given, Missing, Wrong}
 use Rattle.text.proofs.Tests.{and-left, and-right, value-of}
-use Rattle.text.proofs.Reading.{rest-end}
-use Rattle.frame_text.specs.Form.{Record, frequency, base, header, param, validation, set, entry, given, flags, headerForm, headerOf, form}
-use Rattle.frame_text.specs.Rules.{owns, rules}
+use Rattle.text.proofs.Reading.{readable-start, accepted-short, rest-end}
+use Rattle.frame_text.specs.Form.{Header, Record, frequency, base, header, param, validation, set, entry, given, flags, headerForm, headerOf, form}
+use Rattle.frame_text.specs.Rules.{owns, rules, verdict}
 use Rattle.frame_definition.specs.Definition.{Frame, below, params, validations, frames, isKey, some?, candidates}
 use Rattle.frame_definition.specs.Find.{from, Good, oneMore, ofKind, NextOf, candidate, HasFlags, IsRead, Counted, frameOf, FindsCandidate}
 use Rattle.frame_definition.specs.declared.Candidate.{Candidate}
 use Rattle.frame_definition.specs.declared.NextCandidate.the-variants as nextCandidate
-use Rattle.frame_definition.proofs.Views.{View}
+use Rattle.frame_definition.specs.Names.{headerIn, nameFrom, headerName}
+use Rattle.frame_definition.proofs.Views.{View, some-field}
 use Rattle.frame_definition.proofs.Finding.{Lined, lined, good-line, Over, over-line, kind-at, over-less, said-good, counted, more-bound, stands}
 use Rattle.frame_definition.proofs.Finding.{validations-of}
+use Rattle.frame_definition.proofs.Names.{Here, here-passed, here-read, names-other, names-more, names-first, name-before, name-at, name-says}
 
 -- ---- an H line
 module _ (t : List ℕ) (l : Line) (good : Good t l) (is : l .kind ≡ 72) where
@@ -74,6 +79,14 @@ module _ (t : List ℕ) (l : Line) (good : Good t l) (is : l .kind ≡ 72) where
       })
   flags-are s e = rw e (record { ack = refl; routed = refl; multicast = refl; error = refl })
 
+  pub name-is : (s : List ℕ) → s ≡ field 4 h-fields → length (field 4 h-fields) < l .next .at
+      → _≡_ {A = Part} (record { start = l .next .at - 1 - length s; len = length s })
+      (record { start = l .next .at - 1 - length (field 4 h-fields); len = length (field 4 h-fields) })
+  name-is s e h = rw e
+
+  pub name-room : (s : List ℕ) → s ≡ field 4 h-fields → length (field 4 h-fields) < l .next .at → length s ≤ l .next .at - 1
+  name-room s e h = rw e (omega arith)
+
 -- ---- a base key that may be missing
 module _ (l : List ℕ) (key : ℕ) where
   based-given : (m d u : Bool) (n : ℕ) → cond m Missing (text.given (cond d (cond u (Is (worth 0 l)) TooHigh) Not)) ≡ Given n
@@ -110,7 +123,7 @@ module _ (t : List ℕ) (l : Line) (key : ℕ) (r : Optional) (good : Good t l) 
   base-wrong e = absurd (based-wrong base-field key (missing base-field) (text.decimal base-field) (leb (worth 0 base-field) 255) (sym says ∙ e)
       (header-base t l good is))
 
-pub ruleset header-laws = (header-has, flags-inside, flags-are, base-given, base-missing, base-wrong)
+pub ruleset header-laws = (header-has, flags-inside, flags-are, name-is, name-room, base-given, base-missing, base-wrong)
 
 -- ---- a V under an H
 first-validation : (rs : List Record) → starts owns (ofKind 86) rs ≡ true → some? (validations (below rs)) ≡ true
@@ -161,6 +174,15 @@ candidates-step fs (validation path x) rs key h n v c = rw (v .kind)
 candidates-step fs (set name) rs key h n v c = rw (v .kind)
 candidates-step fs (entry k text) rs key h n v c = rw (v .kind)
 
+no-header : (fs : List (List ℕ)) (x : Record) → View fs x → eqb (kindOf fs) 72 ≡ false → headerIn (some x) ≡ none
+no-header fs (frequency code key) v e = refl
+no-header fs (base key) v e = refl
+no-header fs (header h) v e = absurd (let z : true ≡ false = rw (v .kind) at e in let w : _≡_ {A = ℕ} 0 1 = cc in omega arith)
+no-header fs (param p) v e = refl
+no-header fs (validation path value) v e = refl
+no-header fs (set name) v e = refl
+no-header fs (entry key text) v e = refl
+
 the-key : (key : ℕ) (o : Option ℕ) → isKey key o ≡ true → o ≡ some key
 the-key key none e = absurd (let z : _≡_ {A = ℕ} 0 1 = cc in omega arith)
 the-key key (some k) e = rw (eqb-true k key e)
@@ -169,6 +191,18 @@ pub record Looking (t : List ℕ) (p₀ : Place) (key h₀ n₀ : ℕ) (p : Plac
   pub counts : Counted t p h n
   pub after : p₀ .at ≤ p .at
   pub so : candidates key (frames h₀ n₀ (from t p₀)) ≡ candidates key (frames h n (from t p))
+
+-- at the start of an accepted text
+pub counted-starts : (t : List ℕ) (p : Place) → verdict t ≡ Accepted → p ≡ record { at = 0; line = 1 } → Counted t p 0 0
+unfolding headerName
+counted-starts t p accepted e =
+    rw e (record {
+      readable = readable-start rules t _ accepted refl;
+      short = accepted-short rules t accepted;
+      headers-few = omega arith;
+      params-few = omega arith;
+      names = λ k. rw zero-add refl;
+    })
 
 pub look-start : (t : List ℕ) (p : Place) (key h n : ℕ) → Counted t p h n → Looking t p key h n p h n
 look-start t p key h n c = record { counts = c; after = omega arith; so = refl }
@@ -200,6 +234,8 @@ look-over t p₀ key h₀ n₀ p h n m q k inside other is-m pass =
         short = k .counts .short;
         headers-few = omega (arith, k .counts .headers-few, pass .on);
         params-few = rw is-m (more-bound (getD t (p .at) 0) 80 n (p .at) (q .at) (k .counts .params-few) (pass .on));
+        names = λ j. k .counts .names j ∙ names-other t p q (o .said)
+            (here-passed t p q (o .said) (k .counts .readable .inn) (o .next .inn) (o .rest-is) pass) (no-header (o .fields) (o .said) (o .view) not-h) j;
       };
       after = omega (arith, k .after, pass .on);
       so = k .so ∙ ap (λ (rs : List Record). candidates key (frames h n rs)) (o .rest-is)
@@ -220,6 +256,37 @@ module _ (t : List ℕ) (p₀ : Place) (key h₀ n₀ : ℕ) (p : Place) (h n : 
   pub look-less : length t - l .next .at < length t - p .at
   look-less = omega (arith, step .passes .on)
 
+  -- the H line here, and where its name stands
+  module _ (byte : getD t (p .at) 0 ≡ 72) where
+    abbrev says-h : Header
+    says-h = headerOf (cells t l)
+
+    is-h : line-here .said ≡ header says-h
+    is-h = let z : some (line-here .said) ≡ some (header says-h) = sym (line-here .form-is) ∙ h-said t l look-good (look-kind byte) .1 in cc
+
+    line-is : Here t p (l .next) (line-here .said)
+    line-is =
+        here-read t p l (line-here .said) (k .counts .readable .inn) (line-here .rest-is) step
+        (λ z. let some-field-is = some-field (line-here .said) in omega (arith, line-here .count))
+
+    pub look-name : length (field 4 (cells t l)) < l .next .at
+    look-name = name-before t p (l .next) (line-here .said) line-is says-h is-h
+
+    names-behind : (j : ℕ) → headerName t (h + 1 + j) ≡ nameFrom (l .next .at) (lines (left t (l .next))) j
+    names-behind j =
+        let z : h + 1 + j ≡ h + suc j = omega arith in
+        ap (headerName t) z ∙ k .counts .names (suc j) ∙ names-more t p (l .next) (line-here .said) line-is says-h is-h j
+
+    name-told : headerName t h ≡ record { start = l .next .at - 1 - length (field 4 (cells t l)); len = length (field 4 (cells t l)) }
+    name-told =
+        let z : h ≡ h + 0 = omega arith in
+        ap (headerName t) z ∙ k .counts .names 0 ∙ names-first t p (l .next) (line-here .said) line-is says-h is-h
+        ∙ name-at t p (l .next) (line-here .said) line-is says-h is-h
+
+    name-there : partOf t (record { start = l .next .at - 1 - length (field 4 (cells t l)); len = length (field 4 (cells t l)) }) ≡ field 4 (cells t l)
+    name-there =
+        ap (partOf t) (sym (name-at t p (l .next) (line-here .said) line-is says-h is-h)) ∙ name-says t p (l .next) (line-here .said) line-is says-h is-h
+
   module _ (b : Bool) (byte : getD t (p .at) 0 ≡ 72) (is : b ≡ candidate key (cells t l) (from t (l .next))) where
     pub look-next : b ≡ false → Looking t p₀ key h₀ n₀ (l .next) (h + 1) n
     look-next e =
@@ -230,6 +297,7 @@ module _ (t : List ℕ) (p₀ : Place) (key h₀ n₀ : ℕ) (p : Place) (h n : 
             short = k .counts .short;
             headers-few = omega (arith, k .counts .headers-few, step .passes .on);
             params-few = omega (arith, k .counts .params-few, step .passes .on);
+            names = names-behind byte;
           };
           after = omega (arith, k .after, step .passes .on);
           so = k .so ∙ ap (λ (rs : List Record). candidates key (frames h n rs)) (line-here .rest-is)
@@ -238,13 +306,15 @@ module _ (t : List ℕ) (p₀ : Place) (key h₀ n₀ : ℕ) (p : Place) (h n : 
 
     pub look-hit : (c : Candidate) → b ≡ true → IsRead t l h n c → FindsCandidate t p₀ key h₀ n₀ (nextCandidate.At c)
     look-hit c e r = record {
+      named = the-name ∙ rw (r .number-is) (sym (name-told byte));
       first = k .so ∙ ap (λ (rs : List Record). candidates key (frames h n rs))
-          (line-here .rest-is ∙ ap (λ (x : Record). x ∷ from t (l .next)) is-header) ∙ is-first ∙ same-frame;
+          (line-here .rest-is ∙ ap (λ (x : Record). x ∷ from t (l .next)) (is-h byte)) ∙ is-first ∙ same-frame;
       counted = rw (r .place-is, r .number-is, r .params-is) (record {
         readable = line-here .next;
         short = k .counts .short;
         headers-few = omega (arith, k .counts .headers-few, step .passes .on);
         params-few = omega (arith, k .counts .params-few, step .passes .on);
+        names = λ j. let z : suc h + j ≡ h + 1 + j = omega arith in rw z (names-behind byte j);
       });
       on = rw (r .place-is) (omega (arith, k .after, step .passes .on));
     }
@@ -252,8 +322,11 @@ module _ (t : List ℕ) (p₀ : Place) (key h₀ n₀ : ℕ) (p : Place) (h n : 
         kind-is : l .kind ≡ 72
         kind-is = look-kind byte
 
-        is-header : line-here .said ≡ header (headerOf (cells t l))
-        is-header = let z : some (line-here .said) ≡ some (header (headerOf (cells t l))) = sym (line-here .form-is) ∙ h-said t l look-good kind-is .1 in cc
+        the-name : c .name ≡ record { start = l .next .at - 1 - length (field 4 (cells t l)); len = length (field 4 (cells t l)) }
+        the-name = r .name-is
+
+        is-named : partOf t (c .name) ≡ field 4 (cells t l)
+        is-named = ap (partOf t) the-name ∙ name-there byte
 
         tests : (isKey key (given (worth 0) (field 2 (cells t l))) && some? (validations (below (from t (l .next))))) ≡ true
         tests = and-right (eqb (kindOf (cells t l)) 72) _ (sym is ∙ e)
@@ -288,8 +361,21 @@ module _ (t : List ℕ) (p₀ : Place) (key h₀ n₀ : ℕ) (p : Place) (h n : 
               r .flags-are
                   .multicast,
               r .flags-are .error,
-              r .name-is .says,
+              is-named,
               base-is,
             )
 
-pub ruleset look-laws = (look-start, look-end, look-few, look-fits, look-over, over-less, look-good, look-kind, look-less, look-next, look-hit)
+pub ruleset look-laws = (
+  look-start,
+  look-end,
+  look-few,
+  look-fits,
+  look-over,
+  over-less,
+  look-good,
+  look-kind,
+  look-less,
+  look-name,
+  look-next,
+  look-hit,
+)

@@ -1,6 +1,7 @@
 pub mod Views
 pub mod Finding
 pub mod Passing
+pub mod Names
 pub mod Candidates
 pub mod Symbols
 pub mod Printing

@@ -1,13 +1,13 @@
 -- How the answers of the code that looks things up in an accepted frame text are read.
-use Prim.Native.Nat.{ℕ, suc, _+_, _≤_, _<_}
+use Prim.Native.Nat.{ℕ, suc, _+_, _-_, _≤_, _<_}
 use mathlib.Core.Bool.{Bool, true, false, cond, _&&_, _||_}
 use mathlib.Core.Path.{_≡_}
 use mathlib.Core.List.{List, [], _∷_}
 use mathlib.Core.Option.{Option, none, some}
 use lib.Dec.{eqb, leb}
 use lib.ListN.{length}
-use Rattle.text.specs.Text.{field, same, value}
-use Rattle.text.specs.Place.{kindOf, cells, Marked, partOf, IsPart, IsOptionalPart}
+use Rattle.text.specs.Text.{field, lines, same, value}
+use Rattle.text.specs.Place.{kindOf, left, cells, Marked, partOf, IsPart, IsOptionalPart}
 use Rattle.text.specs.Records.{rest, Readable}
 use Rattle.text.specs.declared.Place.{Place}
 use Rattle.text.specs.declared.Line.{Line}
@@ -20,6 +20,7 @@ use Rattle.frame_text.specs.Form as form
 use Rattle.frame_text.specs.Rules.{letter, owns, rules}
 use Rattle.frame_definition.specs.Definition.{Frame, below, params, validations, entries, frames, sets, definition, firstBase, isKey, some?}
 use Rattle.frame_definition.specs.Definition.{candidates, firstSet}
+use Rattle.frame_definition.specs.Names.{nameFrom, headerName}
 use Rattle.frame_definition.specs.declared.Found.{Found}
 use Rattle.frame_definition.specs.declared.Found.the-variants as found
 use Rattle.frame_definition.specs.declared.Numbers.{Numbers}
@@ -158,7 +159,7 @@ pub record IsRead (t : List ℕ) (l : Line) (h n : ℕ) (c : Candidate) : Type 0
   pub place-is : c .place ≡ l .next
   pub key-is : c .key ≡ value 255 (field 1 (cells t l))
   pub flags-are : HasFlags (field 3 (cells t l)) (c .flags)
-  pub name-is : IsPart t (field 4 (cells t l)) (c .name)
+  pub name-is : c .name ≡ record { start = l .next .at - 1 - length (field 4 (cells t l)); len = length (field 4 (cells t l)) }
 
 -- a place in an accepted text with h H and n P lines before it
 pub record Counted (t : List ℕ) (p : Place) (h n : ℕ) : Type 0 where
@@ -166,6 +167,8 @@ pub record Counted (t : List ℕ) (p : Place) (h n : ℕ) : Type 0 where
   pub short : length t ≤ 60000
   pub headers-few : h ≤ p .at
   pub params-few : n ≤ p .at
+  -- the names of the further H lines are those from there on
+  pub names : (k : ℕ) → headerName t (h + k) ≡ nameFrom (p .at) (lines (left t p)) k
 
 -- the H that an answer tells
 abbrev pub frameOf : List ℕ → ℕ → Candidate → Frame
@@ -187,6 +190,7 @@ frameOf t key c = record {
 -- the first candidate from p on, after h H and n P lines, and where the others are
 pub record IsCandidate (t : List ℕ) (p : Place) (key h n : ℕ) (c : Candidate) : Type 0 where
   pub first : candidates key (frames h n (from t p)) ≡ frameOf t key c ∷ candidates key (frames (suc (c .number)) (c .params) (from t (c .place)))
+  pub named : c .name ≡ headerName t (c .number)
   pub counted : Counted t (c .place) (suc (c .number)) (c .params)
   pub on : p .at < c .place .at
 

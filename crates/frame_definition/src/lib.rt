@@ -358,16 +358,22 @@ fn is_candidate(text: &[u8], line: Line, key: u64) -> bool
 
 // What a candidate's H line says, after h H and n P lines.
 fn read_candidate(text: &[u8], line: Line, h: usize, n: usize) -> Candidate
-    requires { ⌜ (Good (now text) line) × (line .kind ≡ 72) ⌝ }
+    requires { ⌜ (Good (now text) line) × (line .kind ≡ 72) × (length (field 4 (cells (now text) line)) < line .next .at) ⌝ }
     ensures { λ r. ⌜ IsRead (now (text .entry)) line h n r ⌝ }
 {
     let next = line.next;
     let flags = read_flags(text, line);
+    // The name is the last field: it ends where the line ends.
+    let len = line.field(text, 4).len();
+    let name = Part {
+        start: next.at - 1 - len,
+        len,
+    };
     Candidate {
         number: h,
         key: line.value(text, 1, 255),
         flags,
-        name: line.part(text, 4),
+        name,
         place: next,
         params: n,
     }

@@ -10,8 +10,7 @@ use header::decode_accepted;
 use output::paint::Hue;
 use output::paint::put_painted;
 use output::refusals::put_short;
-use readers::line_fields::field_of;
-use readers::lines::find_line;
+use readers::cells::part;
 use readers::region::frame_code;
 use refusal::Refusal;
 use writer::Buffer;
@@ -93,7 +92,8 @@ fn put_header(
     rows: &[u64],
     colour: bool,
 ) -> usize {
-    let name = field_of(find_line(text, b'H', header.number), 4);
+    let named = header.name;
+    let name = part(text, named.start, named.len);
     let mut place = put_name(out, at, name, colour);
     place = put_nodes(out, place, text, rows, header.rows);
     put_size(out, place, mpdu, header.right, colour)

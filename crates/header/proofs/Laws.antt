@@ -16,6 +16,7 @@ use Rattle.text.specs.declared.Verdict.{Verdict}
 use Rattle.text.specs.declared.Verdict.the-variants as text
 use Rattle.frame_text.specs.Rules.{rules, verdict}
 use Rattle.frame_definition.specs.Definition.{Numbered, params, definition, firstBase}
+use Rattle.frame_definition.specs.Names.{headerName}
 use Rattle.frame_definition.specs.Find.{FindsBase}
 use Rattle.frame_definition.proofs.Leveled.{base-leveled}
 use Rattle.frame_definition.specs.declared.Candidate.{Candidate}
@@ -56,14 +57,14 @@ module _ (t d : List ℕ) (speed : ℕ) (fields scratch : List ℕ) (c : Candida
       rw e (record { answer = refl; rows = refl })
 
   pub show-all : (offset : ℕ) (ok : Bool) (table′ : List ℕ) → read .rows ≤ length table / rowWidth → offset ≡ offsetOf (read .bit .0)
-      → ok ≡ right d speed
+      → ok ≡ right d speed → c .name ≡ headerName t (c .number)
       → table′ ≡ laid table (map (shown (fieldsIn t fields (read .count)) (definition t .sets)) (rowsIn scratch (read .rows)))
       → Shows t d speed fields scratch c read table (Header
-      (record { number = c .number; key = c .key; flags = c .flags; payload = offset; right = ok; rows = read .rows })) table′
-  show-all offset ok table′ h is-offset is-ok is-table =
+      (record { number = c .number; key = c .key; flags = c .flags; name = c .name; payload = offset; right = ok; rows = read .rows })) table′
+  show-all offset ok table′ h is-offset is-ok is-name is-table =
       let e : fitted (length table / rowWidth) (headingRead t fields scratch c read) ≡ header (headingRead t fields scratch c read) =
       rw (rows-read, le-leb (read .rows) (length table / rowWidth) h) refl in
-      rw e (record { answer = rw (is-offset, is-ok, rows-read) refl; rows = is-table })
+      rw e (record { answer = rw (is-offset, is-ok, is-name, rows-read) refl; rows = is-table })
 
   pub rows-fit : read .rows ≤ length table / rowWidth → read .rows * rowWidth ≤ length table
   rows-fit h = omega arith
@@ -97,6 +98,9 @@ module _ (t d : List ℕ) (key : ℕ) (bs : List Numbered) (fields scratch : Lis
         rows = omega (arith, chosen .own .rows-few, roomy .rows);
         bit-in = omega (arith, chosen .own .within, roomy .short);
       }
+
+  pub chosen-named : c .name ≡ headerName t (c .number)
+  chosen-named = chosen .named
 
   abbrev own : List Numbered
   own = linesAt t (c .place) (c .params)
@@ -169,6 +173,7 @@ pub ruleset laws = (
   base-few,
   base-holds,
   chosen-ready,
+  chosen-named,
   picks-one,
   picks-none,
   reads-picked,

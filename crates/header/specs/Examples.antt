@@ -4,6 +4,7 @@ use mathlib.Core.Bool.{false}
 use mathlib.Core.List.{List, [], _∷_}
 use Prim.Native.Nat.{ℕ}
 use Rattle.refusal.specs.declared.Refusal.the-variants.{Form, TooShort, NoBase, NoCandidate, MoreRows}
+use Rattle.frame_definition.specs.Names.{headerName}
 use Rattle.bits.specs.Bits.{bitsAt}
 use Rattle.crc.specs.Crc.{right}
 use Rattle.crc.specs.Poly.{plus}
@@ -33,13 +34,13 @@ pub a5c3 : decoded text (0xA5 ∷ 0xC3 ∷ []) 0 0 30
       number = 0;
       key = 0;
       flags = record { ack = false; routed = false; multicast = false; error = false };
+      name = record { start = 109; len = 1 };
       payload = 2;
-      right =
-          false;
+      right = false;
       rows = 4;
     })
 unfolding told answer reading baseRead listed exists packed innerAt ordered insert widthOf valueAt inFirst through firstNamed valueOf bitsAt trees kids
-    ofLevel tableFrom innerTable numbersOf rowsEach right plus
+    ofLevel tableFrom innerTable numbersOf rowsEach right plus headerName
 a5c3 = refl
 
 -- E9: the four rows; the two numbers behind them are as they were

@@ -18,8 +18,8 @@ use Rattle.header.specs.declared.Decoded.{Decoded}
 use Rattle.header.specs.Decode.{ofTold, tableAfter}
 
 -- the answer x for the bytes d of an MPDU, and its rows in the table
-pub record Gives (d : List ℕ) (speed : ℕ) (x : Told) (table : List ℕ) (r : Decoded) (table′ : List ℕ) : Type 0 where
-  pub answer : r ≡ ofTold (right d speed) x
+pub record Gives (t d : List ℕ) (speed : ℕ) (x : Told) (table : List ℕ) (r : Decoded) (table′ : List ℕ) : Type 0 where
+  pub answer : r ≡ ofTold t (right d speed) x
   pub rows : table′ ≡ tableAfter table x r
 
 -- what was read lies in the tables, and in an MPDU of at most 2,048 bytes
@@ -43,12 +43,12 @@ headingRead t fields scratch c read =
     }
 
 abbrev pub Shows : List ℕ → List ℕ → ℕ → List ℕ → List ℕ → Candidate → Read → List ℕ → Decoded → List ℕ → Type 0
-Shows t d speed fields scratch c read table r table′ = Gives d speed (fitted (length table / rowWidth) (headingRead t fields scratch c read)) table r table′
+Shows t d speed fields scratch c read table r table′ = Gives t d speed (fitted (length table / rowWidth) (headingRead t fields scratch c read)) table r table′
 
 -- the first candidate that holds, behind the base's P lines bs
 abbrev pub Picks : List ℕ → List ℕ → ℕ → ℕ → List Numbered → List ℕ → Decoded → List ℕ → Type 0
 Picks t d speed key bs table r table′ =
-    Gives d speed (ofAnswer (definition t .sets) d (length table / rowWidth) (answer 7 d (trees bs) (candidatesOf key (definition t)))) table r table′
+    Gives t d speed (ofAnswer (definition t .sets) d (length table / rowWidth) (answer 7 d (trees bs) (candidatesOf key (definition t)))) table r table′
 
 abbrev pub Reads : List ℕ → List ℕ → ℕ → ℕ → List ℕ → Decoded → List ℕ → Type 0
-Reads t d speed key table r table′ = Gives d speed (told (definition t) d (length table / rowWidth) key) table r table′
+Reads t d speed key table r table′ = Gives t d speed (told (definition t) d (length table / rowWidth) key) table r table′

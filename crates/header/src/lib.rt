@@ -16,6 +16,7 @@ use header_paths::SCRATCH_WIDTH;
 use header_rows::ROW_WIDTH;
 use header_rows::write_rows;
 use refusal::Refusal;
+use text::Part;
 use text::Place;
 use text::Verdict;
 ghost use mathlib.Core.Path.{_≡_};
@@ -23,6 +24,7 @@ ghost use Prim.Native.Nat.{_≤_};
 ghost use lib.ListN.{length};
 ghost use Rattle.text.specs.declared.Verdict.the-variants.{Accepted};
 ghost use Rattle.frame_text.specs.Rules.{verdict};
+ghost use Rattle.frame_definition.specs.Names.{headerName};
 ghost use Rattle.frame_definition.specs.Find.{FindsBase};
 ghost use Rattle.frame_definition.specs.declared.Found.the-variants.{At};
 ghost use Rattle.header_rules.specs.Told.{offsetOf};
@@ -30,12 +32,13 @@ ghost use Rattle.header.specs.Decode.{Decodes};
 ghost use Rattle.header.specs.Steps.{Ready, Shows, Picks, Reads};
 ghost use Rattle.header_candidates.specs.Read.{Roomy, baseOf, HoldsBase};
 
-// H20 of docs/RULES.md: which H line it is, its key and flags, where the payload starts in the MPDU, whether the checksum or CRC
-// is right, and how many rows there are.
+// H20 of docs/RULES.md: which H line it is, its key and flags, where its name stands in the text, where the payload starts in the
+// MPDU, whether the checksum or CRC is right, and how many rows there are.
 pub struct DecodedHeader {
     pub number: usize,
     pub key: u16,
     pub flags: Flags,
+    pub name: Part,
     pub payload: u64,
     pub right: bool,
     pub rows: usize,
@@ -66,7 +69,7 @@ fn show(
     rows: &mut [u64],
 ) -> Decoded
     requires { ⌜ verdict (now text) ≡ Accepted ⌝ }
-    requires { ⌜ Ready (now fields) (now scratch) read ⌝ }
+    requires { ⌜ (Ready (now fields) (now scratch) read) × (candidate .name ≡ headerName (now text) (candidate .number)) ⌝ }
     ensures { λ r.
         ⌜ Shows (now (text .entry)) (now (mpdu .entry)) speed (now (fields .entry)) (now (scratch .entry)) candidate read (now (rows .entry)) r
         (now (rows .exit)) ⌝ }
@@ -77,11 +80,13 @@ fn show(
     }
     write_rows(text, fields, read.count, scratch, n, rows);
     let flags = candidate.flags;
+    let name = candidate.name;
     let bit = read.bit;
     Decoded::Header(DecodedHeader {
         number: candidate.number,
         key: candidate.key,
         flags,
+        name,
         payload: payload_offset(bit),
         right: check_crc(mpdu, speed),
         rows: n,

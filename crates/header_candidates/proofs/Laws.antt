@@ -13,11 +13,11 @@ use Rattle.text.specs.Print.{Every}
 use Rattle.text.specs.Records.{Readable}
 use Rattle.text.specs.declared.Place.{Place}
 use Rattle.text.specs.declared.Verdict.the-variants.{Accepted}
-use Rattle.text.proofs.Reading.{readable-start, accepted-short}
 use Rattle.frame_text.specs.Rules.{rules, verdict}
 use Rattle.frame_definition.specs.Definition.{Numbered, Frame, below, params, validations, frames, definition, isKey, some?, candidates}
 use Rattle.frame_definition.specs.Find.{from, Counted, frameOf, IsCandidate, FindsCandidate}
 use Rattle.frame_definition.specs.Leveled.{Leveled}
+use Rattle.frame_definition.proofs.Candidates.{counted-starts}
 use Rattle.frame_definition.proofs.Leveled.{candidates-leveled}
 use Rattle.frame_definition.specs.declared.Candidate.{Candidate}
 use Rattle.frame_definition.specs.declared.NextCandidate.{NextCandidate}
@@ -167,13 +167,7 @@ pub choosing-starts : (t d : List ℕ) (key : ℕ) (base : Read) (fields scratch
     → p ≡ record { at = 0; line = 1 } → Choosing t d key fields scratch base fields scratch p 0 0
 choosing-starts t d key base fields scratch p accepted roomy holds e =
     rw e (record {
-      counted = record {
-        readable = readable-start rules t _ accepted refl;
-        short = accepted-short rules t accepted;
-        headers-few = omega arith;
-        params-few =
-            omega arith;
-      };
+      counted = counted-starts t _ accepted refl;
       roomy = roomy;
       same-fields = refl;
       same-scratch = refl;
@@ -231,7 +225,7 @@ module _ (t d : List ℕ) (key : ℕ) (fields₀ scratch₀ : List ℕ) (base : 
       pub chooses-one : (o : Read) → x ≡ Holds o → Chooses t d key (baseOf t fields₀ base) fields′ scratch′ (choice.At c o)
       chooses-one o q =
           let by = rw (q, same-base) at (tries .held-by) in
-          record { answer-is = decides true (by .0); own = by .1 }
+          record { answer-is = decides true (by .0); own = by .1; named = is .named }
 
       pub choosing-more : length fields′ ≡ length fields → length scratch′ ≡ length scratch → x ≡ Fails
           → Choosing t d key fields₀ scratch₀ base fields′ scratch′ (c .place) (c .number + 1) (c .params)

@@ -5,6 +5,7 @@ use mathlib.Core.List.{List}
 use Prim.Native.Nat.{ℕ}
 use Rattle.text.specs.declared.Place.{Place}
 use Rattle.frame_definition.specs.Definition.{Numbered, below, params, validations, definition}
+use Rattle.frame_definition.specs.Names.{headerName}
 use Rattle.frame_definition.specs.Find.{from, frameOf}
 use Rattle.frame_definition.specs.declared.Candidate.{Candidate}
 use Rattle.header_rules.specs.Walk.{reading}
@@ -40,6 +41,7 @@ pub record IsChosen (t d : List ℕ) (key : ℕ) (bs : List Numbered) (fields sc
   pub answer-is : answer 7 d (trees bs) (candidatesOf key (definition t))
       ≡ answered (candidateOf (frameOf t key c)) (reading 7 d (trees bs) (trees (linesAt t (c .place) (c .params))))
   pub own : ReadsOwn t d bs (linesAt t (c .place) (c .params)) fields scratch r
+  pub named : c .name ≡ headerName t (c .number)
 
 -- by cases of the choice
 abbrev pub Chooses : List ℕ → List ℕ → ℕ → List Numbered → List ℕ → List ℕ → Choice → Type 0

@@ -20,3 +20,4 @@ pub mod Decide
 pub mod Level
 pub mod Told
 pub mod Accepted
+pub mod Named

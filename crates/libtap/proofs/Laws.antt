@@ -123,13 +123,14 @@ pub heads-refusal : (d : Decoded) (x : Refusal) (number carried : ℕ) → d ≡
       value = carried;
       number = 0;
       key = 0;
+      name = 0;
+      «name_length» = 0;
       payload = 0;
       rows = 0;
       right = false;
       ack = false;
       routed = false;
-      multicast =
-          false;
+      multicast = false;
       error = false;
     } ≡ toldHeader d
 heads-refusal d x number carried e is-number is-carried = rw (e, is-number, is-carried) refl

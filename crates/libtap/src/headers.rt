@@ -20,14 +20,16 @@ pub struct TapBits {
     pub value: u64,
 }
 
-// A header as C has it: where `refusal` is 0, which H line it is, its key, where the payload starts in the MPDU, how many rows there
-// are, whether the checksum or CRC is right, and the H's four flags.
+// A header as C has it: where `refusal` is 0, which H line it is, its key, where its name starts in the text and how long that is, where
+// the payload starts in the MPDU, how many rows there are, whether the checksum or CRC is right, and the H's four flags.
 #[repr(C)]
 pub struct TapHeader {
     pub refusal: u64,
     pub value: u64,
     pub number: u64,
     pub key: u64,
+    pub name: u64,
+    pub name_length: u64,
     pub payload: u64,
     pub rows: u64,
     pub right: bool,
@@ -73,11 +75,14 @@ fn tell_heading(header: DecodedHeader) -> TapHeader
     ensures { λ r. ⌜ r ≡ headed header ⌝ }
 {
     let flags = header.flags;
+    let name = header.name;
     TapHeader {
         refusal: 0,
         value: 0,
         number: header.number as u64,
         key: header.key as u64,
+        name: name.start as u64,
+        name_length: name.len as u64,
         payload: header.payload,
         rows: header.rows as u64,
         right: header.right,
@@ -98,6 +103,8 @@ fn tell_header(decoded: Decoded) -> TapHeader
             value: refusal.carried() as u64,
             number: 0,
             key: 0,
+            name: 0,
+            name_length: 0,
             payload: 0,
             rows: 0,
             right: false,

@@ -1,7 +1,7 @@
 -- W-213: what is answered by a text whose H blocks are in another order. Assumes nothing.
 use mathlib.Core.Path.{_≡_, refl, sym, ap, _∙_, subst}
 use mathlib.Core.Bool.{Bool, true, false, cond}
-use mathlib.Core.List.{List, [], _∷_, map}
+use mathlib.Core.List.{List, [], _∷_, _++_, map, map-append}
 use mathlib.Core.Option.{Option, none, some}
 use Prim.Native.Nat.{ℕ, _/_, _≤_, _<_}
 use lib.Dec.{eqb}
@@ -11,8 +11,11 @@ use borrow.Author.Tests.{lt-ltb, le-ltb, le-leb}
 use Rattle.refusal.specs.declared.Refusal.{Refusal}
 use Rattle.refusal.specs.declared.Refusal.the-variants.{TooLong, TooShort, NoBase, NoCandidate}
 use Rattle.text.specs.declared.Verdict.the-variants.{Accepted}
+use Rattle.text.specs.Place.{partOf}
+use Rattle.text.specs.Print.{Every}
 use Rattle.frame_text.specs.Rules.{verdict}
 use Rattle.frame_definition.specs.Definition.{Frequency, Base, Set, definition, keyFor, firstBase}
+use Rattle.frame_definition.specs.Names.{headerName}
 use Rattle.crc.specs.Crc.{right}
 use Rattle.header_rules.specs.Data.{P, Field, Candidate}
 use Rattle.header_rules.specs.Answer.{answered, refused, answer}
@@ -24,6 +27,8 @@ use Rattle.header_rules.proofs.Trees.{trees-renumber}
 use Rattle.header_rules.specs.Told.{Heading, Told, no-base, no-candidate, more-rows, header, headingOf, ofAnswer, candidatesOf, ofBase, told}
 use Rattle.header_rules.specs.Says.{NoneHolds}
 use Rattle.header_rules.proofs.Told.{told-says}
+use Rattle.header_rules.proofs.Run.{every-split}
+use Rattle.header_rules.proofs.Named.{Named, candidates-named}
 use Rattle.header.specs.declared.DecodedHeader.{DecodedHeader}
 use Rattle.header.specs.declared.Decoded.{Decoded}
 use Rattle.header.specs.declared.Decoded.the-variants.{Header, Refused}
@@ -32,6 +37,7 @@ use Rattle.reorder.specs.Moved.{Moved}
 use Rattle.reorder.specs.Blocks.{sectionsOf}
 use Rattle.reorder.specs.Reorder.{Reordered, newHeader, newParam, Follows, renumbered, withNumber, Gives, Refuses, Harmless}
 use Rattle.reorder.proofs.Follow.{onSome, rebase}
+use Rattle.reorder.proofs.Moved.{Among, moved-one}
 use Rattle.reorder.proofs.Answers.{none-moved, only-first, only-moved, recandidate, answer-same, reheading, retold, told-same, candidatesIn}
 use Rattle.reorder.proofs.Answers.{candidates-moved, candidates-same}
 use Rattle.reorder.proofs.Foremost.{Rises, candidates-rise, foremost-first, foremost-some}
@@ -44,17 +50,17 @@ module _ (t d : List ℕ) (region speed : ℕ) (table : List ℕ) (r : Decoded) 
   abbrev tells : Told
   tells = toldOf t d region speed (length table)
 
-  answer-is : (x : Told) → tells ≡ x → r ≡ ofTold (right d speed) x
+  answer-is : (x : Told) → tells ≡ x → r ≡ ofTold t (right d speed) x
   answer-is x e =
       c .answer
-      ∙ rw (w .accepted, le-ltb 2048 (length d) (w .short), le-ltb (length d) 2 (w .long)) (ap (ofTold (right d speed)) e)
+      ∙ rw (w .accepted, le-ltb 2048 (length d) (w .short), le-ltb (length d) 2 (w .long)) (ap (ofTold t (right d speed)) e)
 
-  gives : (k : Heading) → tells ≡ header k → Gives table (headerOf (right d speed) k) (k .rows) r table₁
+  gives : (k : Heading) → tells ≡ header k → Gives table (headerOf t (right d speed) k) (k .rows) r table₁
   gives k e =
-      let a : r ≡ Header (headerOf (right d speed) k) = answer-is (header k) e in
+      let a : r ≡ Header (headerOf t (right d speed) k) = answer-is (header k) e in
       record { answer = a; laid-are = c .rows ∙ (λ i. tableAfter table (e i) (a i)) }
 
-  refuses : (x : Told) (y : Refusal) → tells ≡ x → ofTold (right d speed) x ≡ Refused y → Refuses table y r table₁
+  refuses : (x : Told) (y : Refusal) → tells ≡ x → ofTold t (right d speed) x ≡ Refused y → Refuses table y r table₁
   refuses x y e q =
       let a : r ≡ Refused y = answer-is x e ∙ q in
       record { answer = a; as-it-was = c .rows ∙ (λ i. tableAfter table (e i) (a i)) }
@@ -113,6 +119,24 @@ module _ (t t′ : List ℕ) (w : Reordered t t′) (h g : ℕ → ℕ) (f : Fol
   stands-same : candidatesOf key (definition t′) ≡ map (recandidate h g 7) stands
   stands-same = ap (candidatesIn key) (frames-same t t′ w h g f) ∙ candidates-same key h g (standingFrames t t′ w h g f)
 
+  -- a candidate has the same name
+  name-is : (xs : List (Candidate 7)) (c : Candidate 7) (ys : List (Candidate 7)) → candidatesOf key (definition t) ≡ xs ++ c ∷ ys
+      → partOf t′ (headerName t′ (h (c .number))) ≡ partOf t (headerName t (c .number))
+  name-is xs c ys e =
+      let stand : Among (λ (x : Candidate 7). Unit {0}) c stands =
+      moved-one (λ (x : Candidate 7). Unit {0}) c xs ys stands (subst (λ (z : List (Candidate 7)). Moved z stands) e stands-moved) (all xs) (all ys) in
+      let before : partOf t (headerName t (c .number)) ≡ c .says .name =
+      every-split (Named t) xs c ys (subst (Every (Named t)) e (candidates-named t key)) in
+      let after : partOf t′ (headerName t′ (h (c .number))) ≡ c .says .name =
+      every-split (Named t′) (map (recandidate h g 7) (stand .front)) (recandidate h g 7 c) (map (recandidate h g 7) (stand .back))
+      (subst (Every (Named t′)) (stands-same ∙ ap (map (recandidate h g 7)) (stand .place) ∙ map-append (recandidate h g 7) (stand .front) (c ∷ stand .back))
+      (candidates-named t′ key)) in
+      after ∙ sym before
+    where
+      all : (cs : List (Candidate 7)) → Every (λ (x : Candidate 7). Unit {0}) cs
+      all [] = tt
+      all (x ∷ xs) = (tt, all xs)
+
   -- their new numbers rise
   stands-rise : Rises (map (λ (c : Candidate 7). h (c .number)) stands)
   stands-rise = subst Rises (ap (map (λ (c : Candidate 7). c .number)) stands-same ∙ sym (numbers-of stands)) (candidates-rise key t′)
@@ -155,12 +179,13 @@ module _ (t t′ : List ℕ) (w : Reordered t t′) (h g : ℕ → ℕ) (f : Fol
     tells-after : (x : Told) → told (definition t′) d most key ≡ x → toldOf t′ d region speed (length table) ≡ x
     tells-after x e = ap (told (definition t′) d most) key-is ∙ e
 
-    heading-header : (k : Heading) → headerOf (right d speed) (reheading h g d (definition t .sets) k) ≡ withNumber h (headerOf (right d speed) k)
+    heading-header : (k : Heading) → headerOf t′ (right d speed) (reheading h g d (definition t .sets) k) ≡ withNumber h t′ (headerOf t (right d speed) k)
     heading-header k =
         λ i. record {
           number = h (k .number);
           key = k .key;
           flags = record { ack = k .ack; routed = k .routed; multicast = k .multicast; error = k .error };
+          name = headerName t′ (h (k .number));
           payload = k .offset;
           right = right d speed;
           rows = length-map (k .rows) (renumbered g) i;
@@ -169,7 +194,7 @@ module _ (t t′ : List ℕ) (w : Reordered t t′) (h g : ℕ → ℕ) (f : Fol
     module _ (b : Base) (e : firstBase key (definition t .bases) ≡ some b) where
       first-after : (c : Candidate 7) (fs : List (Field 7)) → First 7 d (trees (b .params)) stands c fs
           → length (tableOf 7 d (definition t .sets) fs) ≤ most
-          → Gives table (withNumber h (headerOf (right d speed) (headingOf (definition t .sets) d c fs)))
+          → Gives table (withNumber h t′ (headerOf t (right d speed) (headingOf (definition t .sets) d c fs)))
           (map (renumbered g) (tableOf 7 d (definition t .sets) fs)) r′ table₂
       first-after c fs first l =
           subst (λ (x : DecodedHeader). Gives table x (map (renumbered g) (tableOf 7 d (definition t .sets) fs)) r′ table₂)
@@ -180,7 +205,7 @@ module _ (t t′ : List ℕ) (w : Reordered t t′) (h g : ℕ → ℕ) (f : Fol
 
       first-before : (c : Candidate 7) (fs : List (Field 7)) → First 7 d (trees (b .params)) (candidatesOf key (definition t)) c fs
           → length (tableOf 7 d (definition t .sets) fs) ≤ most
-          → Gives table (headerOf (right d speed) (headingOf (definition t .sets) d c fs)) (tableOf 7 d (definition t .sets) fs) r table₁
+          → Gives table (headerOf t (right d speed) (headingOf (definition t .sets) d c fs)) (tableOf 7 d (definition t .sets) fs) r table₁
       first-before c fs first l =
           gives t d region speed table r table₁ w₁ c₁ (headingOf (definition t .sets) d c fs)
           (told-before d most b e ∙ first-told (definition t .sets) d most (trees (b .params)) (candidatesOf key (definition t)) c fs first l)
@@ -199,6 +224,7 @@ module _ (t t′ : List ℕ) (w : Reordered t t′) (h g : ℕ → ℕ) (f : Fol
     any-harmless =
         record {
           key-same = key-is;
+          name-same = name-is;
           no-base = λ e. (
             refuses t d region speed table r table₁ w₁ c₁ (no-base key) (NoBase key) (none-told-before d most e) refl,
             refuses t′ d region speed table r′ table₂ w₂ c₂ (no-base key) (NoBase key) (tells-after (no-base key) (told-none d most e)) refl,

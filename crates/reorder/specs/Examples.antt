@@ -8,6 +8,7 @@ use Rattle.bits.specs.Bits.{bitsAt}
 use Rattle.crc.specs.Crc.{right}
 use Rattle.crc.specs.Poly.{plus}
 use Rattle.frame_text.specs.Rules.{verdict}
+use Rattle.frame_definition.specs.Names.{headerName}
 use Rattle.header_rules.specs.Find.{valueOf, firstNamed, through, inFirst, valueAt, widthOf}
 use Rattle.header_rules.specs.Order.{insert, ordered}
 use Rattle.header_rules.specs.Walk.{exists, packed, innerAt, listed, baseRead, reading}
@@ -125,13 +126,13 @@ header-before : decoded before (0x02 ∷ 0xC3 ∷ []) 0 0 30
       number = 1;
       key = 8;
       flags = record { ack = false; routed = false; multicast = false; error = true };
+      name = record { start = 93; len = 1 };
       payload = 2;
-      right =
-          false;
+      right = false;
       rows = 3;
     })
 unfolding told answer reading baseRead listed exists packed innerAt ordered insert widthOf valueAt inFirst through firstNamed valueOf bitsAt trees kids
-    ofLevel tableFrom innerTable numbersOf rowsEach right plus
+    ofLevel tableFrom innerTable numbersOf rowsEach right plus headerName
 header-before = refl
 
 header-after : decoded after (0x02 ∷ 0xC3 ∷ []) 0 0 30
@@ -139,11 +140,11 @@ header-after : decoded after (0x02 ∷ 0xC3 ∷ []) 0 0 30
       number = 0;
       key = 8;
       flags = record { ack = false; routed = false; multicast = false; error = true };
+      name = record { start = 38; len = 1 };
       payload = 2;
-      right =
-          false;
+      right = false;
       rows = 3;
     })
 unfolding told answer reading baseRead listed exists packed innerAt ordered insert widthOf valueAt inFirst through firstNamed valueOf bitsAt trees kids
-    ofLevel tableFrom innerTable numbersOf rowsEach right plus
+    ofLevel tableFrom innerTable numbersOf rowsEach right plus headerName
 header-after = refl

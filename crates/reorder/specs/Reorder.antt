@@ -9,7 +9,9 @@ use lib.ListN.{length}
 use Rattle.refusal.specs.declared.Refusal.{Refusal}
 use Rattle.refusal.specs.declared.Refusal.the-variants.{NoBase, NoCandidate}
 use Rattle.rows.specs.Rows.{laid}
+use Rattle.text.specs.Place.{partOf}
 use Rattle.frame_definition.specs.Definition.{Base, definition, firstBase}
+use Rattle.frame_definition.specs.Names.{headerName}
 use Rattle.crc.specs.Crc.{right}
 use Rattle.header_rules.specs.Data.{P, Field, Candidate}
 use Rattle.header_rules.specs.Demand.{Holds, None, Some}
@@ -62,10 +64,18 @@ abbrev pub renumbered : (ℕ → ℕ) → List ℕ → List ℕ
 renumbered g [] = []
 renumbered g (k ∷ row) = g k ∷ row
 
--- an answer with another H number
-abbrev pub withNumber : (ℕ → ℕ) → DecodedHeader → DecodedHeader
-withNumber h x =
-    record { number = h (x .number); key = x .key; flags = x .flags; payload = x .payload; right = x .right; rows = x .rows }
+-- an answer with another H number, whose name stands in t′
+abbrev pub withNumber : (ℕ → ℕ) → List ℕ → DecodedHeader → DecodedHeader
+withNumber h t′ x =
+    record {
+      number = h (x .number);
+      key = x .key;
+      flags = x .flags;
+      name = headerName t′ (h (x .number));
+      payload = x .payload;
+      right = x .right;
+      rows = x .rows;
+    }
 
 -- c is the only candidate of cs that holds, by the reading fs
 pub record Only (n : ℕ) (d : List ℕ) (base : List (P n)) (cs : List (Candidate n)) (c : Candidate n) (fs : List (Field n)) : Type 0 where
@@ -105,7 +115,7 @@ module _ (t : List ℕ) where
   candidatesBy region speed = candidatesOf (keyOf t region speed) (definition t)
 
   abbrev pub headerBy : List ℕ → ℕ → Candidate 7 → List (Field 7) → DecodedHeader
-  headerBy d speed c fs = headerOf (right d speed) (headingOf (definition t .sets) d c fs)
+  headerBy d speed c fs = headerOf t (right d speed) (headingOf (definition t .sets) d c fs)
 
   abbrev pub rowsBy : List ℕ → List (Field 7) → List (List ℕ)
   rowsBy d fs = tableOf 7 d (definition t .sets) fs
@@ -115,6 +125,9 @@ pub record Harmless (t t′ d : List ℕ) (region speed : ℕ) (table : List ℕ
     (table₂ : List ℕ) : Type 0 where
   -- the base key is the same
   pub key-same : keyOf t′ region speed ≡ keyOf t region speed
+  -- a candidate has the same name in t′ as in t
+  pub name-same : (xs : List (Candidate 7)) (c : Candidate 7) (ys : List (Candidate 7)) → candidatesBy t region speed ≡ xs ++ c ∷ ys
+      → partOf t′ (headerName t′ (h (c .number))) ≡ partOf t (headerName t (c .number))
   -- no base header has it, before and after
   pub no-base : baseBy t region speed ≡ none → Refuses table (NoBase (keyOf t region speed)) r table₁
       × Refuses table (NoBase (keyOf t region speed)) r′ table₂
@@ -126,12 +139,12 @@ pub record Harmless (t t′ d : List ℕ) (region speed : ℕ) (table : List ℕ
       → Only 7 d (trees (b .params)) (candidatesBy t region speed) c fs
       → length (rowsBy t d fs) ≤ length table / rowWidth
       → Gives table (headerBy t d speed c fs) (rowsBy t d fs) r table₁
-      × Gives table (withNumber h (headerBy t d speed c fs)) (map (renumbered g) (rowsBy t d fs)) r′ table₂
+      × Gives table (withNumber h t′ (headerBy t d speed c fs)) (map (renumbered g) (rowsBy t d fs)) r′ table₂
   -- where some hold, one of them stands first after the move
   pub some-hold : (b : Base) → baseBy t region speed ≡ some b → Some 7 d (trees (b .params)) (candidatesBy t region speed)
       → (c : Candidate 7) × (fs : List (Field 7)) × Foremost 7 d (trees (b .params)) (candidatesBy t region speed) h c fs
   -- and that one is the answer after it
   pub more-hold : (b : Base) → baseBy t region speed ≡ some b → (c : Candidate 7) (fs : List (Field 7))
       → Foremost 7 d (trees (b .params)) (candidatesBy t region speed) h c fs
-      → length (rowsBy t d fs) ≤ length table / rowWidth → Gives table (withNumber h (headerBy t d speed c fs))
+      → length (rowsBy t d fs) ≤ length table / rowWidth → Gives table (withNumber h t′ (headerBy t d speed c fs))
       (map (renumbered g) (rowsBy t d fs)) r′ table₂

@@ -6,8 +6,7 @@ use frame_line::mpdu_columns::put_why;
 use header::DecodedHeader;
 use output::paint::Hue;
 use output::paint::put_painted;
-use readers::line_fields::field_of;
-use readers::lines::find_line;
+use readers::cells::part;
 use refusal::Refusal;
 use trees::field_tree::put_fields;
 use trees::hex_dump::put_dump;
@@ -117,7 +116,8 @@ pub fn put_header(
     colour: bool,
     picture: bool,
 ) -> usize {
-    let name = field_of(find_line(text, b'H', header.number), 4);
+    let named = header.name;
+    let name = part(text, named.start, named.len);
     let mut place = put_title(out, at, name, header.right, colour);
     place = put_fields(out, place, text, mpdu, rows, header.rows, picture);
     put_picture(out, place, mpdu, header, rows, picture)
