@@ -1,4 +1,5 @@
 // A frame's line of the table, column by column. Each column keeps two spaces before it.
+use crate::mpdu_columns::Radio;
 use crate::mpdu_columns::put_beam;
 use crate::mpdu_columns::put_mpdu;
 use readers::cells::part;
@@ -79,14 +80,22 @@ fn put_heard(
     let start = row[6] as usize;
     let count = row[7] as usize;
     let mpdu = part(payload, start, count);
-    put_mpdu(out, at, text, index, mpdu, row[1], row[3], colour)
+    let radio = Radio {
+        region: row[1],
+        speed: row[3],
+    };
+    put_mpdu(out, at, text, index, mpdu, radio, colour)
 }
 
-// The line of the frame of that number, from its row and the payload that it stands in.
+// The number of a frame, in front of its line.
+pub fn put_number(out: &mut Buffer, at: usize, number: u64) -> usize {
+    put_marked(out, at, b"", number, 5)
+}
+
+// The line of a frame behind its number, from its row and the payload that it stands in.
 pub fn put_row(
     out: &mut Buffer,
     at: usize,
-    number: u64,
     row: &[u64],
     payload: &[u8],
     text: &[u8],
@@ -96,8 +105,7 @@ pub fn put_row(
     requires { ⌜ 8 ≤ length (now row) ⌝ }
     requires { ⌜ verdict (now text) ≡ Accepted ⌝ }
 {
-    let mut place = put_marked(out, at, b"", number, 5);
-    place = put_signal(out, place, row);
+    let mut place = put_signal(out, at, row);
     place = put_heard(out, place, row, payload, text, index, colour);
     put(out, place, b"\n")
 }

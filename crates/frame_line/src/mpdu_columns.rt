@@ -29,6 +29,13 @@ const NAMES: usize = 26;
 // The numbers of a header's rows: at most 128 rows of seven.
 const NUMBERS: usize = 896;
 
+// Where and how an MPDU was heard.
+pub struct Radio {
+    // Of the PTI, not an F line's code.
+    pub region: u64,
+    pub speed: u64,
+}
+
 // A name in its column.
 fn put_name(out: &mut Buffer, at: usize, name: &[u8], colour: bool) -> usize {
     let place = put(out, at, b"  ");
@@ -99,23 +106,6 @@ fn put_header(
     put_size(out, place, mpdu, header.right, colour)
 }
 
-// The same with the name of its command.
-fn put_named(
-    out: &mut Buffer,
-    at: usize,
-    text: &[u8],
-    index: &[u8],
-    mpdu: &[u8],
-    speed: u64,
-    header: DecodedHeader,
-    rows: &[u64],
-    colour: bool,
-) -> usize {
-    let place = put_header(out, at, text, mpdu, header, rows, colour);
-    let bytes = command_part(mpdu, header.payload, speed);
-    put_command(out, place, index, bytes, header.right, colour)
-}
-
 // Why an MPDU has no name, in colour, at the left of a column.
 pub fn put_why(out: &mut Buffer, at: usize, refusal: Refusal, width: usize, colour: bool) -> usize {
     let mut place = output::paint::begin(out, at, colour, Hue::Unnamed);
@@ -150,23 +140,25 @@ pub fn put_beam(out: &mut Buffer, at: usize, beams: u64, count: u64, colour: boo
     put_marked(out, place, b"", count, 5)
 }
 
-// What the table says of an MPDU that was heard in a PTI region at a speed.
+// What the table says of an MPDU.
 pub fn put_mpdu(
     out: &mut Buffer,
     at: usize,
     text: &[u8],
     index: &[u8],
     mpdu: &[u8],
-    region: u64,
-    speed: u64,
+    radio: Radio,
     colour: bool,
 ) -> usize
     requires { ⌜ verdict (now text) ≡ Accepted ⌝ }
 {
+    let speed = radio.speed;
     let mut rows = [0u64; NUMBERS];
-    match decode_accepted(text, mpdu, frame_code(region), speed, &mut rows) {
+    match decode_accepted(text, mpdu, frame_code(radio.region), speed, &mut rows) {
         Decoded::Header(header) => {
-            put_named(out, at, text, index, mpdu, speed, header, &rows, colour)
+            let place = put_header(out, at, text, mpdu, header, &rows, colour);
+            let bytes = command_part(mpdu, header.payload, speed);
+            put_command(out, place, index, bytes, header.right, colour)
         }
         Decoded::Refused(refusal) => put_unnamed(out, at, mpdu, speed, refusal, colour),
     }

@@ -10,6 +10,7 @@ use files::capture::Next;
 use files::capture::Source;
 use files::capture::next_item;
 use frame_line::frame_row::put_header;
+use frame_line::frame_row::put_number;
 use frame_line::frame_row::put_row;
 use pti::parse_payload;
 use pti::payload::BEAMS;
@@ -42,16 +43,8 @@ fn put_frame(
     requires { ⌜ verdict (now text) ≡ Accepted ⌝ }
 {
     let next = sheet.with_frame(row[BEAMS]);
-    let at = put_row(
-        out,
-        next.at,
-        next.frames,
-        row,
-        payload,
-        text,
-        index,
-        next.colour,
-    );
+    let from = put_number(out, next.at, next.frames);
+    let at = put_row(out, from, row, payload, text, index, next.colour);
     tell_progress(next);
     next.gathered(at)
 }

@@ -46,25 +46,25 @@ use Rattle.header.specs.Steps.{Ready, headingRead, Shows, Picks, Reads}
 use Rattle.header.proofs.Says.{decodes}
 
 -- ---- the answer for a candidate that was read
-module _ (t d : List ℕ) (speed : ℕ) (fields scratch : List ℕ) (c : Candidate) (read : Read) (table : List ℕ) where
+module _ (t fields scratch : List ℕ) (c : Candidate) (read : Read) (ok : Bool) (table : List ℕ) where
   rows-read : length (headingRead t fields scratch c read .rows) ≡ read .rows
   rows-read = length-map (rowsIn scratch (read .rows)) (shown (fieldsIn t fields (read .count)) (definition t .sets)) ∙ length-rowsIn scratch (read .rows)
 
-  pub show-more : length table / rowWidth < read .rows → Shows t d speed fields scratch c read table (Refused (MoreRows (read .rows))) table
+  pub show-more : length table / rowWidth < read .rows → Shows t fields scratch c read ok table (Refused (MoreRows (read .rows))) table
   show-more h =
       let e : fitted (length table / rowWidth) (headingRead t fields scratch c read) ≡ more-rows (read .rows) =
       rw (rows-read, lt-leb (read .rows) (length table / rowWidth) h) refl in
       rw e (record { answer = refl; rows = refl })
 
-  pub show-all : (offset : ℕ) (ok : Bool) (table′ : List ℕ) → read .rows ≤ length table / rowWidth → offset ≡ offsetOf (read .bit .0)
-      → ok ≡ right d speed → c .name ≡ headerName t (c .number)
+  pub show-all : (offset : ℕ) (table′ : List ℕ) → read .rows ≤ length table / rowWidth → offset ≡ offsetOf (read .bit .0)
+      → c .name ≡ headerName t (c .number)
       → table′ ≡ laid table (map (shown (fieldsIn t fields (read .count)) (definition t .sets)) (rowsIn scratch (read .rows)))
-      → Shows t d speed fields scratch c read table (Header
+      → Shows t fields scratch c read ok table (Header
       (record { number = c .number; key = c .key; flags = c .flags; name = c .name; payload = offset; right = ok; rows = read .rows })) table′
-  show-all offset ok table′ h is-offset is-ok is-name is-table =
+  show-all offset table′ h is-offset is-name is-table =
       let e : fitted (length table / rowWidth) (headingRead t fields scratch c read) ≡ header (headingRead t fields scratch c read) =
       rw (rows-read, le-leb (read .rows) (length table / rowWidth) h) refl in
-      rw e (record { answer = rw (is-offset, is-ok, is-name, rows-read) refl; rows = is-table })
+      rw e (record { answer = rw (is-offset, is-name, rows-read) refl; rows = is-table })
 
   pub rows-fit : read .rows ≤ length table / rowWidth → read .rows * rowWidth ≤ length table
   rows-fit h = omega arith
@@ -112,9 +112,9 @@ module _ (t d : List ℕ) (key : ℕ) (bs : List Numbered) (fields scratch : Lis
       ≡ tableOf 7 d (definition t .sets) (reading 7 d (trees bs) (trees own))
   the-rows = rw (chosen .own .lines, chosen .own .rows) (flat-rows bs own d (definition t .sets))
 
-  pub picks-one : (speed : ℕ) (table : List ℕ) (x : Decoded) (table′ : List ℕ) → Shows t d speed fields scratch c read table x table′
-      → Picks t d speed key bs table x table′
-  picks-one speed table x table′ shows = rw (chosen .answer-is, ← the-bit, ← the-rows) shows
+  pub picks-one : (speed : ℕ) (ok : Bool) (table : List ℕ) (x : Decoded) (table′ : List ℕ) → ok ≡ right d speed
+      → Shows t fields scratch c read ok table x table′ → Picks t d speed key bs table x table′
+  picks-one speed ok table x table′ is-ok shows = rw (chosen .answer-is, ← the-bit, ← the-rows, ← is-ok) shows
 
 pub picks-none : (t d : List ℕ) (speed key : ℕ) (bs : List Numbered) (fields scratch : List ℕ) (r : Choice) (table : List ℕ)
     → Chooses t d key bs fields scratch r → r ≡ choice.Nothing
@@ -129,9 +129,7 @@ pub reads-picked : (t d : List ℕ) (speed key : ℕ) (p : Place) (n : ℕ) (fie
     → ReadsBase t d (linesAt t p n) fields scratch base → FindsBase t key (found.At p n) → Picks t d speed key (baseOf t fields base) table x table′
     → Reads t d speed key table x table′
 unfolding told
-reads-picked t d speed key p n fields scratch base table x table′ r f picks =
-    let same-trees : trees (baseOf t fields base) ≡ trees (linesAt t p n) = ap trees (r .lines) in
-    rw (f .0, ← same-trees) picks
+reads-picked t d speed key p n fields scratch base table x table′ r f picks = rw (f .0, ← r .lines) picks
 
 -- ---- an accepted text
 module _ (t d : List ℕ) (region speed : ℕ) (table : List ℕ) (accepted : verdict t ≡ text.Accepted) where

@@ -57,22 +57,20 @@ fn payload_offset(bit: BitOffset) -> u64
     (bit.0 + 7) / 8
 }
 
-// The answer for a candidate that was read, its rows in the table; or refusal 8.
+// The answer for a candidate that was read, its rows in the table; or refusal 8. `right`: is the checksum or CRC right?
 fn show(
     text: &[u8],
-    mpdu: &[u8],
-    speed: u64,
     fields: &[u64],
     scratch: &[u64],
     candidate: Candidate,
     read: Read,
+    right: bool,
     rows: &mut [u64],
 ) -> Decoded
     requires { ⌜ verdict (now text) ≡ Accepted ⌝ }
     requires { ⌜ (Ready (now fields) (now scratch) read) × (candidate .name ≡ headerName (now text) (candidate .number)) ⌝ }
     ensures { λ r.
-        ⌜ Shows (now (text .entry)) (now (mpdu .entry)) speed (now (fields .entry)) (now (scratch .entry)) candidate read (now (rows .entry)) r
-        (now (rows .exit)) ⌝ }
+        ⌜ Shows (now (text .entry)) (now (fields .entry)) (now (scratch .entry)) candidate read right (now (rows .entry)) r (now (rows .exit)) ⌝ }
 {
     let n = read.rows;
     if rows.len() / ROW_WIDTH < n {
@@ -88,17 +86,22 @@ fn show(
         flags,
         name,
         payload: payload_offset(bit),
-        right: check_crc(mpdu, speed),
+        right,
         rows: n,
     })
+}
+
+// What is sought: the base key, at a speed.
+struct Sought {
+    key: u64,
+    speed: u64,
 }
 
 // The answer for the first candidate that holds; or refusal 7 or 8.
 fn pick(
     text: &[u8],
     mpdu: &[u8],
-    speed: u64,
-    key: u64,
+    sought: Sought,
     fields: &mut [u64],
     scratch: &mut [u64],
     base: Read,
@@ -107,20 +110,21 @@ fn pick(
     requires { ⌜ verdict (now text) ≡ Accepted ⌝ }
     requires { ⌜ (Roomy (now mpdu) (now fields) (now scratch)) × (HoldsBase (now text) (now mpdu) (now fields) (now scratch) base) ⌝ }
     ensures { λ r.
-        ⌜ Picks (now (text .entry)) (now (mpdu .entry)) speed key (baseOf (now (text .entry)) (now (fields .entry)) base) (now (rows .entry)) r
-        (now (rows .exit)) ⌝ }
+        ⌜ Picks (now (text .entry)) (now (mpdu .entry)) (sought .speed) (sought .key) (baseOf (now (text .entry)) (now (fields .entry)) base)
+        (now (rows .entry)) r (now (rows .exit)) ⌝ }
 {
-    let Choice::At { candidate, read } = choose(text, mpdu, key, fields, scratch, base) else {
+    let Choice::At { candidate, read } = choose(text, mpdu, sought.key, fields, scratch, base)
+    else {
         return Decoded::Refused(Refusal::NoCandidate);
     };
+    let right = check_crc(mpdu, sought.speed);
     show(
         text,
-        mpdu,
-        speed,
         &fields[..],
         &scratch[..],
         candidate,
         read,
+        right,
         rows,
     )
 }
@@ -129,29 +133,19 @@ fn pick(
 fn read_header(
     text: &[u8],
     mpdu: &[u8],
-    speed: u64,
-    key: u64,
+    sought: Sought,
     start: Place,
     n: usize,
     rows: &mut [u64],
 ) -> Decoded
     requires { ⌜ (verdict (now text) ≡ Accepted) × (length (now mpdu) ≤ 2048) ⌝ }
-    requires { ⌜ FindsBase (now text) key (At start n) ⌝ }
-    ensures { λ r. ⌜ Reads (now (text .entry)) (now (mpdu .entry)) speed key (now (rows .entry)) r (now (rows .exit)) ⌝ }
+    requires { ⌜ FindsBase (now text) (sought .key) (At start n) ⌝ }
+    ensures { λ r. ⌜ Reads (now (text .entry)) (now (mpdu .entry)) (sought .speed) (sought .key) (now (rows .entry)) r (now (rows .exit)) ⌝ }
 {
     let mut fields = [0u64; 128 * LINE_WIDTH];
     let mut scratch = [0u64; 128 * SCRATCH_WIDTH];
     let base = read_base(text, mpdu, start, n, &mut fields, &mut scratch);
-    pick(
-        text,
-        mpdu,
-        speed,
-        key,
-        &mut fields,
-        &mut scratch,
-        base,
-        rows,
-    )
+    pick(text, mpdu, sought, &mut fields, &mut scratch, base, rows)
 }
 
 // The header of an MPDU, its rows in the table, by a text that is accepted; or refusal 4 to 8. For many MPDUs and one text.
@@ -175,7 +169,11 @@ pub fn decode_accepted(
     let Found::At { place, params } = find_base(text, key as u64) else {
         return Decoded::Refused(Refusal::NoBase(key as usize));
     };
-    read_header(text, mpdu, speed, key as u64, place, params, rows)
+    let sought = Sought {
+        key: key as u64,
+        speed,
+    };
+    read_header(text, mpdu, sought, place, params, rows)
 }
 
 // The header of an MPDU, its rows in the table; or refusal 1 to 8. A refusal writes nothing, an answer nothing past its last row.

@@ -1,5 +1,6 @@
 // A frame whole: how it was heard, its bytes, and its header as a tree and, where it is asked for, as a picture.
 use crate::frame_search::Heard;
+use files::options::Options;
 use frame_line::frame_row::put_rate;
 use frame_line::frame_row::put_rssi;
 use frame_line::mpdu_columns::put_why;
@@ -113,12 +114,12 @@ pub fn put_header(
     mpdu: &[u8],
     header: DecodedHeader,
     rows: &[u64],
-    colour: bool,
-    picture: bool,
+    options: Options,
 ) -> usize {
+    let picture = options.picture;
     let named = header.name;
     let name = part(text, named.start, named.len);
-    let mut place = put_title(out, at, name, header.right, colour);
+    let mut place = put_title(out, at, name, header.right, options.colour);
     place = put_fields(out, place, text, mpdu, rows, header.rows, picture);
     put_picture(out, place, mpdu, header, rows, picture)
 }

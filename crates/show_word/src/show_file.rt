@@ -21,7 +21,6 @@ use files::input::File;
 use files::options::Asked;
 use files::options::Options;
 use header::Decoded;
-use header::DecodedHeader;
 use header::decode_header;
 use libc::STDERR_FILENO;
 use output::outcome::fail;
@@ -121,36 +120,7 @@ fn show_command(payload: &[u8], out: &mut Buffer, at: usize, options: Options) {
     show_line(line, payload, out, at, options);
 }
 
-// A header with its rows, and its command.
-fn show_header(
-    text: &[u8],
-    mpdu: &[u8],
-    rate: u64,
-    header: DecodedHeader,
-    rows: &[u64],
-    out: &mut Buffer,
-    at: usize,
-    options: Options,
-) {
-    let place = put_header(
-        out,
-        at,
-        text,
-        mpdu,
-        header,
-        rows,
-        options.colour,
-        options.picture,
-    );
-    show_command(
-        command_part(mpdu, header.payload, rate),
-        out,
-        place,
-        options,
-    );
-}
-
-// The header of an MPDU by a frame text.
+// The header of an MPDU by a frame text, and its command.
 fn show_mpdu(
     text: &[u8],
     mpdu: &[u8],
@@ -163,7 +133,9 @@ fn show_mpdu(
     let mut rows = [0u64; FIELDS];
     match decode_header(text, mpdu, frame_code(region), rate, &mut rows) {
         Decoded::Header(header) => {
-            show_header(text, mpdu, rate, header, &rows, out, at, options);
+            let place = put_header(out, at, text, mpdu, header, &rows, options);
+            let bytes = command_part(mpdu, header.payload, rate);
+            show_command(bytes, out, place, options);
         }
         Decoded::Refused(refusal) => {
             let place = put_refused(out, at, refusal, options.colour);

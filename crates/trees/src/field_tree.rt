@@ -142,12 +142,12 @@ fn put_field(
     out: &mut Buffer,
     at: usize,
     text: &[u8],
-    line: &[u8],
     mpdu: &[u8],
     rows: &[u64],
     i: usize,
     picture: bool,
 ) -> usize {
+    let line = find_line(text, b'P', header_cell(rows, i, 0) as usize);
     let mut place = put_head(out, at, field_of(line, 5), rows, i, picture);
     place = put_value(out, place, field_of(line, 4), mpdu, rows, i);
     put_symbol(out, place, text, field_of(line, 6), header_cell(rows, i, 6))
@@ -166,8 +166,7 @@ pub fn put_fields(
     let mut place = at;
     let mut i: usize = 0;
     while i < n {
-        let line = find_line(text, b'P', header_cell(rows, i, 0) as usize);
-        place = put_field(out, place, text, line, mpdu, rows, i, picture);
+        place = put_field(out, place, text, mpdu, rows, i, picture);
         i += 1;
     }
     place

@@ -22,6 +22,7 @@ use Rattle.walk_requests.specs.declared.Table.{Table}
 use Rattle.walk_requests.specs.declared.Table.the-variants.{Of}
 use Rattle.walk_requests.specs.declared.Radio.{Radio}
 use Rattle.walk_requests.specs.declared.Radio.the-variants.{Is}
+use Rattle.walk_requests.specs.declared.Request.{Request}
 use Rattle.walk_requests.specs.declared.Asked.{Asked}
 use Rattle.walk_requests.specs.declared.Asked.the-variants as asked
 use Rattle.walk_requests.proofs.HeaderLaws.{header-stands}
@@ -71,17 +72,17 @@ module _ (words : List ℕ) (at from : ℕ) (first : at ≤ length words) (secon
   pub radio-inside : at + from ≤ length words
   radio-inside = behind
 
-module _ (held : List ℕ) (r : Asked) (numbers region speed n end : ℕ) (told : Asks held r) (is : r ≡ asked.Header numbers region speed n end) where
-  inside : Inside held numbers n end
+module _ (held : List ℕ) (r : Asked) (q : Request) (told : Asks held r) (is : r ≡ asked.Header q) where
+  inside : Inside held (q .numbers) (q .n) (q .end)
   inside = rw is at told
 
-  pub asked-room : (rows : List ℕ) → Ample rows → numbers ≤ length rows
+  pub asked-room : (rows : List ℕ) → Ample rows → q .numbers ≤ length rows
   asked-room rows h = omega (arith, inside .few)
 
-  pub asked-ordered : n ≤ end
+  pub asked-ordered : q .n ≤ q .end
   asked-ordered = inside .ordered
 
-  pub asked-within : end ≤ length held
+  pub asked-within : q .end ≤ length held
   asked-within = inside .within
 
 -- ---- an answer

@@ -29,7 +29,7 @@ pub record Inside (held : List ℕ) (numbers n end : ℕ) : Type 0 where
   pub within : end ≤ length held
 
 abbrev pub Asks : List ℕ → Asked → Type 0
-Asks held (asked.Header numbers region speed n end) = Inside held numbers n end
+Asks held (asked.Header q) = Inside held (q .numbers) (q .n) (q .end)
 Asks held asked.Not = Unit
 
 -- as many rows as are answered stand in the table: of a header seven numbers each, of a command nine

@@ -44,14 +44,16 @@ enum Radio {
 }
 
 // A request for a header: how many numbers the table has, where the MPDU starts behind the text, and where it ends.
+struct Request {
+    numbers: usize,
+    region: u64,
+    speed: u64,
+    n: usize,
+    end: usize,
+}
+
 enum Asked {
-    Header {
-        numbers: usize,
-        region: u64,
-        speed: u64,
-        n: usize,
-        end: usize,
-    },
+    Header(Request),
     Not,
 }
 
@@ -96,13 +98,13 @@ fn read_asked(words: &[u8], bytes: &mut [u8]) -> Asked
     let Both::Are(n, end) = read_both(&others[from..], bytes) else {
         return Asked::Not;
     };
-    Asked::Header {
+    Asked::Header(Request {
         numbers,
         region,
         speed,
         n,
         end,
-    }
+    })
 }
 
 // `header CAP REGION SPEED TEXT MPDU`
@@ -115,26 +117,11 @@ pub fn header(
 ) -> Answer
     requires { ⌜ Ample (now rows) ⌝ }
 {
-    let Asked::Header {
-        numbers,
-        region,
-        speed,
-        n,
-        end,
-    } = read_asked(words, bytes)
-    else {
+    let Asked::Header(request) = read_asked(words, bytes) else {
         return Answer::Bad;
     };
-    Answer::Put(answer_header(
-        bytes,
-        n,
-        end,
-        region,
-        speed,
-        &mut rows[..numbers],
-        out,
-        used,
-    ))
+    let numbers = request.numbers;
+    Answer::Put(answer_header(bytes, request, &mut rows[..numbers], out, used))
 }
 
 // `command CAP TEXT PAYLOAD`
@@ -159,18 +146,25 @@ pub fn command(
 // The first n bytes are the text, those behind them up to the end the MPDU.
 fn answer_header(
     bytes: &[u8],
-    n: usize,
-    end: usize,
-    region: u64,
-    speed: u64,
+    request: Request,
     rows: &mut [u64],
     out: &mut Buffer,
     used: usize,
 ) -> usize
-    requires { ⌜ (n ≤ end) × (end ≤ length (now bytes)) ⌝ }
+    requires { ⌜ (request .n ≤ request .end) × (request .end ≤ length (now bytes)) ⌝ }
 {
+    let n = request.n;
+    let end = request.end;
     fill(rows);
-    walk_header(&bytes[..n], &bytes[n..end], region, speed, rows, out, used)
+    walk_header(
+        &bytes[..n],
+        &bytes[n..end],
+        request.region,
+        request.speed,
+        rows,
+        out,
+        used,
+    )
 }
 
 // The first n bytes are the text, those behind them up to the end the payload.

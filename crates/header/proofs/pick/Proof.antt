@@ -7,7 +7,7 @@ use Rattle.header.proofs.pick.Tie as tie
 show-requires : tie.Need-show-requires
 show-requires c κs =
     let start = c .before .before .before .before .before .before .before .before .before .before .before .before .before .before .before .before .before
-    .before in
+    .before .before in
     (start .pre .0, (search (needs, laws, start .pre .1 .0), search (needs, laws)))
 
 pub pick-spec : {M : Type 1} → statement M
@@ -20,6 +20,7 @@ pick-spec =
     (λ c. search (needs, laws))
     (λ c. search (needs, laws))
     (λ c. search (needs, laws))
+    (λ c κs. search (needs, laws))
     show-requires
     (λ c. search (needs, laws))
     (λ c. search (needs, laws))
