@@ -6,6 +6,7 @@ use command_part::command_part;
 use crc::check_crc;
 use header::Decoded;
 use header::DecodedHeader;
+use header::MOST_NUMBERS;
 use header::decode_accepted;
 use output::paint::Hue;
 use output::paint::put_painted;
@@ -25,9 +26,6 @@ ghost use Rattle.frame_text.specs.Rules.{verdict};
 
 // How many bytes the column of names has.
 const NAMES: usize = 26;
-
-// The numbers of a header's rows: at most 128 rows of seven.
-const NUMBERS: usize = 896;
 
 // Where and how an MPDU was heard.
 pub struct Radio {
@@ -153,7 +151,7 @@ pub fn put_mpdu(
     requires { ⌜ verdict (now text) ≡ Accepted ⌝ }
 {
     let speed = radio.speed;
-    let mut rows = [0u64; NUMBERS];
+    let mut rows = [0u64; MOST_NUMBERS];
     match decode_accepted(text, mpdu, frame_code(radio.region), speed, &mut rows) {
         Decoded::Header(header) => {
             let place = put_header(out, at, text, mpdu, header, &rows, colour);

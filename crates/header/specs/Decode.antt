@@ -1,27 +1,26 @@
 -- H20, R10 and R11 (docs/RULES.md): what is answered for a frame text t and the bytes d of an MPDU, as it is computed, and what that says of the lawful
 -- readings.
 use mathlib.Core.Path.{_≡_}
-use mathlib.Core.Bool.{Bool, cond}
-use mathlib.Core.List.{List, []}
-use mathlib.Core.Logic.{_↔_}
-use mathlib.Core.Option.{none, some}
-use Prim.Native.Nat.{ℕ, _/_, _≤_}
+use mathlib.Core.Bool.{Bool, true, false, cond}
+use mathlib.Core.List.{List, [], _∷_, _++_}
+use mathlib.Core.Option.{some}
+use Prim.Native.Nat.{ℕ, _*_, _/_, _≤_}
 use lib.Dec.{ltb}
 use lib.ListN.{length}
-use Rattle.refusal.specs.declared.Refusal.the-variants.{Form, Limit, Owner, TooLong, TooShort, NoBase, NoCandidate, MoreRows, NotAFrame}
+use Rattle.refusal.specs.Refusal.{numberOf, carriedBy}
+use Rattle.refusal.specs.declared.Refusal.the-variants.{TooLong, TooShort, NoBase, NoCandidate, MoreRows}
 use Rattle.rows.specs.Rows.{laid}
+use Rattle.text.specs.Place.{partOf}
 use Rattle.text.specs.declared.Verdict.{Verdict}
 use Rattle.text.specs.declared.Verdict.the-variants as text
 use Rattle.frame_text.specs.Rules.{verdict}
-use Rattle.frame_definition.specs.Definition.{Definition, Base, definition, baseKey, firstBase}
+use Rattle.frame_definition.specs.Definition.{Base, definition, baseKey, firstBase}
 use Rattle.frame_definition.specs.Names.{headerName}
 use Rattle.crc.specs.Crc.{right}
-use Rattle.header_rules.specs.Data.{Field, Candidate}
-use Rattle.header_rules.specs.Demand.{First, None, Some}
-use Rattle.header_rules.specs.Table.{rowWidth, tableOf}
-use Rattle.header_rules.specs.Trees.{trees}
-use Rattle.header_rules.specs.Told.{Heading, Told, no-base, no-candidate, more-rows, header, headingOf, candidatesOf, told}
-use Rattle.header_rules.specs.Says.{Fits, Needs, NoneHolds}
+use Rattle.header_rules.specs.Data.{Candidate}
+use Rattle.header_rules.specs.Table.{rowWidth}
+use Rattle.header_rules.specs.Told.{Heading, Told, no-base, no-candidate, more-rows, header, candidatesOf, told}
+use Rattle.header_rules.specs.Says.{Says, Demand3}
 use Rattle.header.specs.declared.DecodedHeader.{DecodedHeader}
 use Rattle.header.specs.declared.Decoded.{Decoded}
 use Rattle.header.specs.declared.Decoded.the-variants.{Header, Refused}
@@ -81,49 +80,63 @@ abbrev pub tableAfter : List ℕ → Told → Decoded → List ℕ
 tableAfter table x (Header h) = laid table (rowsOf x)
 tableAfter table x (Refused y) = table
 
--- ---- demand 3, for an accepted text and an MPDU within limits
+-- ---- what that says of the lawful readings, without any walk
+
+-- R1 to R8, H20: the number of an answer, 0 for a header, and its values
+abbrev pub numberIn : Decoded → ℕ
+numberIn (Header h) = 0
+numberIn (Refused x) = numberOf x
+
+abbrev pub bit : Bool → ℕ
+bit true = 1
+bit false = 0
+
+abbrev pub valuesIn : Decoded → List ℕ
+valuesIn (Header h) =
+    h .number ∷ h .key ∷ bit (h .flags .ack) ∷ bit (h .flags .routed) ∷ bit (h .flags .multicast) ∷ bit (h .flags .error) ∷ h .payload ∷ bit (h .right)
+    ∷ h .rows ∷ []
+valuesIn (Refused x) = carriedBy x ∷ []
+
+-- R6 to R8, H20: those of what is told
+abbrev pub numberTold : Told → ℕ
+numberTold (no-base key) = 6
+numberTold no-candidate = 7
+numberTold (more-rows n) = 8
+numberTold (header h) = 0
+
+abbrev pub valuesTold : Bool → Told → List ℕ
+valuesTold ok (no-base key) = key ∷ []
+valuesTold ok no-candidate = 0 ∷ []
+valuesTold ok (more-rows n) = n ∷ []
+valuesTold ok (header h) =
+    h .number ∷ h .key ∷ bit (h .ack) ∷ bit (h .routed) ∷ bit (h .multicast) ∷ bit (h .error) ∷ h .offset ∷ bit ok ∷ length (h .rows) ∷ []
+
+-- an accepted text and an MPDU within limits
 pub record Within (t d : List ℕ) : Type 0 where
   pub accepted : verdict t ≡ text.Accepted
   pub long : 2 ≤ length d
   pub short : length d ≤ 2048
 
--- the answer's numbers are those of the first candidate that holds, by its lawful reading, and the table has rows enough
-pub record Answers (t : List ℕ) (def : Definition) (d : List ℕ) (most key : ℕ) (ok : Bool) (h : DecodedHeader) : Type 0 where
-  pub heading : Heading
-  pub fits : Fits def d most key heading
-  pub is : h ≡ headerOf t ok heading
-
--- by cases of the answer: refusals 1 to 5 do not come
-abbrev pub Says : List ℕ → Definition → List ℕ → ℕ → ℕ → Bool → Decoded → Type 0
-Says t def d most key ok (Header h) = Answers t def d most key ok h
-Says t def d most key ok (Refused (Form n)) = ⊥
-Says t def d most key ok (Refused (Limit n)) = ⊥
-Says t def d most key ok (Refused (Owner n)) = ⊥
-Says t def d most key ok (Refused (TooLong n)) = ⊥
-Says t def d most key ok (Refused (TooShort n)) = ⊥
-Says t def d most key ok (Refused (NoBase k)) = (k ≡ key) × (firstBase key (def .bases) ≡ none)
-Says t def d most key ok (Refused NoCandidate) = NoneHolds def d key
-Says t def d most key ok (Refused (MoreRows n)) = Needs def d most key n
-Says t def d most key ok (Refused NotAFrame) = ⊥
-
--- rows enough, whichever candidate holds
-abbrev pub Enough : Definition → List ℕ → ℕ → ℕ → Base → Type 0
-Enough def d most key b =
-    (c : Candidate 7) (fs : List (Field 7)) → First 7 d (trees (b .params)) (candidatesOf key def) c fs → length (tableOf 7 d (def .sets) fs) ≤ most
-
--- H15, demand 3: there is an answer exactly if some candidate holds; it is the first that does; and 7 comes exactly if none does
-pub record Demand (t : List ℕ) (def : Definition) (d : List ℕ) (key : ℕ) (ok : Bool) (b : Base) (r : Decoded) : Type 0 where
-  pub exactly : ((h : DecodedHeader) × (r ≡ Header h)) ↔ Some 7 d (trees (b .params)) (candidatesOf key def)
-  pub the-first : (h : DecodedHeader)
-      → (r ≡ Header h) ↔ ((c : Candidate 7) × (fs : List (Field 7)) × First 7 d (trees (b .params)) (candidatesOf key def) c fs
-      × (h ≡ headerOf t ok (headingOf (def .sets) d c fs)))
-  pub only-seven : (r ≡ Refused NoCandidate) ↔ None 7 d (trees (b .params)) (candidatesOf key def)
+-- for such: something is told, and it says of the lawful readings what `Says` says
+pub record ByReadings (t d : List ℕ) (region speed : ℕ) (table : List ℕ) (r : Decoded) (table′ : List ℕ) : Type 0 where
+  pub told : Told
+  pub says : Says (definition t) d (length table / rowWidth) (keyOf t region speed) told
+  -- the answer has its number and its values
+  pub number : numberIn r ≡ numberTold told
+  pub values : valuesIn r ≡ valuesTold (right d speed) told
+  -- R12: a header's rows are laid over the table, a refusal leaves it as it was
+  pub leaves : table′ ≡ tableAfter table told r
+  -- H20: the name of each candidate, and so that of the answer, stands where it is told
+  pub named : (xs : List (Candidate 7)) (c : Candidate 7) (ys : List (Candidate 7)) → candidatesOf (keyOf t region speed) (definition t) ≡ xs ++ c ∷ ys
+      → partOf t (headerName t (c .number)) ≡ c .says .name
+  -- demand 3, for a base header that exists
+  pub demand : (b : Base) → firstBase (keyOf t region speed) (definition t .bases) ≡ some b
+      → Demand3 (definition t) d (length table / rowWidth) (keyOf t region speed) b told
+  -- 128 rows are enough for every header
+  pub enough : 128 * rowWidth ≤ length table → numberIn r ≡ 8 → ⊥
 
 -- ---- H20: what a call of `decode_header` answers and leaves
 pub record Decodes (t d : List ℕ) (region speed : ℕ) (table : List ℕ) (r : Decoded) (table′ : List ℕ) : Type 0 where
   pub answer : r ≡ decoded t d region speed (length table)
   pub rows : table′ ≡ tableAfter table (toldOf t d region speed (length table)) r
-  pub says : Within t d → Says t (definition t) d (length table / rowWidth) (keyOf t region speed) (right d speed) r
-  pub demand : Within t d → (b : Base) → firstBase (keyOf t region speed) (definition t .bases) ≡ some b
-      → Enough (definition t) d (length table / rowWidth) (keyOf t region speed) b
-      → Demand t (definition t) d (keyOf t region speed) (right d speed) b r
+  pub by-readings : Within t d → ByReadings t d region speed table r table′

@@ -32,6 +32,9 @@ ghost use Rattle.header.specs.Decode.{Decodes};
 ghost use Rattle.header.specs.Steps.{Ready, Shows, Picks, Reads};
 ghost use Rattle.header_candidates.specs.Read.{Roomy, baseOf, HoldsBase};
 
+// The numbers of a table that has room for every header: 128 rows are enough (`enough` of `ByReadings`).
+pub const MOST_NUMBERS: usize = 128 * ROW_WIDTH;
+
 // H20 of docs/RULES.md: which H line it is, its key and flags, where its name stands in the text, where the payload starts in the
 // MPDU, whether the checksum or CRC is right, and how many rows there are.
 pub struct DecodedHeader {

@@ -24,8 +24,8 @@ use Rattle.rows.specs.Rows.{put, flat, laid}
 use Rattle.rows.proofs.Laws.{sets-append, put-room, sets-laid}
 use Rattle.header_fields.specs.Fields.{setIn, numberIn, paramAt, fieldsFrom, fieldsIn}
 use Rattle.header_rules.specs.Data.{Name}
-use Rattle.header_rules.specs.Loaded.{numberAt, shown}
-use Rattle.header_rules.specs.Level.{saidAt}
+use Rattle.header_rules.specs.Loaded.{shown}
+use Rattle.header_rules.specs.Level.{saidAt, numberAt}
 use Rattle.header_rules.specs.Rows.{Row, rowValue}
 use Rattle.header_rules.specs.Table.{rowWidth, entryOf, symbolOf}
 use Rattle.header_paths.specs.Scratch.{rowIn, rowsIn, tells}

@@ -10,7 +10,7 @@ use Rattle.header_rules.specs.Data.{P, Field, Candidate}
 use Rattle.header_rules.specs.Find.{valueAt}
 use Rattle.header_rules.specs.Walk.{reading}
 use Rattle.header_rules.specs.Answer.{Answer, answered, refused, isValue, meetsAll, answer}
-use Rattle.header_rules.specs.Demand.{Meets, Holds, None, First, Answers, Some, Demand3}
+use Rattle.header_rules.specs.Demand.{Meets, Holds, None, First, Answers}
 use Rattle.laws.proofs.Bools.{and-left, and-right}
 use Rattle.header_rules.proofs.Exists.{and-both}
 use Rattle.header_rules.proofs.Lawful.{none-split}
@@ -141,25 +141,3 @@ module _ (n : ℕ) (d : List ℕ) (base : List (P n)) where
   pub answer-only : (cs : List (Candidate n)) (a : Answer n) → Answers n d base cs a → a ≡ answer n d base cs
   answer-only cs (answered c fs) f = first-only cs c fs (f .front) (f .back) (f .place) (f .holds) (f .none-before)
   answer-only cs (refused k) f = rw (f .0) (refused-only cs (f .1))
-
-  pub demand3 : (cs : List (Candidate n)) → Demand3 n d base cs (answer n d base cs)
-  demand3 cs =
-      record {
-        exactly =
-            (λ w. first-some (w .0) (w .1) (subst (Answers n d base cs) (w .2) (answer-says cs)), λ s. found (answer n d base cs) refl (answer-says cs) s);
-        the-first = λ c fs. (λ e. subst (Answers n d base cs) e (answer-says cs), λ f. sym (answer-only cs (answered c fs) f));
-        only-seven = λ k. (λ e. subst (Answers n d base cs) e (answer-says cs), λ f. sym (answer-only cs (refused k) f));
-      }
-    where
-      first-some : (c : Candidate n) (fs : List (Field n)) → First n d base cs c fs → Some n d base cs
-      first-some c fs f = record { front = f .front; one = c; back = f .back; place = f .place; fields = fs; holds = f .holds }
-
-      found : (a : Answer n) → answer n d base cs ≡ a → Answers n d base cs a → Some n d base cs → (c : Candidate n) × (fs : List (Field n))
-          × (answer n d base cs ≡ answered c fs)
-      found (answered c fs) e f s = (c, fs, e)
-      found (refused k) e f s = absurd (f .1 (s .front) (s .one) (s .back) (s .place) (s .fields) (s .holds))
-
-  -- two answers that demand 3 allows coincide
-  pub demand3-only : (cs : List (Candidate n)) (a : Answer n) → Demand3 n d base cs a → a ≡ answer n d base cs
-  demand3-only cs (answered c fs) h = answer-only cs (answered c fs) (h .the-first c fs .0 refl)
-  demand3-only cs (refused k) h = answer-only cs (refused k) (h .only-seven k .0 refl)

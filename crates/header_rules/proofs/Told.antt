@@ -2,7 +2,7 @@
 use mathlib.Core.Bool.{Bool, true, false, cond}
 use mathlib.Core.Path.{_≡_, refl, sym, ap, _∙_, subst}
 use mathlib.Core.Option.{Option, none, some}
-use mathlib.Core.List.{List}
+use mathlib.Core.List.{List, _∷_, _++_}
 use Prim.Native.Nat.{ℕ, _≤_, _<_}
 use native.Mathlib.Omega.{arith}
 use lib.Dec.{leb}
@@ -11,11 +11,11 @@ use borrow.Author.Tests.{leb-true, leb-false, le-leb, lt-leb}
 use Rattle.frame_definition.specs.Definition.{Definition, Base, firstBase}
 use Rattle.header_rules.specs.Data.{Field, Candidate}
 use Rattle.header_rules.specs.Answer.{Answer, answered, refused, answer}
-use Rattle.header_rules.specs.Demand.{First, None, Answers}
+use Rattle.header_rules.specs.Demand.{First, None, Answers, OneReading}
 use Rattle.header_rules.specs.Trees.{trees}
 use Rattle.header_rules.proofs.Answer.{answer-says, answer-only}
 use Rattle.header_rules.specs.Told.{Heading, Told, no-base, no-candidate, more-rows, header, headingOf, fitted, ofAnswer, candidatesOf, ofBase, told}
-use Rattle.header_rules.specs.Says.{Chosen, Says, Demanded}
+use Rattle.header_rules.specs.Says.{Chosen, Says, Enough, Demand3}
 
 module _ (def : Definition) (d : List ℕ) (most key : ℕ) where
   fitted-says : (h : Heading) → Chosen def d key h → Says def d most key (fitted most h)
@@ -67,45 +67,63 @@ module _ (def : Definition) (d : List ℕ) (most key : ℕ) where
   says-one r q s u = says-only r s ∙ sym (says-only q u)
 
   -- ---- demand 3
+  never-seven : (h : Heading) → fitted most h ≡ no-candidate → ⊥
+  never-seven h = go (leb (length (h .rows)) most)
+    where
+      go : (t : Bool) → cond t (header h) (more-rows (length (h .rows))) ≡ no-candidate → ⊥
+      go true e = let z : _≡_ {A = ℕ} 0 1 = cc in omega arith
+      go false e = let z : _≡_ {A = ℕ} 0 1 = cc in omega arith
+
   module _ (b : Base) (e : firstBase key (def .bases) ≡ some b)
-      (enough : (c : Candidate 7) (fs : List (Field 7)) → First 7 d (trees (b .params)) (candidatesOf key def) c fs
-      → length (headingOf (def .sets) d c fs .rows) ≤ most) where
-    first-told : (c : Candidate 7) (fs : List (Field 7)) → First 7 d (trees (b .params)) (candidatesOf key def) c fs
+      (ones : (xs : List (Candidate 7)) (c : Candidate 7) (ys : List (Candidate 7)) → candidatesOf key def ≡ xs ++ c ∷ ys
+      → OneReading 7 d (trees (b .params)) (c .params)) where
+    first-fitted : (c : Candidate 7) (fs : List (Field 7)) → First 7 d (trees (b .params)) (candidatesOf key def) c fs
+        → told def d most key ≡ fitted most (headingOf (def .sets) d c fs)
+    first-fitted c fs f =
+        chosen-told (headingOf (def .sets) d c fs) (record { base = b; base-is = e; one = c; fields = fs; first = f; heading = refl })
+
+    first-told : Enough def d most key b → (c : Candidate 7) (fs : List (Field 7)) → First 7 d (trees (b .params)) (candidatesOf key def) c fs
         → told def d most key ≡ header (headingOf (def .sets) d c fs)
-    first-told c fs f =
+    first-told enough c fs f =
         let h : Heading = headingOf (def .sets) d c fs in
-        chosen-told h (record { base = b; base-is = e; one = c; fields = fs; first = f; heading = refl })
-        ∙ ap (λ (t : Bool). cond t (header h) (more-rows (length (h .rows)))) (le-leb (length (h .rows)) most (enough c fs f))
+        first-fitted c fs f ∙ ap (λ (t : Bool). cond t (header h) (more-rows (length (h .rows)))) (le-leb (length (h .rows)) most (enough c fs f))
 
     none-told : None 7 d (trees (b .params)) (candidatesOf key def) → told def d most key ≡ no-candidate
     none-told n = sym (says-only no-candidate (record { base = b; base-is = e; none-holds = n }))
 
-    pub told-demanded : (r : Told) → r ≡ told def d most key → Demanded def d key b r
+    pub told-demanded : (r : Told) → r ≡ told def d most key → Demand3 def d most key b r
     told-demanded r q = by-answer (answer 7 d (trees (b .params)) (candidatesOf key def)) (answer-says 7 d (trees (b .params)) (candidatesOf key def))
       where
-        to-header : (h : Heading) → (c : Candidate 7) × (fs : List (Field 7)) × First 7 d (trees (b .params)) (candidatesOf key def) c fs
-            × (h ≡ headingOf (def .sets) d c fs) → r ≡ header h
-        to-header h w = q ∙ first-told (w .0) (w .1) (w .2) ∙ ap header (sym (w .3))
+        to-header : Enough def d most key b → (h : Heading) → (c : Candidate 7) × (fs : List (Field 7))
+            × First 7 d (trees (b .params)) (candidatesOf key def) c fs × (h ≡ headingOf (def .sets) d c fs) → r ≡ header h
+        to-header enough h w = q ∙ first-told enough (w .0) (w .1) (w .2) ∙ ap header (sym (w .3))
 
-        by-answer : (a : Answer 7) → Answers 7 d (trees (b .params)) (candidatesOf key def) a → Demanded def d key b r
+        by-answer : (a : Answer 7) → Answers 7 d (trees (b .params)) (candidatesOf key def) a → Demand3 def d most key b r
         by-answer (answered c fs) f =
-            let is : r ≡ header (headingOf (def .sets) d c fs) = q ∙ first-told c fs f in
+            let h : Heading = headingOf (def .sets) d c fs in
             record {
-              exactly = (
+              one-reading = ones;
+              exactly = λ enough. (
                 λ w. record { front = f .front; one = c; back = f .back; place = f .place; fields = fs; holds = f .holds },
-                λ s.
-                    (headingOf (def .sets) d c fs, is),
+                λ s. (h, q ∙ first-told enough c fs f),
               );
-              the-first = λ h. (λ e. (c, fs, f, cc), to-header h);
-              only-seven = (λ w. absurd (let z : _≡_ {A = ℕ} 0 1 = cc in omega arith), λ n. absurd (n (f .front) c (f .back) (f .place) fs (f .holds)));
+              the-first = λ enough k. (
+                λ w. let is : r ≡ header h = q ∙ first-told enough c fs f in (c, fs, f, let z : k ≡ h = cc in z),
+                to-header enough k,
+              );
+              only-seven = (
+                λ w. absurd (never-seven h (sym (first-fitted c fs f) ∙ sym q ∙ w)),
+                λ n. absurd (n (f .front) c (f .back) (f .place) fs (f .holds)),
+              );
             }
         by-answer (refused k) f =
             let is : r ≡ no-candidate = q ∙ none-told (f .1) in
             record {
-              exactly = (
+              one-reading = ones;
+              exactly = λ enough. (
                 λ w. let u : r ≡ header (w .0) = w .1 in absurd (let z : _≡_ {A = ℕ} 0 1 = cc in omega arith),
                 λ s. absurd (f .1 (s .front) (s .one) (s .back) (s .place) (s .fields) (s .holds)),
               );
-              the-first = λ h. (λ e. absurd (let z : _≡_ {A = ℕ} 0 1 = cc in omega arith), to-header h);
+              the-first = λ enough h. (λ e. absurd (let z : _≡_ {A = ℕ} 0 1 = cc in omega arith), to-header enough h);
               only-seven = (λ w. f .1, λ n. is);
             }

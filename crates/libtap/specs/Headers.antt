@@ -3,13 +3,13 @@ use mathlib.Core.Path.{_≡_}
 use mathlib.Core.Bool.{true, false}
 use mathlib.Core.List.{List}
 use Prim.Native.Nat.{ℕ}
-use Rattle.refusal.specs.Refusal.{numberOf, carriedBy}
+use Rattle.refusal.specs.Refusal.{carriedBy}
 use Rattle.bits.specs.declared.Bits.{Bits}
 use Rattle.bits.specs.declared.Bits.the-variants.{Value, Declined}
 use Rattle.header.specs.declared.DecodedHeader.{DecodedHeader}
 use Rattle.header.specs.declared.Decoded.{Decoded}
 use Rattle.header.specs.declared.Decoded.the-variants.{Header, Refused}
-use Rattle.header.specs.Decode.{Decodes}
+use Rattle.header.specs.Decode.{numberIn, Decodes}
 use Rattle.libtap.specs.declared.headers.TapBits.{TapBits}
 use Rattle.libtap.specs.declared.headers.TapHeader.{TapHeader}
 
@@ -22,7 +22,7 @@ toldBits Declined = record { «is_read» = false; value = 0 }
 abbrev pub headed : DecodedHeader → TapHeader
 headed h =
     record {
-      refusal = 0;
+      refusal = numberIn (Header h);
       value = 0;
       number = h .number;
       key = h .key;
@@ -42,7 +42,7 @@ abbrev pub toldHeader : Decoded → TapHeader
 toldHeader (Header h) = headed h
 toldHeader (Refused x) =
     record {
-      refusal = numberOf x;
+      refusal = numberIn (Refused x);
       value = carriedBy x;
       number = 0;
       key = 0;

@@ -21,6 +21,7 @@ use files::input::File;
 use files::options::Asked;
 use files::options::Options;
 use header::Decoded;
+use header::MOST_NUMBERS;
 use header::decode_header;
 use libc::STDERR_FILENO;
 use output::outcome::fail;
@@ -34,9 +35,7 @@ use writer::Buffer;
 use writer::flush;
 ghost use Rattle.show_word.specs.Search.{Holds};
 
-// The numbers of a header's rows and of a command's: 128 rows of seven, 1,024 of nine.
-const FIELDS: usize = 896;
-
+// The numbers of a command's rows: 1,024 of nine.
 const PARAMS: usize = 9216;
 
 // The frame after so many of the capture behind a descriptor.
@@ -130,7 +129,7 @@ fn show_mpdu(
     at: usize,
     options: Options,
 ) {
-    let mut rows = [0u64; FIELDS];
+    let mut rows = [0u64; MOST_NUMBERS];
     match decode_header(text, mpdu, frame_code(region), rate, &mut rows) {
         Decoded::Header(header) => {
             let place = put_header(out, at, text, mpdu, header, &rows, options);
