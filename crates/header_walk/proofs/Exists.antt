@@ -99,21 +99,20 @@ module _ (x t : List ℕ) (n i p : ℕ) (done : List Row) where
         let w : width (fieldsIn x t n) i p done ≡ 0 = width-path h z ∙ omega arith in
         rw (w, le-leb 0 left (omega arith)) refl
 
-    pub width-over : (k : ℕ) → v ≡ valued.Value k → i < n → (sizeIn t i .len ≡ 0 → ⊥) → left / 8 < k
-        → 0 ≡ fitting (width (fieldsIn x t n) i p done) left
-    unfolding fitting
-    width-over k e h z l =
+    pub width-sized : (k r : ℕ) → v ≡ valued.Value k → r ≡ fitting (8 * k) left → i < n → (sizeIn t i .len ≡ 0 → ⊥)
+        → r ≡ fitting (width (fieldsIn x t n) i p done) left
+    width-sized k r e er h z =
         let o = value-some (flatValue (nameOf (fieldsIn x t n)) done (names path) p) k (sym e ∙ ev) in
         let w : width (fieldsIn x t n) i p done ≡ 8 * k = width-path h z ∙ omega arith in
-        rw (w, lt-leb (8 * k) left (omega arith)) refl
+        rw w er
 
-    pub width-sized : (k : ℕ) → v ≡ valued.Value k → i < n → (sizeIn t i .len ≡ 0 → ⊥) → k ≤ left / 8
-        → k * 8 ≡ fitting (width (fieldsIn x t n) i p done) left
-    unfolding fitting
-    width-sized k e h z l =
-        let o = value-some (flatValue (nameOf (fieldsIn x t n)) done (names path) p) k (sym e ∙ ev) in
-        let w : width (fieldsIn x t n) i p done ≡ 8 * k = width-path h z ∙ omega arith in
-        rw (w, le-leb (8 * k) left (omega arith)) (omega arith)
+pub bytes-over : (k left : ℕ) → left / 8 < k → 0 ≡ fitting (8 * k) left
+unfolding fitting
+bytes-over k left h = rw (lt-leb (8 * k) left (omega arith)) refl
+
+pub bytes-fit : (k left : ℕ) → k ≤ left / 8 → k * 8 ≡ fitting (8 * k) left
+unfolding fitting
+bytes-fit k left h = rw (le-leb (8 * k) left (omega arith)) (omega arith)
 
 pub fits-over : (w left : ℕ) → left < w → 0 ≡ fitting w left
 unfolding fitting
@@ -123,7 +122,18 @@ pub fits-whole : (w left : ℕ) → w ≤ left → w ≡ fitting w left
 unfolding fitting
 fits-whole w left h = rw (le-leb w left h) refl
 
-pub ruleset width-laws = (wanted-free, wanted-none, wanted-some, width-plain, width-none, width-over, width-sized, fits-over, fits-whole)
+pub ruleset width-laws = (
+  wanted-free,
+  wanted-none,
+  wanted-some,
+  width-plain,
+  width-none,
+  width-sized,
+  bytes-over,
+  bytes-fit,
+  fits-over,
+  fits-whole,
+)
 
 -- ---- both: how wide it is, if it exists
 

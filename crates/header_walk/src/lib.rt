@@ -74,7 +74,7 @@ fn is_wanted(
     0 < value
 }
 
-// The width of the field i, or 0 where it is over `left`: the product of a size path is made only where it fits.
+// The width of the field i, or 0 where it is over `left`.
 fn width_of(
     text: &[u8],
     fields: &[u64],
@@ -97,6 +97,13 @@ fn width_of(
     let Valued::Value(bytes) = find_inside(text, fields, count, rows, n, path, parent) else {
         return 0;
     };
+    bits_of(bytes, left)
+}
+
+// The bits of so many bytes, or 0 where they are over `left`: the product is made only where it fits.
+fn bits_of(bytes: u64, left: u64) -> u64
+    ensures { λ r. ⌜ r ≡ fitting (8 * bytes) left ⌝ }
+{
     if left / 8 < bytes {
         return 0;
     }

@@ -26,6 +26,5 @@ width-of-spec =
     (λ c. search (needs, width-laws))
     (λ c. search (needs, width-laws))
     (λ c. search (needs, width-laws))
-    (λ c. search (needs, width-laws))
-    (λ c. search (needs, width-laws))
+    (λ c κs. search (needs, width-laws))
     (λ c. search (needs, width-laws)))
