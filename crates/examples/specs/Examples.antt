@@ -38,6 +38,7 @@ pub record Starred : Type 0 where
         number = 0;
         key = 0;
         flags = record { ack = false; routed = false; multicast = false; error = false };
+        name = record { start = 109; len = 1 };
         payload = 2;
         right =
             false;
