@@ -9,7 +9,7 @@
  *   - A table that is lent overlaps nothing else that the same call is lent: no bytes, no other table. Bytes may overlap bytes.
  *   - While a call runs nobody else writes what it is lent, or reads a table that it is lent.
  *
- * Refusals (docs/RULES.md, R1 to R9), and the `value` that each carries:
+ * Refusals (docs/RULES.md, R1 to R9 and FV2), and the `value` that each carries:
  *
  *   0  none
  *   1  a line of the text has none of the forms                                     its number, from 1
@@ -23,6 +23,7 @@
  *   7  no candidate holds                                                           0
  *   8  the answer does not fit into the table                                       how many rows it has
  *   9  a body is not a frame                                                        0
+ *  13  there is no such capture firmware                                            its number
  */
 #ifndef LIBTAP_H
 #define LIBTAP_H
@@ -82,12 +83,13 @@ TapAnswer tap_count_records(const uint8_t *payload, size_t payload_length);
 /* Body k of a payload, from 0; an empty part where there is none or the payload is too long. */
 TapPart tap_record_body(const uint8_t *payload, size_t payload_length, size_t k);
 
-/* The frame of a record's body. Refuses by 4 and 9. */
-TapFrame tap_parse_record(const uint8_t *body, size_t body_length);
+/* The frame of a record's body. `firmware` is the number of the capture firmware that wrote it: 2, or 3, whose regions have five bits. Refuses by
+ * 13, 4 and 9. */
+TapFrame tap_parse_record(const uint8_t *body, size_t body_length, size_t firmware);
 
-/* Every frame of a payload, a row each: direction, region, channel, rate; the RSSI's byte; how often the beam stands there, or 0; where the
- * MPDU starts in the payload, and its length (F17). Answers how many rows. Refuses by 4 and 8. */
-TapAnswer tap_parse_payload(const uint8_t *payload, size_t payload_length, uint64_t *table, size_t table_length);
+/* Every frame of a payload, which that firmware wrote, a row each: direction, region, channel, rate; the RSSI's byte; how often the beam stands there, or 0; where the
+ * MPDU starts in the payload, and its length (F17). Answers how many rows. Refuses by 13, 4 and 8. */
+TapAnswer tap_parse_payload(const uint8_t *payload, size_t payload_length, size_t firmware, uint64_t *table, size_t table_length);
 
 /* ---- definition texts ---- */
 

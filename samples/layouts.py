@@ -10,6 +10,8 @@ BROADCAST, BROADCAST_LONG_RANGE = 0xFF, 0xFFF
 
 # PTI regions
 US, JAPAN, US_LR = 2, 7, 12
+# those of Europe's Long Range that take five bits to say
+EU_LR_BACK, EU_LR_END = 16, 17
 # channels of the US region by their rate; Japan's three are all at 100 kbit/s
 AT_100K, AT_40K, AT_9K6, AT_LR = 0, 1, 2, 3
 

@@ -28,6 +28,7 @@ unsafe extern "C" {
     pub fn tap_parse_payload(
         payload: *const u8,
         payload_length: usize,
+        firmware: usize,
         table: *mut u64,
         table_length: usize,
     ) -> TapAnswer;
@@ -231,6 +232,9 @@ pub fn read_bits(data: &[u8], start: u64, width: u64) -> Option<u64> {
     bits.is_read.then_some(bits.value)
 }
 
+/// The firmware whose payloads zniff-rs reads.
+pub const FIRMWARE: usize = 2;
+
 /// A table for any payload.
 pub fn table() -> Vec<u64> {
     vec![0; ROWS * WIDTH]
@@ -240,7 +244,9 @@ pub fn table() -> Vec<u64> {
 #[inline]
 pub fn parse_payload(payload: &[u8], table: &mut [u64]) -> TapAnswer {
     // SAFETY: both slices are valid for the call, which writes inside the table alone.
-    unsafe { tap_parse_payload(payload.as_ptr(), payload.len(), table.as_mut_ptr(), table.len()) }
+    unsafe {
+        tap_parse_payload(payload.as_ptr(), payload.len(), FIRMWARE, table.as_mut_ptr(), table.len())
+    }
 }
 
 /// Every frame of a payload, as zniff-rs has it.

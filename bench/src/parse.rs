@@ -63,7 +63,9 @@ fn stack_taken(payload: &[u8]) -> usize {
     let (call, mut table) = (ours::tap_parse_payload as *const (), ours::table());
     let (at, length) = (payload.as_ptr() as usize, payload.len());
     // SAFETY: as in `ours::parse_payload`.
-    unsafe { stack::taken(call, &[at, length, table.as_mut_ptr() as usize, table.len()]) }
+    unsafe {
+        stack::taken(call, &[at, length, ours::FIRMWARE, table.as_mut_ptr() as usize, table.len()])
+    }
 }
 
 fn rust(payload: &[u8]) -> Side<'_> {

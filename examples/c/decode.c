@@ -6,6 +6,9 @@
 
 #include "libtap.h"
 
+/* The capture firmware that wrote the payload. */
+enum { FIRMWARE = 2 };
+
 enum { LONGEST_TEXT = 60000, LONGEST_PAYLOAD = 65535, FRAMES = 2978, HEADER_ROWS = 128, COMMAND_ROWS = 4096 };
 
 static uint8_t frame_text[LONGEST_TEXT + 1];
@@ -45,8 +48,8 @@ static size_t read_hex(const char *name, uint8_t *bytes, size_t room) {
 
 /* The F code of a PTI region (definitions/README.md, "Regions"). */
 static uint64_t code_of(uint64_t region) {
-    static const uint8_t codes[16] = {255, 0, 1, 2, 3, 5, 5, 32, 7, 6, 33, 8, 9, 9, 9, 11};
-    return region < 16 ? codes[region] : 255;
+    static const uint8_t codes[18] = {255, 0, 1, 2, 3, 5, 5, 32, 7, 6, 33, 8, 9, 9, 9, 11, 11, 11};
+    return region < 18 ? codes[region] : 255;
 }
 
 static void print_refusal(uint64_t refusal, uint64_t value) {
@@ -111,7 +114,7 @@ int main(int count, char **words) {
     if (!verdict.refusal) {
         verdict = tap_check_command_text(command_text, command_text_length);
     }
-    TapAnswer parsed = verdict.refusal ? verdict : tap_parse_payload(payload, payload_length, frames, sizeof frames / sizeof *frames);
+    TapAnswer parsed = verdict.refusal ? verdict : tap_parse_payload(payload, payload_length, FIRMWARE, frames, sizeof frames / sizeof *frames);
     if (parsed.refusal) {
         print_refusal(parsed.refusal, parsed.value);
         return 1;

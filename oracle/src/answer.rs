@@ -8,7 +8,8 @@ use zniff_core::pti::{self, Direction, PtiFrame};
 use crate::definition::command::CommandDefinition;
 use crate::definition::frame::FrameDefinition;
 use crate::definition::{self, Definition};
-use crate::limits;
+use crate::limits::{self, within};
+use crate::reading::pti::{Frame, region_bits};
 use crate::refusal::Refusal;
 use crate::request::{Request, push_hex};
 use crate::rows::within_table;
@@ -42,9 +43,16 @@ pub fn full_answer(line: &[u8]) -> Answer {
         Request::Rate { channel, region } => Ok(rate(*channel, *region)),
         Request::Count { payload } => count(payload),
         Request::Body { k, payload } => Ok(body(*k, payload)),
-        Request::Record { body } => record(body),
-        Request::Frames { cap, payload } => frames("frames", *cap, payload),
-        Request::Frametable { cap, payload } => frames("frametable", *cap, payload),
+        Request::Record { body } => record("frame", 2, body),
+        Request::Frames { cap, payload } => frames("frames", 2, *cap, payload),
+        Request::Frametable { cap, payload } => frames("frametable", 2, *cap, payload),
+        Request::Recordby { firmware, body } => record("recordby", *firmware, body),
+        Request::Framesby { firmware, cap, payload } => {
+            frames("framesby", *firmware, *cap, payload)
+        }
+        Request::Frametableby { firmware, cap, payload } => {
+            frames("frametableby", *firmware, *cap, payload)
+        }
         Request::Frametext { text } => verdict::<FrameDefinition>(text),
         Request::Commandtext { text } => verdict::<CommandDefinition>(text),
         Request::Header { cap, region, speed, text, mpdu } => {
@@ -56,12 +64,6 @@ pub fn full_answer(line: &[u8]) -> Answer {
         Request::Checksum { speed, mpdu } => Ok(checksum(*speed, mpdu)),
     };
     answer.into()
-}
-
-/// Refusal 4: the bytes are more than the limit.
-fn within(limit: usize, bytes: &[u8]) -> Result<(), Refusal> {
-    let length = bytes.len();
-    if length <= limit { Ok(()) } else { Err(Refusal { number: 4, carried: length }) }
 }
 
 /// F13: 0 for what the lists do not have, and so for what the Rust's `u8` cannot hold.
@@ -90,25 +92,57 @@ fn body(k: u64, payload: &[u8]) -> String {
     answer
 }
 
-fn record(body: &[u8]) -> Result<String, Refusal> {
-    within(limits::BODY, body)?;
-    let frame = pti::parse_record(body).ok_or(Refusal { number: 9, carried: 0 })?;
-    let mut answer = "frame".to_string();
-    push_row(&frame, mpdu_start(body, &frame), &mut answer);
+/// The Rust's answer for firmware 2, the second reading's for another.
+fn record(word: &str, firmware: u64, body: &[u8]) -> Result<String, Refusal> {
+    let frame = match region_bits(firmware)? {
+        4 => {
+            within(limits::BODY, body)?;
+            let frame = pti::parse_record(body).ok_or(Refusal { number: 9, carried: 0 })?;
+            by_source(&frame, mpdu_start(body, &frame))
+        }
+        _ => reading::pti::parse_record(firmware, body)?,
+    };
+    let mut answer = word.to_string();
+    push_row(&frame, &mut answer);
     Ok(answer)
 }
 
-fn frames(word: &str, cap: u64, payload: &[u8]) -> Result<String, Refusal> {
+/// The Rust's answer for firmware 2, the second reading's for another.
+fn frames(word: &str, firmware: u64, cap: u64, payload: &[u8]) -> Result<String, Refusal> {
+    let frames = match region_bits(firmware)? {
+        4 => source_frames(cap, payload)?,
+        _ => reading::pti::parse_payload(firmware, payload, cap)?,
+    };
+    let mut answer = format!("{word} {}", frames.len());
+    for frame in frames {
+        push_row(&frame, &mut answer);
+    }
+    Ok(answer)
+}
+
+fn source_frames(cap: u64, payload: &[u8]) -> Result<Vec<Frame>, Refusal> {
     within(limits::PAYLOAD, payload)?;
     let frames = pti::parse_payload(payload);
     if frames.len() as u64 > cap {
         return Err(Refusal { number: 8, carried: frames.len() });
     }
-    let mut answer = format!("{word} {}", frames.len());
-    for (frame, start) in frames.iter().zip(starts_in_payload(payload, &frames)) {
-        push_row(frame, start, &mut answer);
+    let starts = starts_in_payload(payload, &frames);
+    Ok(frames.iter().zip(starts).map(|(frame, start)| by_source(frame, start)).collect())
+}
+
+/// The source's frame, its MPDU at that place.
+fn by_source(frame: &PtiFrame, start: usize) -> Frame {
+    let PtiFrame { region, channel, speed, rssi, .. } = *frame;
+    Frame {
+        is_sent: matches!(frame.direction, Direction::Tx),
+        region,
+        channel,
+        rate: speed,
+        rssi,
+        beams: frame.beam_count.map(usize::from),
+        start,
+        length: frame.mpdu.len(),
     }
-    Ok(answer)
 }
 
 /// Where each frame's MPDU starts in the payload. The Rust copies the bytes and forgets the place,
@@ -135,15 +169,11 @@ fn mpdu_start(body: &[u8], frame: &PtiFrame) -> usize {
 }
 
 /// Writes ` DIR REGION CHANNEL RATE RSSI BEAMS START LENGTH`.
-fn push_row(frame: &PtiFrame, start: usize, answer: &mut String) {
-    let direction = match frame.direction {
-        Direction::Rx => 0,
-        Direction::Tx => 1,
-    };
-    let PtiFrame { region, channel, speed, rssi, .. } = frame;
-    let beams = frame.beam_count.map_or("-".to_string(), |count| count.to_string());
-    let length = frame.mpdu.len();
-    write!(answer, " {direction} {region} {channel} {speed} {rssi} {beams} {start} {length}")
+pub fn push_row(frame: &Frame, answer: &mut String) {
+    let Frame { region, channel, rate, rssi, start, length, .. } = frame;
+    let direction = u8::from(frame.is_sent);
+    let beams = frame.beams.map_or("-".to_string(), |count| count.to_string());
+    write!(answer, " {direction} {region} {channel} {rate} {rssi} {beams} {start} {length}")
         .expect("a string takes all");
 }
 

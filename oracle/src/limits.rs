@@ -1,5 +1,13 @@
 //! The limits of T33 and R4 (docs/RULES.md), which the Rust does not have, and the replay program's.
 
+use crate::refusal::Refusal;
+
+/// Refusal 4: the bytes are more than the limit.
+pub fn within(limit: usize, bytes: &[u8]) -> Result<(), Refusal> {
+    let length = bytes.len();
+    if length <= limit { Ok(()) } else { Err(Refusal { number: 4, carried: length }) }
+}
+
 /// The longest payload that is not refused by 4.
 pub const PAYLOAD: usize = 65_535;
 /// The longest record body that is not refused by 4.

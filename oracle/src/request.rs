@@ -12,6 +12,9 @@ pub enum Request {
     Record { body: Vec<u8> },
     Frames { cap: u64, payload: Vec<u8> },
     Frametable { cap: u64, payload: Vec<u8> },
+    Recordby { firmware: u64, body: Vec<u8> },
+    Framesby { firmware: u64, cap: u64, payload: Vec<u8> },
+    Frametableby { firmware: u64, cap: u64, payload: Vec<u8> },
     Frametext { text: Vec<u8> },
     Commandtext { text: Vec<u8> },
     Header { cap: u64, region: u64, speed: u64, text: Vec<u8>, mpdu: Vec<u8> },
@@ -31,6 +34,17 @@ impl Request {
             b"record" => Request::Record { body: words.bytes()? },
             b"frames" => Request::Frames { cap: words.cap()?, payload: words.bytes()? },
             b"frametable" => Request::Frametable { cap: words.cap()?, payload: words.bytes()? },
+            b"recordby" => Request::Recordby { firmware: words.by()?, body: words.bytes()? },
+            b"framesby" => Request::Framesby {
+                firmware: words.by()?,
+                cap: words.cap()?,
+                payload: words.bytes()?,
+            },
+            b"frametableby" => Request::Frametableby {
+                firmware: words.by()?,
+                cap: words.cap()?,
+                payload: words.bytes()?,
+            },
             b"frametext" => Request::Frametext { text: words.bytes()? },
             b"commandtext" => Request::Commandtext { text: words.bytes()? },
             b"header" => Request::Header {
@@ -66,6 +80,13 @@ impl Request {
             Request::Record { body } => ("record", vec![], vec![body]),
             Request::Frames { cap, payload } => ("frames", vec![*cap], vec![payload]),
             Request::Frametable { cap, payload } => ("frametable", vec![*cap], vec![payload]),
+            Request::Recordby { firmware, body } => ("recordby", vec![*firmware, 0], vec![body]),
+            Request::Framesby { firmware, cap, payload } => {
+                ("framesby", vec![*firmware, 0, *cap], vec![payload])
+            }
+            Request::Frametableby { firmware, cap, payload } => {
+                ("frametableby", vec![*firmware, 0, *cap], vec![payload])
+            }
             Request::Frametext { text } => ("frametext", vec![], vec![text]),
             Request::Commandtext { text } => ("commandtext", vec![], vec![text]),
             Request::Header { cap, region, speed, text, mpdu } => {
@@ -131,6 +152,12 @@ impl<'a, W: Iterator<Item = &'a [u8]>> Words<W> {
 
     fn cap(&mut self) -> Option<u64> {
         self.number().filter(|&cap| cap <= limits::CAP)
+    }
+
+    /// `FIRMWARE READING`: there is no reading but 0.
+    fn by(&mut self) -> Option<u64> {
+        let firmware = self.number()?;
+        (self.number()? == 0).then_some(firmware)
     }
 
     fn bytes(&mut self) -> Option<Vec<u8>> {

@@ -4,7 +4,7 @@ use crate::generate::{FAULTS, Generator, spoil};
 use crate::limits;
 use crate::random::Random;
 use crate::request::{Request, push_hex};
-use crate::shape::{Body, LONGEST_BODY, PAIRS_BY_RATE, enclose};
+use crate::shape::{Body, LONGEST_BODY, PAIRS_BY_RATE, PAIRS_OF_FIVE_BITS, enclose};
 
 /// How many requests are drawn, and how long a drawn one may be.
 const DRAWN: usize = 2_000;
@@ -23,6 +23,7 @@ pub fn sample(seed: u64, kinds: &str) -> Result<Vec<Vec<u8>>, String> {
     requests.extend(about_beams());
     requests.extend(about_faults(&mut Random::new(seed, u64::MAX)));
     requests.extend(about_tables());
+    requests.extend(about_firmwares());
     requests.extend(about_lengths());
     requests.extend(about_headers());
     requests.extend(about_commands());
@@ -117,6 +118,15 @@ fn bad_lines() -> Vec<Vec<u8>> {
         b"frames 18446744073709551616 -",
         b"frametable 16385 -",
         b"frametable 1 0",
+        b"recordby 3 5b",
+        b"recordby 3 1 5b",
+        b"recordby 3 2 -",
+        b"recordby - 0 -",
+        b"recordby 18446744073709551616 0 -",
+        b"framesby 3 0 -",
+        b"framesby 4 2 1 -",
+        b"frametableby 3 0 16385 -",
+        b"frametableby 3 00 1 -",
         b"frametext",
         b"frametext 0",
         b"frametext 0 0a",
@@ -282,6 +292,40 @@ fn about_tables() -> Vec<Request> {
     for k in (0..8).chain([1 << 8, 1 << 32, u64::MAX]) {
         requests.push(Request::Body { k, payload: payload.clone() });
     }
+    requests
+}
+
+/// Every region byte under both firmwares; a beam of each pair of five bits; numbers of firmwares
+/// that there aren't, with a body that is too long too.
+fn about_firmwares() -> Vec<Request> {
+    let asked = |firmware: u64, body: Vec<u8>| {
+        let payload = enclose(&body);
+        [
+            Request::Recordby { firmware, body },
+            Request::Framesby { firmware, cap: 1, payload: payload.clone() },
+            Request::Frametableby { firmware, cap: 0, payload },
+        ]
+    };
+    let mut requests = Vec::new();
+    for region in 0..=255 {
+        let mut body = Body::new(2, region % 2 == 0, vec![0xC5, 1, 2]);
+        (body.region, body.channel, body.protocol) = (region, region >> 4, 0x16);
+        let record = |firmware| Request::Recordby { firmware, body: body.bytes() };
+        requests.extend([3, 2].map(record));
+    }
+    for &(channel, region) in PAIRS_OF_FIVE_BITS {
+        for (version, is_tx) in VERSIONS_AND_DIRECTIONS {
+            let mut body = Body::new(version, is_tx, [0x55, 1, 2, 3].repeat(2));
+            (body.channel, body.region) = (channel, region);
+            requests.extend([3, 2].into_iter().flat_map(|firmware| asked(firmware, body.bytes())));
+        }
+    }
+    for firmware in [0, 1, 4, 5, 13, 255, 258, 259, 1 << 32 | 2, u64::MAX] {
+        requests.extend(asked(firmware, Body::new(2, false, vec![1]).bytes()));
+        requests.extend(asked(firmware, vec![]));
+        requests.push(Request::Recordby { firmware, body: vec![0; limits::BODY + 1] });
+    }
+    requests.push(Request::Recordby { firmware: 3, body: vec![0; limits::BODY + 1] });
     requests
 }
 

@@ -8,6 +8,10 @@ pub const PAIRS_BY_RATE: [&[(u8, u8)]; 4] = [
     &[(3, 12), (3, 13), (3, 15), (0, 14), (1, 14)],
 ];
 
+/// Channels with regions that take five bits to say, of every rate.
+pub const PAIRS_OF_FIVE_BITS: &[(u8, u8)] =
+    &[(2, 16), (1, 16), (0, 16), (3, 16), (0, 17), (1, 17), (2, 17), (3, 17), (0, 31)];
+
 /// The longest body that a record can hold: its length byte counts two bytes more.
 pub const LONGEST_BODY: usize = 253;
 

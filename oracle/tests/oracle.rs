@@ -141,12 +141,12 @@ fn the_walks_sample_is_small_and_has_every_refusal() {
 #[test]
 fn the_sample_is_small_and_has_every_kind() {
     let lines = sample(1, TODAY).unwrap();
-    assert!(lines.iter().map(|line| line.len() + 1).sum::<usize>() < 1_200_000);
+    assert!(lines.iter().map(|line| line.len() + 1).sum::<usize>() < 1_300_000);
     for name in TODAY.split(',').filter(|&name| name != "bad") {
         let word = [name.as_bytes(), b" "].concat();
         assert!(lines.iter().filter(|line| line.starts_with(&word)).count() > 100, "{name}");
     }
-    for answered in ["bad request", "refused 4 ", "refused 8 ", "refused 9 0"] {
+    for answered in ["bad request", "refused 4 ", "refused 8 ", "refused 9 0", "refused 13 "] {
         let count = lines.iter().filter(|line| answer(line).starts_with(answered)).count();
         assert!(count > 2, "{answered}");
     }

@@ -10,7 +10,7 @@ use oracle::request::Request;
 
 #[test]
 fn the_rust_answers_as_the_second_reading() {
-    assert!(agree(&Generator::new(2, "header,command").unwrap(), 100_000));
+    assert!(agree(&Generator::new(2, "header,command,record,recordby,frames,framesby").unwrap(), 100_000));
 }
 
 /// Demand 2's domain ends where a size or a bit place does not fit into 64 bits: elsewhere the Rust

@@ -12,7 +12,7 @@ use Rattle.command_text.specs.Rules.{verdict}
 use Rattle.command.specs.Answer.{told, answerOf, DecodesBy, Decodes}
 use Rattle.command.specs.declared.Params.{Params}
 use Rattle.command.specs.declared.Params.the-variants.{Rows, Refused}
-use Rattle.command.proofs.Decoding.{numbered}
+use Rattle.refusal.proofs.Numbers.{numbered}
 use Rattle.bench_commands.specs.Told.{inOne}
 
 pub tells-rows : (x : Params) (n : ℕ) (at : PayloadOffset) → x ≡ Rows n at → n ≡ inOne (told x)

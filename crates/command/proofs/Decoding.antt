@@ -10,7 +10,8 @@ use lib.Seq.{length-take-le}
 use borrow.Author.Tests.{eqb-false, le-leb, lt-leb, lt-ltb, le-ltb}
 use Rattle.laws.proofs.Lists.{tail}
 use Rattle.refusal.specs.declared.Refusal.{Refusal}
-use Rattle.refusal.specs.declared.Refusal.the-variants.{Form, Limit, Owner, TooLong, TooShort, NoBase, NoCandidate, MoreRows, NotAFrame}
+use Rattle.refusal.specs.declared.Refusal.the-variants.{Form, TooLong, TooShort, MoreRows}
+use Rattle.refusal.proofs.Numbers.{numbered}
 use Rattle.refusal.specs.Refusal.{numberOf}
 use Rattle.records.specs.declared.PayloadOffset.{PayloadOffset}
 use Rattle.text.specs.Text.{lines}
@@ -41,18 +42,6 @@ use Rattle.command.specs.declared.Params.the-variants.{Rows, Refused}
 use Rattle.command_rules.proofs.Rows.{table-rows}
 use Rattle.command_rules.proofs.Bounds.{walk-most, walk-inside}
 use Rattle.command_rules.proofs.Sums.{walk-adds}
-
--- a refusal's number is not 0
-pub numbered : (r : Refusal) → eqb (numberOf r) 0 ≡ false
-numbered (Form line) = refl
-numbered (Limit line) = refl
-numbered (Owner line) = refl
-numbered (TooLong length) = refl
-numbered (TooShort length) = refl
-numbered (NoBase key) = refl
-numbered NoCandidate = refl
-numbered (MoreRows rows) = refl
-numbered NotAFrame = refl
 
 -- ---- one pass
 pub body-rows : (w : Walked) (t t′ : List ℕ) (r : Taken) (p : PayloadOffset) → Gives w t 0 t′ r → length (w .rows) ≤ length t / rowWidth

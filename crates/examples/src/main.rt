@@ -43,7 +43,7 @@ fn print_count(name: &[u8], payload: &[u8]) {
 
 // The MPDU's length of the frame in a body.
 fn print_mpdu(name: &[u8], body: &[u8]) {
-    match parse_record(body) {
+    match parse_record(body, 2) {
         Parsed::Frame(frame) => print(name, frame.length as u64),
         Parsed::Refused(refusal) => print_refusal(name, refusal),
     }

@@ -1,7 +1,12 @@
 // The options of a word of the command, and the arguments that are none.
+use frame::region_bits;
 use libc::STDERR_FILENO;
 use output::outcome::fail;
+use output::refusals::refuse_capture;
 use readers::line_fields::find_field;
+use readers::numeral::Numeral;
+use readers::numeral::read_numeral;
+use refusal::Refusal;
 use std::num::wrapping_add_usize;
 
 // What the arguments behind the word say. An argument is told by its number.
@@ -11,15 +16,24 @@ pub struct Options {
     pub progress: bool,
     // The folder of the definitions, 0 where none is named.
     pub folder: usize,
+    // The firmware that wrote the capture.
+    pub firmware: usize,
     // How many arguments are no options, and the first two of them.
     pub count: usize,
     pub file: usize,
     pub second: usize,
-    // The next argument is the folder.
-    is_open: bool,
+    // The option that the next argument is for: 0, DEFINITIONS or FIRMWARE.
+    open: u8,
     // An option that there isn't, 0 where there is none.
     wrong: usize,
+    // Is the firmware said by something else than a number?
+    is_unnumbered: bool,
 }
+
+// The options that take the argument behind them.
+const DEFINITIONS: u8 = 1;
+
+const FIRMWARE: u8 = 2;
 
 pub enum Asked {
     Options(Options),
@@ -34,17 +48,32 @@ impl Options {
             picture: false,
             progress: false,
             folder: 0,
+            firmware: 2,
             count: 0,
             file: 0,
             second: 0,
-            is_open: false,
+            open: 0,
             wrong: 0,
+            is_unnumbered: false,
         }
     }
 
     fn with_folder(mut self, k: usize) -> Self {
         self.folder = k;
-        self.is_open = false;
+        self.open = 0;
+        self
+    }
+
+    fn with_firmware(mut self, bytes: &[u8]) -> Self {
+        self.open = 0;
+        match read_numeral(bytes) {
+            Numeral::Is(number) => {
+                self.firmware = number as usize;
+            }
+            Numeral::Not => {
+                self.is_unnumbered = true;
+            }
+        }
         self
     }
 
@@ -80,8 +109,8 @@ impl Options {
         self
     }
 
-    fn opened(mut self) -> Self {
-        self.is_open = true;
+    fn opened(mut self, option: u8) -> Self {
+        self.open = option;
         self
     }
 
@@ -101,21 +130,25 @@ fn is_option(bytes: &[u8]) -> bool {
 
 fn take_option(options: Options, k: usize, bytes: &[u8]) -> Options {
     match find_field(
-        b"--definitions\t--plain\t--colour\t--picture\t--progress",
+        b"--definitions\t--plain\t--colour\t--picture\t--progress\t--firmware",
         bytes,
     ) {
-        0 => options.opened(),
+        0 => options.opened(DEFINITIONS),
         1 => options.plain(),
         2 => options.with_colour(),
         3 => options.with_picture(),
         4 => options.with_progress(),
+        5 => options.opened(FIRMWARE),
         _ => options.with_wrong(k),
     }
 }
 
 fn take_bytes(options: Options, k: usize, bytes: &[u8]) -> Options {
-    if options.is_open {
-        return options.with_folder(k);
+    let open = options.open;
+    match open {
+        DEFINITIONS => return options.with_folder(k),
+        FIRMWARE => return options.with_firmware(bytes),
+        _ => {}
     }
     if is_option(bytes) {
         return take_option(options, k, bytes);
@@ -155,12 +188,24 @@ pub fn read(count: usize, usage: &[u8]) -> Asked {
         fail_option(options.wrong);
         return Asked::Failed;
     }
-    if options.is_open {
+    if options.open == DEFINITIONS {
         fail(b"tap: --definitions takes a folder\n");
+        return Asked::Failed;
+    }
+    if options.open == FIRMWARE {
+        fail(b"tap: --firmware takes 2 or 3\n");
+        return Asked::Failed;
+    }
+    if options.is_unnumbered {
+        fail(b"tap: --firmware takes 2 or 3\n");
         return Asked::Failed;
     }
     if options.count != count {
         fail(usage);
+        return Asked::Failed;
+    }
+    if region_bits(options.firmware) == 0 {
+        refuse_capture(Refusal::Firmware(options.firmware));
         return Asked::Failed;
     }
     Asked::Options(options)

@@ -2,7 +2,7 @@
 use mathlib.Core.Path.{_≡_, refl, sym, ap, _∙_}
 use mathlib.Core.Bool.{Bool, true, false, cond, not, and-false}
 use mathlib.Core.List.{List, [], _∷_}
-use Prim.Native.Nat.{ℕ, _+_, _-_, _%_, _^_, _≤_, _<_}
+use Prim.Native.Nat.{ℕ, zero, suc, _+_, _-_, _*_, _%_, _^_, _≤_, _<_}
 use mir.Syntax.{w8}
 use mir.Val.{toZ, ofZ, hbits}
 use mir.Facts.{toZ-ofZ}
@@ -24,10 +24,10 @@ use Rattle.frame.specs.declared.Split.{Split}
 use Rattle.frame.specs.declared.Split.the-variants.{Into, Nothing as NoSplit}
 use Rattle.laws.proofs.Bools.{and-left, and-right}
 use Rattle.laws.proofs.Lists.{tail}
-use Rattle.frame.specs.Frame.{headerOf, trailerOf, directionOf, successOf, fieldsOf, header, start, trailer, between, middle, fields, holds, isFrame}
-use Rattle.frame.specs.Frame.{mpduOf, beamsIn, framed, frameOf, numbersAt, Parses}
-use Rattle.frame.specs.Steps.{layoutOf, partsOf, splitOf, PartsIn}
-use Rattle.refusal.specs.declared.Refusal.the-variants.{TooLong, NotAFrame}
+use Rattle.frame.specs.Frame.{headerOf, trailerOf, directionOf, successOf, regionBits, fieldsOf, header, start, trailer, between, middle, fields, holds, isFrame}
+use Rattle.frame.specs.Frame.{mpduOf, beamsIn, frameOf, numbersAt, Parses}
+use Rattle.frame.specs.Steps.{layoutOf, partsOf, splitOf, Inside, framedBy}
+use Rattle.refusal.specs.declared.Refusal.the-variants.{TooLong, NotAFrame, Firmware}
 use Rattle.frame.specs.declared.PtiFrame.{PtiFrame}
 use Rattle.frame.specs.declared.Parsed.the-variants.{Frame, Refused}
 use Rattle.radio.specs.Speed.{rateOf}
@@ -52,13 +52,32 @@ module _ {A : Type 0} (x a : ℕ) (p : A) where
       pick-none h = rw (ne-eqb x a differs, ne-eqb x b h) refl
 
 -- ---- the trailer
-pub fields-rx : (d : Direction) (t : List ℕ) → d ≡ Rx
-    → record { tag = getD t 0 0; rssi = getD t 1 0; region = getD t 2 0 % 16; channel = getD t 3 0 % 16; protocol = getD t 4 0 % 16 } ≡ fieldsOf d t
-fields-rx d t e = rw e refl
+-- as many numbers as so many bits can say
+pub low-power : (w : ℕ) → w ≤ 5 → (0 < 2 ^ w) × (2 ^ w ≤ 32)
+low-power zero h = (omega arith, omega arith)
+low-power (suc zero) h = (omega arith, omega arith)
+low-power (suc (suc zero)) h = (omega arith, omega arith)
+low-power (suc (suc (suc zero))) h = (omega arith, omega arith)
+low-power (suc (suc (suc (suc zero)))) h = (omega arith, omega arith)
+low-power (suc (suc (suc (suc (suc zero))))) h = (omega arith, omega arith)
+low-power (suc (suc (suc (suc (suc (suc w)))))) h = absurd (omega arith)
 
-pub fields-tx : (d : Direction) (t : List ℕ) → d ≡ Tx
-    → record { tag = getD t 0 0; rssi = 0; region = getD t 1 0 % 16; channel = getD t 2 0 % 16; protocol = getD t 3 0 % 16 } ≡ fieldsOf d t
-fields-tx d t e = rw e refl
+shifted : (w : ℕ) → w ≤ 5 → (1 * 2 ^ w) % 256 ≡ 2 ^ w
+shifted w few = let p = low-power w few in omega arith
+
+pub some-numbers : (w : ℕ) → w ≤ 5 → 0 < (1 * 2 ^ w) % 256
+some-numbers w few = rw (shifted w few) (low-power w few .0)
+
+pub low-byte : (byte w : ℕ) → w ≤ 5 → byte % ((1 * 2 ^ w) % 256) ≡ byte % 2 ^ w
+low-byte byte w few = rw (shifted w few) refl
+
+pub fields-rx : (w : ℕ) (d : Direction) (t : List ℕ) (region : ℕ) → d ≡ Rx → region ≡ getD t 2 0 % 2 ^ w
+    → record { tag = getD t 0 0; rssi = getD t 1 0; region = region; channel = getD t 3 0 % 16; protocol = getD t 4 0 % 16 } ≡ fieldsOf w d t
+fields-rx w d t region e is-region = rw (e, is-region) refl
+
+pub fields-tx : (w : ℕ) (d : Direction) (t : List ℕ) (region : ℕ) → d ≡ Tx → region ≡ getD t 1 0 % 2 ^ w
+    → record { tag = getD t 0 0; rssi = 0; region = region; channel = getD t 2 0 % 16; protocol = getD t 3 0 % 16 } ≡ fieldsOf w d t
+fields-tx w d t region e is-region = rw (e, is-region) refl
 
 module _ (d : Direction) (first : ℕ) (t : Trailer) where
   pub other-protocol : (t .protocol ≡ 6 → ⊥) → false ≡ holds d (eqb first 0x55) t
@@ -117,8 +136,8 @@ roomy b h =
       ltb-true (header b + trailer b) (length b) (and-right (not (eqb (trailer b) 0)) _ both),
     )
 
-pub split-nothing : (b : List ℕ) (l : Layout) → l ≡ layoutOf b → l ≡ NoLayout → NoSplit ≡ splitOf b
-split-nothing b l is-l e = rw (laid-nowhere (between b) (record { 0 = header b }) (record { 0 = length b - trailer b }) (sym is-l ∙ e)) refl
+pub split-nothing : (w : ℕ) (b : List ℕ) (l : Layout) → l ≡ layoutOf b → l ≡ NoLayout → NoSplit ≡ splitOf w b
+split-nothing w b l is-l e = rw (laid-nowhere (between b) (record { 0 = header b }) (record { 0 = length b - trailer b }) (sym is-l ∙ e)) refl
 
 module _ (b : List ℕ) (l : Layout) (m e : BodyOffset) (is-l : l ≡ layoutOf b) (lies : l ≡ Between m e) where
   known : (between b ≡ true) × ((record { 0 = header b } ≡ m) × (record { 0 = length b - trailer b } ≡ e))
@@ -151,15 +170,15 @@ module _ (b : List ℕ) (l : Layout) (m e : BodyOffset) (is-l : l ≡ layoutOf b
   pub trailer-room : 5 ≤ length (take (length b - e .0) (drop (e .0) b))
   trailer-room = rw (tail b (e .0), length-drop) (omega (arith, is-e, room .0, room .1))
 
-  module _ (d : Direction) (t : Trailer) (w : Bool) (is-d : d ≡ directionOf (getD b (m .0 - 1) 0))
-      (is-t : t ≡ fieldsOf d (take (length b - e .0) (drop (e .0) b)))
-      (is-w : w ≡ holds d (eqb (getD b (m .0) 0) 0x55) t) where
+  module _ (w : ℕ) (d : Direction) (t : Trailer) (h : Bool) (is-d : d ≡ directionOf (getD b (m .0 - 1) 0))
+      (is-t : t ≡ fieldsOf w d (take (length b - e .0) (drop (e .0) b)))
+      (is-h : h ≡ holds d (eqb (getD b (m .0) 0) 0x55) t) where
     the-d : d ≡ directionOf (start b)
     the-d = rw (← is-m) at is-d
 
-    the-t : t ≡ fields b
+    the-t : t ≡ fields w b
     the-t =
-        let parts : t ≡ fieldsOf d (drop (length b - trailer b) b) = rw (tail b (e .0), ← is-e) at is-t in
+        let parts : t ≡ fieldsOf w d (drop (length b - trailer b) b) = rw (tail b (e .0), ← is-e) at is-t in
         rw the-d at parts
 
     first-byte : getD b (m .0) 0 ≡ getD (middle b) 0 0
@@ -168,15 +187,15 @@ module _ (b : List ℕ) (l : Layout) (m e : BodyOffset) (is-l : l ≡ layoutOf b
         sym (getD-take (length b - trailer b - header b) (drop (header b) b) 0 0 n ∙ getD-drop (header b) b 0 0
         ∙ ap (λ (k : ℕ). getD b k 0) (omega (arith, is-m)))
 
-    the-w : w ≡ isFrame b
-    the-w = rw (known .0) (is-w ∙ rw (first-byte, the-t, the-d) refl)
+    the-h : h ≡ isFrame w b
+    the-h = rw (known .0) (is-h ∙ rw (first-byte, the-t, the-d) refl)
 
-    pub split-not : w ≡ false → NoSplit ≡ splitOf b
-    split-not none = rw (← the-w, none) refl
+    pub split-not : h ≡ false → NoSplit ≡ splitOf w b
+    split-not none = rw (← the-h, none) refl
 
-    pub split-into : w ≡ true → Into (record { direction = d; middle = m; end = e; trailer = t }) ≡ splitOf b
+    pub split-into : h ≡ true → Into (record { direction = d; middle = m; end = e; trailer = t }) ≡ splitOf w b
     split-into whole =
-        rw (← the-w, whole) (λ k. Into (record { direction = the-d k; middle = sym (known .1 .0) k; end = sym (known .1 .1) k; trailer = the-t k }))
+        rw (← the-h, whole) (λ k. Into (record { direction = the-d k; middle = sym (known .1 .0) k; end = sym (known .1 .1) k; trailer = the-t k }))
 
 -- ---- the MPDU's length
 module _ (m : List ℕ) where
@@ -202,7 +221,7 @@ module _ (rate : ℕ) (m : List ℕ) where
   beams-none none = rw (ne-eqb (getD m 0 0) 0x55 none) refl
 
 -- ---- the frame
-module _ (b : List ℕ) (p : Parts) (inside : PartsIn b p) where
+module _ (b : List ℕ) (p : Parts) (inside : Inside b p) where
   abbrev mid : List ℕ
   mid = take (p .end .0 - p .middle .0) (drop (p .middle .0) b)
 
@@ -221,11 +240,10 @@ module _ (b : List ℕ) (p : Parts) (inside : PartsIn b p) where
             beams;
         start = p .middle;
         length = l;
-      } ≡ frameOf b
+      } ≡ framedBy b p
   frame-is rate l rssi beams is-rate is-rssi ok is-beams is-l =
       let read-back : toZ w8 (ofZ w8 rssi) ≡ toZ w8 (p .trailer .rssi) = toZ-ofZ {w = w8} {z = rssi} (record { sfits = ok }) ∙ is-rssi in
-      let whole : framed (p .direction) (p .trailer) (p .middle .0) mid ≡ frameOf b = rw (inside .parts) refl in
-      rw (is-beams, is-l, read-back, is-rate) whole
+      rw (is-beams, is-l, read-back, is-rate) refl
 
 -- ---- the answer
 split-parts : (t : Bool) (x p : Parts) → cond t (Into x) NoSplit ≡ Into p → (t ≡ true) × (p ≡ x)
@@ -236,46 +254,65 @@ split-without : (t : Bool) (x : Parts) → cond t (Into x) NoSplit ≡ NoSplit �
 split-without true x h = cc
 split-without false x h = refl
 
-module _ (b : List ℕ) (r : Split) (is-r : r ≡ splitOf b) where
-  pub split-none : r ≡ NoSplit → isFrame b ≡ false
-  split-none e = split-without (isFrame b) (partsOf b) (sym is-r ∙ e)
+module _ (w : ℕ) (b : List ℕ) (r : Split) (is-r : r ≡ splitOf w b) where
+  pub split-none : r ≡ NoSplit → isFrame w b ≡ false
+  split-none e = split-without (isFrame w b) (partsOf w b) (sym is-r ∙ e)
 
-  pub split-frame : (p : Parts) → r ≡ Into p → isFrame b ≡ true
-  split-frame p e = split-parts (isFrame b) (partsOf b) p (sym is-r ∙ e) .0
+  module _ (p : Parts) (e : r ≡ Into p) where
+    the-parts : (isFrame w b ≡ true) × (p ≡ partsOf w b)
+    the-parts = split-parts (isFrame w b) (partsOf w b) p (sym is-r ∙ e)
 
-pub parsed-long : (b : List ℕ) → 2048 < length b → Parses b (Refused (TooLong (length b)))
-parsed-long b long = let e = lt-leb (length b) 2048 long in record { answer = rw e refl; numbers = rw e refl }
+    pub split-frame : isFrame w b ≡ true
+    split-frame = the-parts .0
 
-module _ (b : List ℕ) (s : Split) (is-s : s ≡ splitOf b) where
-  pub parsed-not : s ≡ NoSplit → length b ≤ 2048 → Parses b (Refused NotAFrame)
-  parsed-not e short =
-      let within = le-leb (length b) 2048 short in
-      let none = split-none b s is-s e in
-      record { answer = rw (within, none) refl; numbers = rw (within, none) refl }
-
-  module _ (p : Parts) (e : s ≡ Into p) where
-    the-parts : (isFrame b ≡ true) × (p ≡ partsOf b)
-    the-parts = split-parts (isFrame b) (partsOf b) p (sym is-s ∙ e)
-
-    pub parts-in : PartsIn b p
+    pub parts-in : Inside b p
     parts-in =
         let is-p = the-parts .1 in
         let r = roomy b (and-left (between b) _ (the-parts .0)) in
         let m : p .middle .0 ≡ header b = ap (λ (x : Parts). x .middle .0) is-p in
         let n : p .end .0 ≡ length b - trailer b = ap (λ (x : Parts). x .end .0) is-p in
-        record { parts = is-p; some = omega (arith, r .1); inside = omega arith }
+        record { some = omega (arith, r .1); inside = omega arith }
 
-    pub parsed-frame : (f : PtiFrame) → length b ≤ 2048 → f ≡ frameOf b → Parses b (Frame f)
-    parsed-frame f short is-f =
-        let within = le-leb (length b) 2048 short in
-        let whole = the-parts .0 in
-        record { answer = rw (within, whole) (ap Frame is-f); numbers = rw (within, whole) (ap (λ (x : PtiFrame). (0, numbersAt (x .start .0) x)) is-f) }
+    pub split-framed : (f : PtiFrame) → f ≡ framedBy b p → f ≡ frameOf w b
+    split-framed f is-f = is-f ∙ ap (framedBy b) (the-parts .1)
+
+module _ (firmware w : ℕ) (b : List ℕ) (is-w : w ≡ regionBits firmware) where
+  pub parsed-unknown : w ≡ 0 → Parses firmware b (Refused (Firmware firmware))
+  parsed-unknown none = record { answer = rw (← is-w, eq-eqb w 0 none) refl; numbers = rw (← is-w, eq-eqb w 0 none) refl }
+
+  module _ (some : w ≡ 0 → ⊥) where
+    pub parsed-long : 2048 < length b → Parses firmware b (Refused (TooLong (length b)))
+    parsed-long long =
+        let over = lt-leb (length b) 2048 long in
+        let known = ne-eqb w 0 some in
+        record { answer = rw (← is-w, known, over) refl; numbers = rw (← is-w, known, over) refl }
+
+    module _ (s : Split) (is-s : s ≡ splitOf w b) (short : length b ≤ 2048) where
+      pub parsed-not : s ≡ NoSplit → Parses firmware b (Refused NotAFrame)
+      parsed-not e =
+          let within = le-leb (length b) 2048 short in
+          let none = split-none w b s is-s e in
+          let known = ne-eqb w 0 some in
+          record { answer = rw (← is-w, known, within, none) refl; numbers = rw (← is-w, known, within, none) refl }
+
+      pub parsed-frame : (p : Parts) (f : PtiFrame) → s ≡ Into p → f ≡ framedBy b p → Parses firmware b (Frame f)
+      parsed-frame p f e is-f =
+          let within = le-leb (length b) 2048 short in
+          let whole = split-frame w b s is-s p e in
+          let known = ne-eqb w 0 some in
+          let the-f = split-framed w b s is-s p e f is-f in
+          record {
+            answer = rw (← is-w, known, within, whole) (ap Frame the-f);
+            numbers = rw (← is-w, known, within, whole) (ap (λ (x : PtiFrame). (0, numbersAt (x .start .0) x)) the-f);
+          }
 
 pub ruleset laws = (
   pick-first,
   pick-rest,
   pick-second,
   pick-none,
+  some-numbers,
+  low-byte,
   fields-rx,
   fields-tx,
   other-protocol,
@@ -303,6 +340,7 @@ pub ruleset laws = (
   beams-none,
   middle-bytes,
   frame-is,
+  parsed-unknown,
   parsed-long,
   parsed-not,
   parts-in,

@@ -2,7 +2,8 @@
 use mathlib.Core.Path.{_≡_, refl, ap, _∙_}
 use mathlib.Core.Bool.{Bool, true, false, cond, not, _&&_}
 use mathlib.Core.List.{List, [], _∷_}
-use Prim.Native.Nat.{ℕ, zero, suc, _+_, _-_, _%_, _≤_, _<_}
+use Prim.Native.Nat.{ℕ, zero, suc, _+_, _-_, _%_, _^_, _≤_, _<_}
+use native.Mathlib.Nat.{mod-lt}
 use native.Mathlib.Omega.{arith}
 use mir.Syntax.{w8}
 use mir.Val.{toZ, ofZ}
@@ -24,7 +25,7 @@ use Rattle.frame.specs.declared.Beams.the-variants.{Count, NoBeam}
 use Rattle.frame.specs.declared.PtiFrame.{PtiFrame}
 use Rattle.frame.specs.Frame.{headerOf, header, trailer, start, directionOf, fieldsOf, fields, middle, between, isBeam, isFrame, mpduOf, beamsIn}
 use Rattle.frame.specs.Frame.{frameOf, directionNumber, beamsNumber}
-use Rattle.frame.proofs.Laws.{roomy}
+use Rattle.frame.proofs.Laws.{roomy, low-power}
 
 -- every element is a byte, as of a slice of u8
 abbrev pub Bytes : List ℕ → Type 0
@@ -41,13 +42,16 @@ bytes-take (suc n) (x ∷ xs) all (suc i) = bytes-take n xs (λ j. all (suc j)) 
 
 -- the numbers of a trailer
 pub record SmallTrailer (t : Trailer) : Type 0 where
-  pub region : t .region < 16
+  pub region : t .region < 32
   pub channel : t .channel < 16
   pub rssi : t .rssi < 256
 
-small-fields : (d : Direction) (t : List ℕ) → Bytes t → SmallTrailer (fieldsOf d t)
-small-fields Rx t all = record { region = omega arith; channel = omega arith; rssi = all 1 }
-small-fields Tx t all = record { region = omega arith; channel = omega arith; rssi = omega arith }
+small-region : (byte w : ℕ) → w ≤ 5 → byte % 2 ^ w < 32
+small-region byte w few = let p = low-power w few in omega (arith, mod-lt byte {m = 2 ^ w} (p .0))
+
+small-fields : (w : ℕ) (d : Direction) (t : List ℕ) → w ≤ 5 → Bytes t → SmallTrailer (fieldsOf w d t)
+small-fields w Rx t few all = record { region = small-region (getD t 2 0) w few; channel = omega arith; rssi = all 1 }
+small-fields w Tx t few all = record { region = small-region (getD t 1 0) w few; channel = omega arith; rssi = omega arith }
 
 -- the MPDU is a part of the middle bytes
 mpdu-low : (m : List ℕ) → mpduOf m ≤ length m
@@ -62,7 +66,7 @@ mpdu-low m = go (not (isBeam m)) (ltb 7 (length m)) (leb (getD m 7 0) (length m)
 -- the numbers of the frame in a body, which counts its beam as long as the body at most
 pub record Small (n : ℕ) (f : PtiFrame) : Type 0 where
   pub direction : directionNumber (f .direction) < 2
-  pub region : f .region < 16
+  pub region : f .region < 32
   pub channel : f .channel < 16
   pub rate : f .rate < 4
   pub rssi : ofZ w8 (f .rssi) < 256
@@ -83,20 +87,20 @@ header-low version = go (eqb version 2) (eqb version 3)
     go false true = omega arith
     go false false = omega arith
 
-pub small : (b : List ℕ) → Bytes b → isFrame b ≡ true → Small (length b) (frameOf b)
-small b all whole =
-    let t = small-fields (directionOf (start b)) (drop (length b - trailer b) b) (bytes-drop (length b - trailer b) b all) in
+pub small : (w : ℕ) (b : List ℕ) → w ≤ 5 → Bytes b → isFrame w b ≡ true → Small (length b) (frameOf w b)
+small w b narrow all whole =
+    let t = small-fields w (directionOf (start b)) (drop (length b - trailer b) b) narrow (bytes-drop (length b - trailer b) b all) in
     let room = roomy b (and-left (between b) _ whole) in
     let few : 1 + length (middle b) ≤ length b = rw (length-take, length-drop) (omega (arith, room .0, room .1)) in
-    let back : ofZ w8 (toZ w8 (fields b .rssi)) ≡ fields b .rssi = ofZ-toZ {w = w8} {n = fields b .rssi} (record { fits = t .rssi }) in
+    let back : ofZ w8 (toZ w8 (fields w b .rssi)) ≡ fields w b .rssi = ofZ-toZ {w = w8} {n = fields w b .rssi} (record { fits = t .rssi }) in
     record {
       direction = direction-low (directionOf (start b));
       region = t .region;
       channel = t .channel;
-      rate = omega (arith, rate-low (fields b .channel) (fields b .region));
+      rate = omega (arith, rate-low (fields w b .channel) (fields w b .region));
       rssi = rw back (t .rssi);
       sign = ap (toZ w8) back;
-      beams = counted (rateOf (fields b .channel) (fields b .region)) (middle b) (length b) few;
+      beams = counted (rateOf (fields w b .channel) (fields w b .region)) (middle b) (length b) few;
       start = header-low (getD b 0 0);
       length = omega (arith, mpdu-low (middle b));
     }

@@ -1,13 +1,14 @@
--- F7 to F12 and F16 (docs/RULES.md): the frame in a record's body. A body is the list of its bytes.
+-- F7 to F12, F16, FV1 and FV2 (docs/RULES.md): the frame in a record's body. A body is the list of its bytes. The rules are over w, how many bits of its
+-- byte say the region.
 use mathlib.Core.Path.{_≡_}
 use mathlib.Core.Bool.{Bool, cond, not, _&&_, _||_}
 use mathlib.Core.List.{List, [], _∷_}
-use Prim.Native.Nat.{ℕ, _+_, _-_, _%_}
+use Prim.Native.Nat.{ℕ, _+_, _-_, _/_, _%_, _^_}
 use lib.Dec.{eqb, leb, ltb}
 use lib.ListN.{length, getD, take, drop}
 use mir.Syntax.{w8}
 use mir.Val.{toZ, ofZ}
-use Rattle.refusal.specs.declared.Refusal.the-variants.{TooLong, NotAFrame}
+use Rattle.refusal.specs.declared.Refusal.the-variants.{TooLong, NotAFrame, Firmware}
 use Rattle.refusal.specs.Refusal.{numberOf, carriedBy}
 use Rattle.frame.specs.declared.Direction.{Direction}
 use Rattle.frame.specs.declared.Direction.the-variants.{Rx, Tx}
@@ -37,10 +38,20 @@ abbrev pub successOf : Direction → ℕ
 successOf Rx = 0xF9
 successOf Tx = 0xFD
 
--- F9: what the bytes of a trailer say
-abbrev pub fieldsOf : Direction → List ℕ → Trailer
-fieldsOf Rx t = record { tag = getD t 0 0; rssi = getD t 1 0; region = getD t 2 0 % 16; channel = getD t 3 0 % 16; protocol = getD t 4 0 % 16 }
-fieldsOf Tx t = record { tag = getD t 0 0; rssi = 0; region = getD t 1 0 % 16; channel = getD t 2 0 % 16; protocol = getD t 3 0 % 16 }
+-- FV1: how many bits say the region, by the firmware that wrote the record; 0 for a firmware that there isn't
+abbrev pub regionBits : ℕ → ℕ
+regionBits firmware = cond (eqb firmware 2) 4 (cond (eqb firmware 3) 5 0)
+
+-- F9: the byte of a trailer that says the region
+abbrev pub regionByte : Direction → List ℕ → ℕ
+regionByte Rx t = getD t 2 0
+regionByte Tx t = getD t 1 0
+
+-- F9, FV1: what the bytes of a trailer say
+abbrev pub fieldsOf : ℕ → Direction → List ℕ → Trailer
+fieldsOf w Rx t =
+    record { tag = getD t 0 0; rssi = getD t 1 0; region = regionByte Rx t % 2 ^ w; channel = getD t 3 0 % 16; protocol = getD t 4 0 % 16 }
+fieldsOf w Tx t = record { tag = getD t 0 0; rssi = 0; region = regionByte Tx t % 2 ^ w; channel = getD t 2 0 % 16; protocol = getD t 3 0 % 16 }
 
 -- ---- the parts of a body b
 abbrev pub header : List ℕ → ℕ
@@ -61,8 +72,12 @@ between b = not (eqb (header b) 0) && (not (eqb (trailer b) 0) && ltb (header b 
 abbrev pub middle : List ℕ → List ℕ
 middle b = take (length b - trailer b - header b) (drop (header b) b)
 
-abbrev pub fields : List ℕ → Trailer
-fields b = fieldsOf (directionOf (start b)) (drop (length b - trailer b) b)
+abbrev pub fields : ℕ → List ℕ → Trailer
+fields w b = fieldsOf w (directionOf (start b)) (drop (length b - trailer b) b)
+
+-- FV3: the fifth bit of the byte that says a body's region is 0
+abbrev pub FourBits : List ℕ → Type 0
+FourBits b = regionByte (directionOf (start b)) (drop (length b - trailer b) b) / 16 % 2 ≡ 0
 
 -- F10: are these the middle bytes of a beam
 abbrev pub isBeam : List ℕ → Bool
@@ -73,8 +88,8 @@ abbrev pub holds : Direction → Bool → Trailer → Bool
 holds d beam t = eqb (t .protocol) 6 && (beam || eqb (t .tag) (successOf d))
 
 -- F11: is a body a frame
-abbrev pub isFrame : List ℕ → Bool
-isFrame b = between b && holds (directionOf (start b)) (isBeam (middle b)) (fields b)
+abbrev pub isFrame : ℕ → List ℕ → Bool
+isFrame w b = between b && holds (directionOf (start b)) (isBeam (middle b)) (fields w b)
 
 -- F12: how many of the middle bytes are the MPDU
 abbrev pub mpduOf : List ℕ → ℕ
@@ -99,12 +114,16 @@ framed d t at m =
     }
 
 -- F16: the frame of a body
-abbrev pub frameOf : List ℕ → PtiFrame
-frameOf b = framed (directionOf (start b)) (fields b) (header b) (middle b)
+abbrev pub frameOf : ℕ → List ℕ → PtiFrame
+frameOf w b = framed (directionOf (start b)) (fields w b) (header b) (middle b)
 
--- F16, R11: what `parse_record` answers
-abbrev pub parsedOf : List ℕ → Parsed
-parsedOf b = cond (leb (length b) 2048) (cond (isFrame b) (Frame (frameOf b)) (Refused NotAFrame)) (Refused (TooLong (length b)))
+-- F16, R11: what `parse_record` answers by these rules
+abbrev pub parsedBy : ℕ → List ℕ → Parsed
+parsedBy w b = cond (leb (length b) 2048) (cond (isFrame w b) (Frame (frameOf w b)) (Refused NotAFrame)) (Refused (TooLong (length b)))
+
+-- FV2: the firmware is judged first
+abbrev pub parsedOf : ℕ → List ℕ → Parsed
+parsedOf firmware b = cond (eqb (regionBits firmware) 0) (Refused (Firmware firmware)) (parsedBy (regionBits firmware) b)
 
 -- F17: 0 is Rx, 1 is Tx
 abbrev pub directionNumber : Direction → ℕ
@@ -126,11 +145,15 @@ abbrev pub said : Parsed → ℕ × List ℕ
 said (Frame f) = (0, numbersAt (f .start .0) f)
 said (Refused x) = (numberOf x, carriedBy x ∷ [])
 
--- F16, R11: those numbers for a body
-abbrev pub saidOf : List ℕ → ℕ × List ℕ
-saidOf b = cond (leb (length b) 2048) (cond (isFrame b) (0, numbersAt (header b) (frameOf b)) (9, 0 ∷ [])) (4, length b ∷ [])
+-- F16, R11: those numbers for a body by these rules
+abbrev pub saidBy : ℕ → List ℕ → ℕ × List ℕ
+saidBy w b = cond (leb (length b) 2048) (cond (isFrame w b) (0, numbersAt (header b) (frameOf w b)) (9, 0 ∷ [])) (4, length b ∷ [])
+
+-- FV2: and by the firmware
+abbrev pub saidOf : ℕ → List ℕ → ℕ × List ℕ
+saidOf firmware b = cond (eqb (regionBits firmware) 0) (13, firmware ∷ []) (saidBy (regionBits firmware) b)
 
 -- F16: the answer of `parse_record`, as a case and in numbers
-pub record Parses (b : List ℕ) (r : Parsed) : Type 0 where
-  pub answer : r ≡ parsedOf b
-  pub numbers : said r ≡ saidOf b
+pub record Parses (firmware : ℕ) (b : List ℕ) (r : Parsed) : Type 0 where
+  pub answer : r ≡ parsedOf firmware b
+  pub numbers : said r ≡ saidOf firmware b

@@ -1,4 +1,4 @@
-// The frame in a record's body: F7 to F12 and F16 of docs/RULES.md.
+// The frame in a record's body: F7 to F12, F16, FV1 and FV2 of docs/RULES.md.
 use radio::beam::BEAM_MARKER;
 use radio::beam::beam_count;
 use radio::rssi::signed;
@@ -7,12 +7,12 @@ use radio::speed::rate_in;
 use records::BodyOffset;
 use refusal::Refusal;
 ghost use mathlib.Core.Path.{_≡_};
-ghost use Prim.Native.Nat.{_≤_, _<_};
+ghost use Prim.Native.Nat.{_≤_, _<_, _%_, _^_};
 ghost use lib.Dec.{eqb};
 ghost use lib.ListN.{length};
 ghost use Rattle.radio.specs.Speed.{RateTable};
-ghost use Rattle.frame.specs.Frame.{headerOf, trailerOf, directionOf, successOf, fieldsOf, holds, mpduOf, beamsIn, frameOf, Parses};
-ghost use Rattle.frame.specs.Steps.{layoutOf, splitOf, PartsIn};
+ghost use Rattle.frame.specs.Frame.{headerOf, trailerOf, directionOf, successOf, regionBits, fieldsOf, holds, mpduOf, beamsIn, Parses};
+ghost use Rattle.frame.specs.Steps.{layoutOf, splitOf, Inside, framedBy};
 
 // Hardware start tags, the header's last byte, and success tags, the trailer's first.
 const HW_RX_START: u8 = 0xF8;
@@ -137,23 +137,46 @@ fn success_tag(direction: Direction) -> u8
     }
 }
 
-// The fields of a trailer. A transmitted frame's lacks the RSSI.
-fn read_trailer(direction: Direction, trailer: &[u8]) -> Trailer
+// How many bits of its byte say the region, by the firmware that wrote the record; 0 for a firmware that there isn't.
+pub fn region_bits(firmware: usize) -> u8
+    ensures { λ r. ⌜ r ≡ regionBits firmware ⌝ }
+    ensures { λ r. ⌜ r ≤ 5 ⌝ }
+{
+    if firmware == 2 {
+        return 4;
+    }
+    if firmware == 3 {
+        return 5;
+    }
+    0
+}
+
+// The number that the low bits of a byte say.
+fn low_bits(byte: u8, width: u8) -> u8
+    requires { ⌜ width ≤ 5 ⌝ }
+    ensures { λ r. ⌜ r ≡ byte % 2 ^ width ⌝ }
+{
+    byte % (1 << width)
+}
+
+// The fields of a trailer whose region has so many bits. A transmitted frame's lacks the RSSI.
+fn read_trailer(direction: Direction, trailer: &[u8], width: u8) -> Trailer
     requires { ⌜ 5 ≤ length (now trailer) ⌝ }
-    ensures { λ r. ⌜ r ≡ fieldsOf direction (now (trailer .entry)) ⌝ }
+    requires { ⌜ width ≤ 5 ⌝ }
+    ensures { λ r. ⌜ r ≡ fieldsOf width direction (now (trailer .entry)) ⌝ }
 {
     match direction {
         Direction::Rx => Trailer {
             tag: trailer[0],
             rssi: trailer[1],
-            region: trailer[2] % 16,
+            region: low_bits(trailer[2], width),
             channel: trailer[3] % 16,
             protocol: trailer[4] % 16,
         },
         Direction::Tx => Trailer {
             tag: trailer[0],
             rssi: 0,
-            region: trailer[1] % 16,
+            region: low_bits(trailer[1], width),
             channel: trailer[2] % 16,
             protocol: trailer[3] % 16,
         },
@@ -197,9 +220,10 @@ fn lay_out(body: &[u8]) -> Layout
     Layout::Between(BodyOffset(header), BodyOffset(body.len() - trailer))
 }
 
-// The parts of a body, if it holds a frame.
-pub fn split_body(body: &[u8]) -> Split
-    ensures { λ r. ⌜ r ≡ splitOf (now (body .entry)) ⌝ }
+// The parts of a body, if it holds a frame whose region has so many bits.
+pub fn split_body(body: &[u8], width: u8) -> Split
+    requires { ⌜ width ≤ 5 ⌝ }
+    ensures { λ r. ⌜ r ≡ splitOf width (now (body .entry)) ⌝ }
 {
     let Layout::Between(middle, end) = lay_out(body) else {
         return Split::Nothing;
@@ -207,7 +231,7 @@ pub fn split_body(body: &[u8]) -> Split
     let header = middle.0;
     let tail = end.0;
     let direction = direction_of(body[header - 1]);
-    let trailer = read_trailer(direction, &body[tail..]);
+    let trailer = read_trailer(direction, &body[tail..], width);
     if is_whole(direction, body[header], trailer) {
         return Split::Into(Parts {
             direction,
@@ -249,8 +273,8 @@ fn beams_in(rate: u8, middle: &[u8]) -> Beams
 // The frame of a body, given its parts and the rates.
 pub fn frame_of(rates: &[u8; 512], body: &[u8], parts: Parts) -> PtiFrame
     requires { ⌜ RateTable (now rates) ⌝ }
-    requires { ⌜ PartsIn (now body) parts ⌝ }
-    ensures { λ r. ⌜ r ≡ frameOf (now (body .entry)) ⌝ }
+    requires { ⌜ Inside (now body) parts ⌝ }
+    ensures { λ r. ⌜ r ≡ framedBy (now (body .entry)) parts ⌝ }
 {
     let start = parts.middle;
     let at = start.0;
@@ -273,14 +297,18 @@ pub fn frame_of(rates: &[u8; 512], body: &[u8], parts: Parts) -> PtiFrame
     }
 }
 
-// The frame of a single record's body, or refusal 4 or 9.
-pub fn parse_record(body: &[u8]) -> Parsed
-    ensures { λ r. ⌜ Parses (now (body .entry)) r ⌝ }
+// The frame of a single record's body, which that firmware wrote, or refusal 13, 4 or 9.
+pub fn parse_record(body: &[u8], firmware: usize) -> Parsed
+    ensures { λ r. ⌜ Parses firmware (now (body .entry)) r ⌝ }
 {
+    let width = region_bits(firmware);
+    if width == 0 {
+        return Parsed::Refused(Refusal::Firmware(firmware));
+    }
     if 2048 < body.len() {
         return Parsed::Refused(Refusal::TooLong(body.len()));
     }
-    let Split::Into(parts) = split_body(body) else {
+    let Split::Into(parts) = split_body(body, width) else {
         return Parsed::Refused(Refusal::NotAFrame);
     };
     Parsed::Frame(frame_of(&RATES, body, parts))

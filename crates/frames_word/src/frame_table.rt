@@ -84,7 +84,7 @@ fn put_payload(
 ) -> Sheet
     requires { ⌜ verdict (now text) ≡ Accepted ⌝ }
 {
-    match parse_payload(payload, table) {
+    match parse_payload(payload, sheet.firmware, table) {
         Frames::Rows(n) => {
             if n == 0 {
                 return put_empty(out, sheet);

@@ -33,6 +33,8 @@ pub struct Sheet {
     pub beams: u64,
     pub payloads: u64,
     pub verdict: Verdict,
+    // The firmware that wrote the capture.
+    pub firmware: usize,
     // In colour?
     pub colour: bool,
     // Does standard error say how far it is?
@@ -40,13 +42,14 @@ pub struct Sheet {
 }
 
 impl Sheet {
-    pub fn new(colour: bool, progress: bool) -> Self {
+    pub fn new(firmware: usize, colour: bool, progress: bool) -> Self {
         Sheet {
             at: 0,
             frames: 0,
             beams: 0,
             payloads: 0,
             verdict: Verdict::Fine,
+            firmware,
             colour,
             progress,
         }
@@ -80,6 +83,7 @@ impl Sheet {
             beams: self.beams,
             payloads: self.payloads,
             verdict,
+            firmware: self.firmware,
             colour: self.colour,
             progress: self.progress,
         }

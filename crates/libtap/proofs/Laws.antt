@@ -50,8 +50,9 @@ pub tells-refusal : (f : Frames) (x : Refusal) (number carried : ℕ) → f ≡ 
     → record { refusal = number; value = carried } ≡ answered (saidFrames f)
 tells-refusal f x number carried e is-number is-carried = rw (e, is-number, is-carried) refl
 
-pub told-all : (s t : List ℕ) (f : Frames) (r : TapAnswer) (t′ : List ℕ) → Parses s t f t′ → r ≡ answered (saidFrames f) → Told s t r t′
-told-all s t f r t′ p is-r = record { answer = is-r ∙ ap answered (p .numbers); table = rw (p .answer) at (p .table) }
+pub told-all : (firmware : ℕ) (s t : List ℕ) (f : Frames) (r : TapAnswer) (t′ : List ℕ) → Parses firmware s t f t′ → r ≡ answered (saidFrames f)
+    → Told firmware s t r t′
+told-all firmware s t f r t′ p is-r = record { answer = is-r ∙ ap answered (p .numbers); table = rw (p .answer) at (p .table) }
 
 pub counts : (c : Counted) (n : ℕ) → c ≡ Records n → record { refusal = 0; value = n } ≡ answered (said c)
 counts c n e = rw e refl
@@ -90,8 +91,9 @@ pub frames-refusal : (p : Parsed) (x : Refusal) (number carried : ℕ) → p ≡
     ≡ toldFrame p
 frames-refusal p x number carried e is-number is-carried = rw (e, is-number, is-carried) refl
 
-pub frames-all : (b : List ℕ) (p : Parsed) (r : TapFrame) → ParsesRecord b p → r ≡ toldFrame p → r ≡ toldFrame (parsedOf b)
-frames-all b p r so is-r = is-r ∙ ap toldFrame (so .answer)
+pub frames-all : (firmware : ℕ) (b : List ℕ) (p : Parsed) (r : TapFrame) → ParsesRecord firmware b p → r ≡ toldFrame p
+    → r ≡ toldFrame (parsedOf firmware b)
+frames-all firmware b p r so is-r = is-r ∙ ap toldFrame (so .answer)
 
 -- ---- texts
 pub tells-accepted : (v : Verdict) → v ≡ Accepted → record { refusal = 0; value = 0 } ≡ judged v

@@ -60,6 +60,6 @@ abbrev pub judged : Verdict → TapAnswer
 judged v = record { refusal = text.numberOf v; value = text.lineOf v }
 
 -- what `tap_parse_payload` answers and leaves, for a payload s and a table t
-pub record Told (s t : List ℕ) (r : TapAnswer) (t′ : List ℕ) : Type 0 where
-  pub answer : r ≡ answered (saidOf s (length t))
-  pub table : t′ ≡ tableAfter s t (framesOf s (length t))
+pub record Told (firmware : ℕ) (s t : List ℕ) (r : TapAnswer) (t′ : List ℕ) : Type 0 where
+  pub answer : r ≡ answered (saidOf firmware s (length t))
+  pub table : t′ ≡ tableAfter firmware s t (framesOf firmware s (length t))

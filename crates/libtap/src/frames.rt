@@ -138,12 +138,12 @@ fn tell_frame(parsed: Parsed) -> TapFrame
     }
 }
 
-// The frame of a single record's body, or refusal 4 or 9.
+// The frame of a single record's body, which that firmware wrote, or refusal 13, 4 or 9.
 #[no_mangle]
-pub extern "C" fn tap_parse_record(body: &[u8]) -> TapFrame
-    ensures { λ r. ⌜ r ≡ toldFrame (parsedOf (now (body .entry))) ⌝ }
+pub extern "C" fn tap_parse_record(body: &[u8], firmware: usize) -> TapFrame
+    ensures { λ r. ⌜ r ≡ toldFrame (parsedOf firmware (now (body .entry))) ⌝ }
 {
-    let parsed = pti::parse_record(body);
+    let parsed = pti::parse_record(body, firmware);
     tell_frame(parsed)
 }
 
@@ -162,11 +162,12 @@ fn tell(frames: Frames) -> TapAnswer
     }
 }
 
-// Every frame of a payload into a table, the eight numbers of F17 (docs/RULES.md) a row. Answers the rows, or refusal 4 or 8.
+// Every frame of a payload, which that firmware wrote, into a table, the eight numbers of F17 (docs/RULES.md) a row. Answers the rows, or refusal 13,
+// 4 or 8.
 #[no_mangle]
-pub extern "C" fn tap_parse_payload(payload: &[u8], table: &mut [u64]) -> TapAnswer
-    ensures { λ r. ⌜ Told (now (payload .entry)) (now (table .entry)) r (now (table .exit)) ⌝ }
+pub extern "C" fn tap_parse_payload(payload: &[u8], firmware: usize, table: &mut [u64]) -> TapAnswer
+    ensures { λ r. ⌜ Told firmware (now (payload .entry)) (now (table .entry)) r (now (table .exit)) ⌝ }
 {
-    let frames = parse_payload(payload, table);
+    let frames = parse_payload(payload, firmware, table);
     tell(frames)
 }

@@ -1,8 +1,10 @@
 // The words that a refusal is shown by. All of them stand in one function, and a new case of `Refusal` doesn't compile before it has a line there.
+use crate::outcome::refuse;
 use readers::line_fields::field_of;
 use readers::lines::numbered_line;
 use refusal::Refusal;
 use writer::Buffer;
+use writer::flush;
 use writer::put;
 use writer::put_left;
 use writer::put_number;
@@ -19,6 +21,7 @@ fn put_words(out: &mut Buffer, at: usize, refusal: Refusal, k: usize, width: usi
   - no header holds (7)\theaders that hold: \t
   - too many fields (8)\tit has \t frames, more than there is room for
   - not a frame (9)\tframes in it: \t
+  - unknown firmware (13)\tthere is no capture firmware \t, only 2 and 3
 ";
     let line: u64 = match refusal {
         Refusal::Form(_) => 1,
@@ -30,6 +33,7 @@ fn put_words(out: &mut Buffer, at: usize, refusal: Refusal, k: usize, width: usi
         Refusal::NoCandidate => 7,
         Refusal::MoreRows(_) => 8,
         Refusal::NotAFrame => 9,
+        Refusal::Firmware(_) => 10,
     };
     put_left(out, at, field_of(numbered_line(words, line), k), width)
 }
@@ -37,6 +41,16 @@ fn put_words(out: &mut Buffer, at: usize, refusal: Refusal, k: usize, width: usi
 // Why an MPDU has no name, in words and with the refusal's number, at the left of a column.
 pub fn put_short(out: &mut Buffer, at: usize, refusal: Refusal, width: usize) -> usize {
     put_words(out, at, refusal, 0, width)
+}
+
+// Says by which number a capture is refused, and why, with the last line of the output.
+pub fn refuse_capture(refusal: Refusal) {
+    let mut out = io::buffer();
+    let mut at = put(&mut out, 0, b"the capture is refused by ");
+    at = put_reason(&mut out, at, refusal);
+    at = put(&mut out, at, b"\n");
+    flush(&out, at);
+    refuse(refusal);
 }
 
 // By which number a payload is refused, and why.

@@ -4,10 +4,16 @@ use mathlib.Core.Bool.{cond}
 use mathlib.Core.List.{List}
 use Prim.Native.Nat.{ℕ, _+_, _*_}
 use Rattle.rows.specs.Rows.{put}
+use Rattle.frame.specs.declared.PtiFrame.{PtiFrame}
 use Rattle.frame.specs.Frame.{isFrame, frameOf}
 use Rattle.pti.specs.Payload.{rowWidth, rowOf}
 
+-- the row of a frame whose body starts at this place of the payload, written as row n of the table t
+pub record WritesRow (f : PtiFrame) (body n : ℕ) (t : List ℕ) (r : ℕ) (t′ : List ℕ) : Type 0 where
+  pub next : r ≡ n + 1
+  pub table : t′ ≡ put t (n * rowWidth) (rowOf body f)
+
 -- the row of the frame in the body b, if it holds one, written as row n of the table t
-pub record Writes (b : List ℕ) (start n : ℕ) (t : List ℕ) (r : ℕ) (t′ : List ℕ) : Type 0 where
-  pub next : r ≡ n + cond (isFrame b) 1 0
-  pub table : t′ ≡ cond (isFrame b) (put t (n * rowWidth) (rowOf start (frameOf b))) t
+pub record Writes (w : ℕ) (b : List ℕ) (start n : ℕ) (t : List ℕ) (r : ℕ) (t′ : List ℕ) : Type 0 where
+  pub next : r ≡ n + cond (isFrame w b) 1 0
+  pub table : t′ ≡ cond (isFrame w b) (put t (n * rowWidth) (rowOf start (frameOf w b))) t

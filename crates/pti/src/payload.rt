@@ -4,6 +4,7 @@ use frame::Direction;
 use frame::PtiFrame;
 use frame::Split;
 use frame::frame_of;
+use frame::region_bits;
 use frame::split_body;
 use radio::rssi::byte_of;
 use radio::speed::RATES;
@@ -19,7 +20,7 @@ ghost use lib.ListN.{length};
 ghost use Rattle.radio.specs.Speed.{RateTable};
 ghost use Rattle.frame.specs.Frame.{isFrame, directionNumber, beamsNumber};
 ghost use Rattle.pti.specs.Payload.{rowWidth, rowOf, rowsOf, Parses};
-ghost use Rattle.pti.specs.Steps.{Writes};
+ghost use Rattle.pti.specs.Steps.{WritesRow, Writes};
 ghost use Rattle.rows.specs.Rows.{laid};
 
 // The columns of a frame's row: F17 of docs/RULES.md.
@@ -86,19 +87,21 @@ pub fn row_of(frame: PtiFrame, body: PayloadOffset) -> [u64; ROW_WIDTH]
     ]
 }
 
-// How many frames a body holds: one or none.
-fn frames_in(body: &[u8]) -> usize
-    ensures { λ r. ⌜ r ≡ cond (isFrame (now (body .entry))) 1 0 ⌝ }
+// How many frames a body holds whose regions have so many bits: one or none.
+fn frames_in(body: &[u8], width: u8) -> usize
+    requires { ⌜ width ≤ 5 ⌝ }
+    ensures { λ r. ⌜ r ≡ cond (isFrame width (now (body .entry))) 1 0 ⌝ }
     ensures { λ r. ⌜ r ≤ 1 ⌝ }
 {
-    let Split::Into(_) = split_body(body) else {
+    let Split::Into(_) = split_body(body, width) else {
         return 0;
     };
     1
 }
 
-fn count_frames(payload: &[u8]) -> usize
-    ensures { λ r. ⌜ r ≡ length (rowsOf (now (payload .entry))) ⌝ }
+fn count_frames(payload: &[u8], width: u8) -> usize
+    requires { ⌜ width ≤ 5 ⌝ }
+    ensures { λ r. ⌜ r ≡ length (rowsOf width (now (payload .entry))) ⌝ }
 {
     let mut count: usize = 0;
     let mut at: usize = 1;
@@ -108,36 +111,47 @@ fn count_frames(payload: &[u8]) -> usize
         };
         let start = span.start.0;
         let end = span.end.0;
-        count += frames_in(&payload[start..end]);
+        count += frames_in(&payload[start..end], width);
         at = end + 2;
     }
+}
+
+// Writes a frame's row as row n. Returns the number of the next row.
+fn write_row(frame: PtiFrame, body: PayloadOffset, table: &mut [u64], n: usize) -> usize
+    requires { ⌜ (body .0 + frame .start .0 < 2 ^ 64) × (n * rowWidth ≤ length (now table)) ⌝ }
+    ensures { λ r. ⌜ WritesRow frame (body .0) n (now (table .entry)) r (now (table .exit)) ⌝ }
+{
+    let row = row_of(frame, body);
+    put_row(table, n * ROW_WIDTH, &row);
+    n + 1
 }
 
 // Writes the row of a body's frame, if it holds one, as row n. Returns the number of the next row.
 fn write_frame(
     rates: &[u8; 512],
     body: &[u8],
+    width: u8,
     start: PayloadOffset,
     table: &mut [u64],
     n: usize,
 ) -> usize
     requires { ⌜ RateTable (now rates) ⌝ }
+    requires { ⌜ width ≤ 5 ⌝ }
     requires { ⌜ (start .0 < 2 ^ 63) × (n * rowWidth ≤ length (now table)) ⌝ }
-    ensures { λ r. ⌜ Writes (now (body .entry)) (start .0) n (now (table .entry)) r (now (table .exit)) ⌝ }
+    ensures { λ r. ⌜ Writes width (now (body .entry)) (start .0) n (now (table .entry)) r (now (table .exit)) ⌝ }
 {
-    let Split::Into(parts) = split_body(body) else {
+    let Split::Into(parts) = split_body(body, width) else {
         return n;
     };
-    let row = row_of(frame_of(rates, body, parts), start);
-    put_row(table, n * ROW_WIDTH, &row);
-    n + 1
+    write_row(frame_of(rates, body, parts), start, table, n)
 }
 
 // Writes the rows of all frames, one after the other.
-fn write_frames(rates: &[u8; 512], payload: &[u8], table: &mut [u64])
+fn write_frames(rates: &[u8; 512], payload: &[u8], width: u8, table: &mut [u64])
     requires { ⌜ RateTable (now rates) ⌝ }
-    requires { ⌜ length (rowsOf (now payload)) * rowWidth ≤ length (now table) ⌝ }
-    ensures { λ _. ⌜ now (table .exit) ≡ laid (now (table .entry)) (rowsOf (now (payload .entry))) ⌝ }
+    requires { ⌜ width ≤ 5 ⌝ }
+    requires { ⌜ length (rowsOf width (now payload)) * rowWidth ≤ length (now table) ⌝ }
+    ensures { λ _. ⌜ now (table .exit) ≡ laid (now (table .entry)) (rowsOf width (now (payload .entry))) ⌝ }
 {
     let mut n: usize = 0;
     let mut at: usize = 1;
@@ -147,32 +161,38 @@ fn write_frames(rates: &[u8; 512], payload: &[u8], table: &mut [u64])
         };
         let start = span.start.0;
         let end = span.end.0;
-        n = write_frame(rates, &payload[start..end], span.start, table, n);
+        n = write_frame(rates, &payload[start..end], width, span.start, table, n);
         at = end + 2;
     }
 }
 
 // The same, with the rates lent once for all frames.
-fn write_rows(payload: &[u8], table: &mut [u64])
-    requires { ⌜ length (rowsOf (now payload)) * rowWidth ≤ length (now table) ⌝ }
-    ensures { λ _. ⌜ now (table .exit) ≡ laid (now (table .entry)) (rowsOf (now (payload .entry))) ⌝ }
+fn write_rows(payload: &[u8], width: u8, table: &mut [u64])
+    requires { ⌜ width ≤ 5 ⌝ }
+    requires { ⌜ length (rowsOf width (now payload)) * rowWidth ≤ length (now table) ⌝ }
+    ensures { λ _. ⌜ now (table .exit) ≡ laid (now (table .entry)) (rowsOf width (now (payload .entry))) ⌝ }
 {
-    write_frames(&RATES, payload, table);
+    write_frames(&RATES, payload, width, table);
 }
 
-// Every frame of a payload into the table, or refusal 4 or 8. A refusal writes nothing, an answer nothing past its last row.
-pub fn parse_payload(payload: &[u8], table: &mut [u64]) -> Frames
-    ensures { λ r. ⌜ Parses (now (payload .entry)) (now (table .entry)) r (now (table .exit)) ⌝ }
+// Every frame of a payload, which that firmware wrote, into the table, or refusal 13, 4 or 8. A refusal writes nothing, an answer nothing past its
+// last row.
+pub fn parse_payload(payload: &[u8], firmware: usize, table: &mut [u64]) -> Frames
+    ensures { λ r. ⌜ Parses firmware (now (payload .entry)) (now (table .entry)) r (now (table .exit)) ⌝ }
 {
+    let width = region_bits(firmware);
+    if width == 0 {
+        return Frames::Refused(Refusal::Firmware(firmware));
+    }
     if 65535 < payload.len() {
         return Frames::Refused(Refusal::TooLong(payload.len()));
     }
-    let needed = count_frames(payload);
+    let needed = count_frames(payload, width);
     if needed == 0 {
         return Frames::Rows(0);
     }
     if needed <= table.len() / ROW_WIDTH {
-        write_rows(payload, table);
+        write_rows(payload, width, table);
         return Frames::Rows(needed);
     }
     Frames::Refused(Refusal::MoreRows(needed))

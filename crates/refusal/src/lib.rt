@@ -1,4 +1,4 @@
-// Why a call refuses: R1 to R9 of docs/RULES.md. One case a number, with what it carries.
+// Why a call refuses: R1 to R9 and FV2 of docs/RULES.md. One case a number, with what it carries.
 // Every public call of the tap answers with its numbers or with one of these.
 ghost use mathlib.Core.Path.{_≡_};
 ghost use Rattle.refusal.specs.Refusal.{numberOf, carriedBy};
@@ -22,6 +22,8 @@ pub enum Refusal {
     MoreRows(usize),
     // 9: a body that was handed over by itself is no frame.
     NotAFrame,
+    // 13: there is no such capture firmware. Carries its number.
+    Firmware(usize),
 }
 
 impl Refusal {
@@ -39,10 +41,11 @@ impl Refusal {
             Refusal::NoCandidate => 7,
             Refusal::MoreRows(_) => 8,
             Refusal::NotAFrame => 9,
+            Refusal::Firmware(_) => 13,
         }
     }
 
-    // What it carries: a line, a length, a key or a count of rows; 0 where it carries nothing.
+    // What it carries: a line, a length, a key, a count of rows or a firmware's number; 0 where it carries nothing.
     pub fn carried(self) -> usize
         ensures { λ r. ⌜ r ≡ carriedBy self ⌝ }
     {
@@ -56,6 +59,7 @@ impl Refusal {
             Refusal::NoCandidate => 0,
             Refusal::MoreRows(rows) => rows,
             Refusal::NotAFrame => 0,
+            Refusal::Firmware(number) => number,
         }
     }
 }

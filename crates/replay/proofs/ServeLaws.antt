@@ -1,16 +1,17 @@
 -- Laws of what lies in the lent buffers from request to request. Assumes nothing.
-use mathlib.Core.Path.{_≡_, refl}
-use mathlib.Core.Bool.{Bool, true, false, cond}
+use mathlib.Core.Path.{_≡_}
 use mathlib.Core.List.{List}
-use Prim.Native.Nat.{ℕ, _*_, _/_, _≤_}
+use Prim.Native.Nat.{ℕ, _+_, _-_, _*_, _^_, _≤_, _<_}
 use native.Mathlib.Omega.{arith}
-use lib.Dec.{leb}
-use lib.ListN.{length}
-use borrow.Author.Tests.{leb-true}
-use Rattle.pti.specs.declared.payload.Frames.{Frames}
-use Rattle.pti.specs.declared.payload.Frames.the-variants.{Rows, Refused}
-use Rattle.refusal.specs.declared.Refusal.the-variants.{TooLong, MoreRows}
-use Rattle.pti.specs.Payload.{rowsOf, Parses}
+use lib.ListN.{length, take, drop, length-drop}
+use mir.Syntax.{w64}
+use mir.Val.{Fits}
+use Rattle.laws.proofs.Lists.{tail}
+use Rattle.request.specs.declared.Leading.{Leading}
+use Rattle.request.specs.declared.Leading.the-variants.{Is as Leads}
+use Rattle.request.specs.Request.{leadingOf}
+use Rattle.request.proofs.Laws.{leading-inside}
+use Rattle.pti.proofs.Laws.{rows-room}
 use Rattle.screen.specs.declared.FrameRecord.{FrameRecord}
 use Rattle.screen.proofs.Laws.{fillable-bounds}
 use Rattle.replay.specs.declared.frame_table.FrameTable.{FrameTable}
@@ -25,7 +26,9 @@ use Rattle.replay.specs.declared.frames.Asked.the-variants.{Table}
 use Rattle.replay.specs.declared.serve.Turn.{Turn}
 use Rattle.replay.specs.declared.serve.Turn.the-variants.{Next}
 use Rattle.replay.specs.Input.{In, Empty, Finds, Fills}
-use Rattle.replay.specs.Frames.{Asks, Stand}
+use Rattle.replay.specs.declared.frames.By.{By}
+use Rattle.replay.specs.declared.frames.By.the-variants.{Firmware}
+use Rattle.replay.specs.Frames.{Asks, Named}
 use Rattle.replay.specs.Serve.{Goes}
 use Rattle.answer.specs.Table.{Ample}
 
@@ -71,19 +74,24 @@ module _ (held : List ℕ) (r : Asked) (numbers n : ℕ) (told : Asks held r) (i
   pub asked-rows : (rows : List ℕ) → Ample rows → numbers ≤ length rows
   asked-rows rows h = omega (arith, asked .0)
 
--- as many rows as are answered stand in the table
-pub rows-stand : (s t t′ : List ℕ) (r : Frames) → Parses s t r t′ → length t′ ≡ length t → Stand t′ r
-rows-stand s t t′ r p same = rw (p .answer) (go (leb (length s) 65535) (leb (length (rowsOf s)) (length t / 8)) (leb-true (length (rowsOf s)) (length t / 8)))
-  where
-    go : (a b : Bool) → (b ≡ true → length (rowsOf s) ≤ length t / 8)
-        → Stand t′ (cond a (cond b (Rows (length (rowsOf s))) (Refused (MoreRows (length (rowsOf s))))) (Refused (TooLong (length s))))
-    go true true room = omega (arith, room refl)
-    go true false room = tt
-    go false b room = tt
+-- ---- the firmware that a request names
+pub named-none : (words : List ℕ) → Named words (Firmware 2 0)
+named-none words = omega arith
 
-module _ (t : List ℕ) (r : Frames) (n : ℕ) where
-  pub rows-inside : Stand t r → r ≡ Rows n → n * 8 ≤ length t
-  rows-inside told is = rw is at told
+pub named-some : (words : List ℕ) (firmware at next : ℕ) (r : Leading) (v : ℕ) → at ≤ length words
+    → r ≡ leadingOf (take (length words - at) (drop at words)) → r ≡ Leads v next → Named words (Firmware firmware (at + next))
+named-some words firmware at next r v in-words is e =
+    let inside = leading-inside (take (length words - at) (drop at words)) r v next is e in
+    omega (arith, rw (tail words at, length-drop) at inside)
+
+pub named-fits : (words : List ℕ) (at next : ℕ) (r : Leading) (v : ℕ) → at ≤ length words → length words < 2 ^ 64
+    → r ≡ leadingOf (take (length words - at) (drop at words)) → r ≡ Leads v next → Fits w64 (at + next)
+named-fits words at next r v in-words short is e =
+    let inside = leading-inside (take (length words - at) (drop at words)) r v next is e in
+    omega (arith, short, rw (tail words at, length-drop) at inside)
+
+pub named-rest : (words : List ℕ) (r : By) (firmware at : ℕ) → Named words r → r ≡ Firmware firmware at → at ≤ length words
+named-rest words r firmware at told is = rw is at told
 
 -- as many records as are filled stand in the table of frame records
 pub filled-inside : (records : List FrameRecord) (rows₀ rows : List ℕ) (n lent : ℕ) (t : FrameTable) → FilledFirst records rows₀ n lent t
@@ -105,8 +113,11 @@ pub ruleset serve-laws = (
   long-waits,
   asked-payload,
   asked-rows,
-  rows-stand,
-  rows-inside,
+  named-none,
+  named-some,
+  named-fits,
+  named-rest,
+  rows-room,
   filled-inside,
   goes-in,
 )

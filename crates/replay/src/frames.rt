@@ -1,7 +1,6 @@
 // The requests on every frame of a payload, by the flat columns and by the slice of frame records.
 use crate::frame_table::frame_table;
 use answer::Answer;
-use answer::put_named;
 use answer::put_numbers;
 use answer::put_value;
 use answer::table::MOST_ROWS;
@@ -10,17 +9,19 @@ use answer::table::put_refused;
 use answer::table::put_touched;
 use pti::parse_payload;
 use pti::payload::Frames;
+use readers::line_fields::field_of;
 use request::Bytes;
 use request::Leading;
 use request::read_bytes;
 use request::read_leading;
+use std::num::wrapping_add_usize;
 use writer::Buffer;
 use writer::put;
 use writer::put_number;
 ghost use Prim.Native.Nat.{_≤_, _*_};
 ghost use lib.ListN.{length};
 ghost use Rattle.answer.specs.Table.{Ample};
-ghost use Rattle.replay.specs.Frames.{Asks, Stand};
+ghost use Rattle.replay.specs.Frames.{Asks, Named};
 
 // The numbers of a row.
 const WIDTH: usize = 8;
@@ -29,6 +30,31 @@ const WIDTH: usize = 8;
 enum Asked {
     Table(usize, usize),
     Not,
+}
+
+// The firmware that a request names, and where its other words start.
+pub enum By {
+    Firmware(usize, usize),
+    Not,
+}
+
+// `FIRMWARE READING`, if the word asks for them; else firmware 2. There is no reading but 0.
+pub fn read_by(words: &[u8], named: bool) -> By
+    ensures { λ r. ⌜ Named (now (words .entry)) r ⌝ }
+{
+    if !named {
+        return By::Firmware(2, 0);
+    }
+    let Leading::Is(firmware, at) = read_leading(words) else {
+        return By::Not;
+    };
+    let Leading::Is(reading, next) = read_leading(&words[at..]) else {
+        return By::Not;
+    };
+    if reading != 0 {
+        return By::Not;
+    }
+    By::Firmware(firmware as usize, at + next)
 }
 
 // `CAP PAYLOAD`
@@ -47,9 +73,10 @@ fn read_asked(words: &[u8], bytes: &mut [u8]) -> Asked
     Asked::Table(cap as usize * WIDTH, n)
 }
 
-// `frames CAP PAYLOAD`
+// `frames CAP PAYLOAD` and `framesby FIRMWARE READING CAP PAYLOAD`
 pub fn frames(
     words: &[u8],
+    named: bool,
     bytes: &mut [u8],
     rows: &mut [u64],
     out: &mut Buffer,
@@ -57,15 +84,26 @@ pub fn frames(
 ) -> Answer
     requires { ⌜ Ample (now rows) ⌝ }
 {
-    let Asked::Table(numbers, n) = read_asked(words, bytes) else {
+    let By::Firmware(firmware, at) = read_by(words, named) else {
         return Answer::Bad;
     };
-    Answer::Put(answer_frames(&bytes[..n], &mut rows[..numbers], out, used))
+    let Asked::Table(numbers, n) = read_asked(&words[at..], bytes) else {
+        return Answer::Bad;
+    };
+    Answer::Put(answer_frames(
+        &bytes[..n],
+        firmware,
+        named,
+        &mut rows[..numbers],
+        out,
+        used,
+    ))
 }
 
-// `frametable CAP PAYLOAD`
+// `frametable CAP PAYLOAD` and `frametableby FIRMWARE READING CAP PAYLOAD`
 pub fn frametable(
     words: &[u8],
+    named: bool,
     bytes: &mut [u8],
     rows: &mut [u64],
     out: &mut Buffer,
@@ -73,44 +111,77 @@ pub fn frametable(
 ) -> Answer
     requires { ⌜ Ample (now rows) ⌝ }
 {
-    let Asked::Table(numbers, n) = read_asked(words, bytes) else {
+    let By::Firmware(firmware, at) = read_by(words, named) else {
         return Answer::Bad;
     };
-    Answer::Put(answer_frametable(&bytes[..n], &mut rows[..numbers], out, used))
+    let Asked::Table(numbers, n) = read_asked(&words[at..], bytes) else {
+        return Answer::Bad;
+    };
+    Answer::Put(answer_frametable(
+        &bytes[..n],
+        firmware,
+        named,
+        &mut rows[..numbers],
+        out,
+        used,
+    ))
 }
 
-fn answer_frames(payload: &[u8], rows: &mut [u64], out: &mut Buffer, used: usize) -> usize {
+fn answer_frames(
+    payload: &[u8],
+    firmware: usize,
+    named: bool,
+    rows: &mut [u64],
+    out: &mut Buffer,
+    used: usize,
+) -> usize {
     fill(rows);
-    let parsed = parse_payload(payload, rows);
-    put_parsed(out, used, parsed, rows)
+    match parse_payload(payload, firmware, rows) {
+        Frames::Rows(n) => put_frames(out, used, 0, named, n, rows),
+        Frames::Refused(refusal) => put_refused(out, used, refusal, rows),
+    }
 }
 
-fn answer_frametable(payload: &[u8], rows: &mut [u64], out: &mut Buffer, used: usize) -> usize {
+fn answer_frametable(
+    payload: &[u8],
+    firmware: usize,
+    named: bool,
+    rows: &mut [u64],
+    out: &mut Buffer,
+    used: usize,
+) -> usize {
     fill(rows);
-    match parse_payload(payload, rows) {
+    match parse_payload(payload, firmware, rows) {
         Frames::Rows(n) => {
             let filled = frame_table(rows, n);
-            put_frames(out, used, b"frametable", filled, rows)
+            put_frames(out, used, 1, named, filled, rows)
         }
         Frames::Refused(refusal) => put_refused(out, used, refusal, rows),
     }
 }
 
-// The answer of `parse_payload` and the table that it was lent.
-fn put_parsed(out: &mut Buffer, used: usize, parsed: Frames, rows: &[u64]) -> usize
-    requires { ⌜ Stand (now rows) parsed ⌝ }
-{
-    match parsed {
-        Frames::Rows(n) => put_frames(out, used, b"frames", n, rows),
-        Frames::Refused(refusal) => put_refused(out, used, refusal, rows),
+// A word of an answer: piece k, and its ending where the request named a firmware.
+pub fn put_word(out: &mut Buffer, used: usize, k: usize, named: bool) -> usize {
+    let words: &[u8] = b"frames\tframetable\tframe\tframesby\tframetableby\trecordby";
+    if named {
+        return put(out, used, field_of(words, wrapping_add_usize(k, 3)));
     }
+    put(out, used, field_of(words, k))
 }
 
 // The rows of an answer, of which there are so many in a table, and whether the table is untouched past them.
-fn put_frames(out: &mut Buffer, used: usize, word: &[u8], count: usize, table: &[u64]) -> usize
+fn put_frames(
+    out: &mut Buffer,
+    used: usize,
+    word: usize,
+    named: bool,
+    count: usize,
+    table: &[u64],
+) -> usize
     requires { ⌜ count * 8 ≤ length (now table) ⌝ }
 {
-    let mut n = put_named(out, used, word, count as u64);
+    let mut n = put_word(out, used, word, named);
+    n = put_value(out, n, count as u64);
     n = put_rows(out, n, table, count);
     let past = count * WIDTH;
     put_touched(out, n, &table[past..])

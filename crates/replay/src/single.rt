@@ -1,5 +1,8 @@
 // The requests on rates and on single records.
+use crate::frames::By;
 use crate::frames::put_row;
+use crate::frames::put_word;
+use crate::frames::read_by;
 use answer::Answer;
 use answer::put_bytes;
 use answer::put_named;
@@ -57,19 +60,28 @@ pub fn body(words: &[u8], bytes: &mut [u8], out: &mut Buffer, used: usize) -> An
     Answer::Put(put_bytes(out, m, record_body(&bytes[..n], k as usize)))
 }
 
-// `record BODY`
-pub fn record(words: &[u8], bytes: &mut [u8], out: &mut Buffer, used: usize) -> Answer {
-    let Bytes::Are(n) = read_bytes(words, bytes) else {
+// `record BODY` and `recordby FIRMWARE READING BODY`
+pub fn record(
+    words: &[u8],
+    named: bool,
+    bytes: &mut [u8],
+    out: &mut Buffer,
+    used: usize,
+) -> Answer {
+    let By::Firmware(firmware, at) = read_by(words, named) else {
         return Answer::Bad;
     };
-    match parse_record(&bytes[..n]) {
-        Parsed::Frame(frame) => Answer::Put(put_frame(out, used, frame)),
+    let Bytes::Are(n) = read_bytes(&words[at..], bytes) else {
+        return Answer::Bad;
+    };
+    match parse_record(&bytes[..n], firmware) {
+        Parsed::Frame(frame) => Answer::Put(put_frame(out, used, named, frame)),
         Parsed::Refused(refusal) => Answer::Put(put_refusal(out, used, refusal)),
     }
 }
 
 // Its start is that in the body.
-fn put_frame(out: &mut Buffer, used: usize, frame: PtiFrame) -> usize {
-    let n = put(out, used, b"frame");
+fn put_frame(out: &mut Buffer, used: usize, named: bool, frame: PtiFrame) -> usize {
+    let n = put_word(out, used, 2, named);
     put_row(out, n, &row_of(frame, PayloadOffset(0)))
 }

@@ -13,6 +13,9 @@ pub enum Word {
     Record,
     Frames,
     Frametable,
+    Recordby,
+    Framesby,
+    Frametableby,
     Frametext,
     Commandtext,
     Header,
@@ -62,7 +65,7 @@ pub fn find(s: &[u8], b: u8) -> usize
 
 pub fn word_of(word: &[u8]) -> Word {
     let words: &[u8] =
-        b"rate\tcount\tbody\trecord\tframes\tframetable\tframetext\tcommandtext\theader\tcommand\tbits\tchecksum";
+        b"rate\tcount\tbody\trecord\tframes\tframetable\tframetext\tcommandtext\theader\tcommand\tbits\tchecksum\trecordby\tframesby\tframetableby";
     match find_field(words, word) {
         0 => Word::Rate,
         1 => Word::Count,
@@ -76,6 +79,9 @@ pub fn word_of(word: &[u8]) -> Word {
         9 => Word::Command,
         10 => Word::Bits,
         11 => Word::Checksum,
+        12 => Word::Recordby,
+        13 => Word::Framesby,
+        14 => Word::Frametableby,
         _ => Word::Unknown,
     }
 }

@@ -12,10 +12,10 @@ use borrow.Author.Tests.{le-leb, leb-true}
 use Rattle.rows.specs.Rows.{flat}
 use Rattle.records.specs.Records.{bodies, bytesOf}
 use Rattle.frame.specs.declared.PtiFrame.{PtiFrame}
-use Rattle.frame.specs.Frame.{isFrame, frameOf, directionNumber, beamsNumber}
+use Rattle.frame.specs.Frame.{regionBits, isFrame, frameOf, directionNumber, beamsNumber}
 use Rattle.frame.proofs.Ranges.{Bytes, bytes-take, bytes-drop, Small, small}
 use Rattle.refusal.specs.declared.Refusal.{Refusal}
-use Rattle.refusal.specs.declared.Refusal.the-variants.{TooLong, MoreRows}
+use Rattle.refusal.specs.declared.Refusal.the-variants.{TooLong, MoreRows, Firmware}
 use Rattle.pti.specs.declared.payload.Frames.the-variants.{Rows, Refused}
 use Rattle.pti.specs.Payload.{rowWidth, rowOf, rowsIn, rowsOf, Parses}
 use Rattle.pti.proofs.Laws.{wide}
@@ -46,7 +46,7 @@ shown-row body n f more low few =
       length = f .length;
     }
 
-module _ (s : List ℕ) (all : Bytes s) (short : length s ≤ 65535) where
+module _ (w : ℕ) (s : List ℕ) (narrow : w ≤ 5) (all : Bytes s) (short : length s ≤ 65535) where
   part-bytes : (b : ℕ × ℕ) → Bytes (bytesOf s b)
   part-bytes b = bytes-take (b .1) (drop (b .0) s) (bytes-drop (b .0) s all)
 
@@ -54,40 +54,52 @@ module _ (s : List ℕ) (all : Bytes s) (short : length s ≤ 65535) where
   part-short b = rw (length-take, length-drop) (omega arith)
 
   -- the rows of some bodies, whatever stands behind them
-  shown-rows : (bs : List (ℕ × ℕ)) (more : List ℕ) → recordsOf (length (rowsIn s bs)) (flat (rowsIn s bs) ++ more) ≡ shownIn s bs
+  shown-rows : (bs : List (ℕ × ℕ)) (more : List ℕ) → recordsOf (length (rowsIn w s bs)) (flat (rowsIn w s bs) ++ more) ≡ shownIn w s bs
   unfolding rowsIn
   shown-rows [] more = refl
-  shown-rows (b ∷ bs) more = go (isFrame (bytesOf s b)) refl (shown-rows bs more)
+  shown-rows (b ∷ bs) more = go (isFrame w (bytesOf s b)) refl (shown-rows bs more)
     where
       row : List ℕ
-      row = rowOf (b .0) (frameOf (bytesOf s b))
+      row = rowOf (b .0) (frameOf w (bytesOf s b))
 
-      go : (t : Bool) → isFrame (bytesOf s b) ≡ t → recordsOf (length (rowsIn s bs)) (flat (rowsIn s bs) ++ more) ≡ shownIn s bs
-          → recordsOf (length (cond t (row ∷ rowsIn s bs) (rowsIn s bs))) (flat (cond t (row ∷ rowsIn s bs) (rowsIn s bs)) ++ more)
-          ≡ cond t (shownOf (b .0) (frameOf (bytesOf s b)) ∷ shownIn s bs) (shownIn s bs)
+      go : (t : Bool) → isFrame w (bytesOf s b) ≡ t → recordsOf (length (rowsIn w s bs)) (flat (rowsIn w s bs) ++ more) ≡ shownIn w s bs
+          → recordsOf (length (cond t (row ∷ rowsIn w s bs) (rowsIn w s bs))) (flat (cond t (row ∷ rowsIn w s bs) (rowsIn w s bs)) ++ more)
+          ≡ cond t (shownOf (b .0) (frameOf w (bytesOf s b)) ∷ shownIn w s bs) (shownIn w s bs)
       go false e ih = ih
       go true e ih =
-          let first = shown-row (b .0) (length (bytesOf s b)) (frameOf (bytesOf s b)) (flat (rowsIn s bs) ++ more)
-          (small (bytesOf s b) (part-bytes b) e) (part-short b) in
+          let first = shown-row (b .0) (length (bytesOf s b)) (frameOf w (bytesOf s b)) (flat (rowsIn w s bs) ++ more)
+          (small w (bytesOf s b) narrow (part-bytes b) e) (part-short b) in
           λ k. first k ∷ ih k
 
-answered : (a b : Bool) (k n : ℕ) (x y : Refusal) → Rows n ≡ cond a (cond b (Rows k) (Refused x)) (Refused y) → (n ≡ k) × (a ≡ true)
-answered true true k n x y e = (cc, refl)
-answered true false k n x y e = (cc, refl)
-answered false b k n x y e = (cc, cc)
+answered : (u a b : Bool) (k n : ℕ) (x y z : Refusal) → Rows n ≡ cond u (Refused z) (cond a (cond b (Rows k) (Refused x)) (Refused y))
+    → (n ≡ k) × (a ≡ true)
+answered true a b k n x y z e = (cc, cc)
+answered false true true k n x y z e = (cc, refl)
+answered false true false k n x y z e = (cc, refl)
+answered false false b k n x y z e = (cc, cc)
+
+narrow-bits : (firmware : ℕ) → regionBits firmware ≤ 5
+narrow-bits firmware = go (eqb firmware 2) (eqb firmware 3)
+  where
+    go : (a b : Bool) → cond a 4 (cond b 5 0) ≤ 5
+    go true b = omega arith
+    go false true = omega arith
+    go false false = omega arith
 
 -- `parse_payload` and `fill_frames`, one after the other: the records are the payload's frames, and behind them what stood there
-pub shown : (s t t′ : List ℕ) (n m : ℕ) (entry exit : List FrameRecord) → Bytes s → Parses s t (Rows n) t′ → Filled t′ n entry m exit
-    → n ≤ length entry → (m ≡ n) × (exit ≡ shownIn s (bodies s) ++ drop n entry)
-shown s t t′ n m entry exit all parses fills room =
+pub shown : (firmware : ℕ) (s t t′ : List ℕ) (n m : ℕ) (entry exit : List FrameRecord) → Bytes s → Parses firmware s t (Rows n) t′
+    → Filled t′ n entry m exit → n ≤ length entry → (m ≡ n) × (exit ≡ shownIn (regionBits firmware) s (bodies s) ++ drop n entry)
+shown firmware s t t′ n m entry exit all parses fills room =
+    let w = regionBits firmware in
+    let rows = rowsOf w s in
     let known =
-    answered (leb (length s) 65535) (leb (length (rowsOf s)) (length t / rowWidth)) (length (rowsOf s)) n (MoreRows (length (rowsOf s)))
-    (TooLong (length s)) (parses .answer) in
-    let rows = rowsOf s in
+    answered (eqb w 0) (leb (length s) 65535) (leb (length rows) (length t / rowWidth)) (length rows) n (MoreRows (length rows)) (TooLong (length s))
+    (Firmware firmware) (parses .answer) in
     let is-n : n ≡ length rows = known .0 in
     let size : length t′ ≡ length (flat rows) + length (drop (length (flat rows)) t) = ap length (parses .table) ∙ length-append (flat rows) _ in
-    let fits : n ≤ length t′ / rowWidth = omega (arith, wide s (bodies s)) in
+    let fits : n ≤ length t′ / rowWidth = omega (arith, wide w s (bodies s)) in
     let is-m : m ≡ n = fills .count ∙ sym (fillable-all n (length entry) (length t′) room fits) in
-    let front : recordsOf n t′ ≡ shownIn s (bodies s) =
-    rw (is-n, parses .table) (shown-rows s all (leb-true (length s) 65535 (known .1)) (bodies s) (drop (length (flat rows)) t)) in
+    let front : recordsOf n t′ ≡ shownIn w s (bodies s) =
+    rw (is-n, parses .table)
+    (shown-rows w s (narrow-bits firmware) all (leb-true (length s) 65535 (known .1)) (bodies s) (drop (length (flat rows)) t)) in
     (is-m, fills .table ∙ rw (is-m, front) refl)

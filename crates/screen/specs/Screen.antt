@@ -62,7 +62,7 @@ shownOf body f =
       length = f .length;
     }
 
--- F19: the frame records of the bodies that hold a frame, in their order
-abbrev pub shownIn : List ℕ → List (ℕ × ℕ) → List FrameRecord
-shownIn s [] = []
-shownIn s (b ∷ bs) = cond (isFrame (bytesOf s b)) (shownOf (b .0) (frameOf (bytesOf s b)) ∷ shownIn s bs) (shownIn s bs)
+-- F19: the frame records of the bodies that hold a frame, in their order; w bits of its byte say the region
+abbrev pub shownIn : ℕ → List ℕ → List (ℕ × ℕ) → List FrameRecord
+shownIn w s [] = []
+shownIn w s (b ∷ bs) = cond (isFrame w (bytesOf s b)) (shownOf (b .0) (frameOf w (bytesOf s b)) ∷ shownIn w s bs) (shownIn w s bs)

@@ -62,10 +62,16 @@ fn hear(payload: &[u8], table: &[u64], i: usize, mpdu: &mut [u8; 4096]) -> Heard
 }
 
 // The frame after so many of a payload's.
-fn search_payload(payload: &[u8], table: &mut Table, left: u64, mpdu: &mut [u8; 4096]) -> Search
+fn search_payload(
+    payload: &[u8],
+    firmware: usize,
+    table: &mut Table,
+    left: u64,
+    mpdu: &mut [u8; 4096],
+) -> Search
     ensures { λ r. ⌜ Holds (now (mpdu .exit)) r ⌝ }
 {
-    let Frames::Rows(n) = parse_payload(payload, table) else {
+    let Frames::Rows(n) = parse_payload(payload, firmware, table) else {
         return Search::Left(left);
     };
     if left < n as u64 {
@@ -78,6 +84,7 @@ fn search_payload(payload: &[u8], table: &mut Table, left: u64, mpdu: &mut [u8; 
 fn search_item(
     item: Item,
     payload: &[u8],
+    firmware: usize,
     table: &mut Table,
     left: u64,
     mpdu: &mut [u8; 4096],
@@ -89,7 +96,7 @@ fn search_item(
             if payload.len() < count {
                 return Search::Left(left);
             }
-            search_payload(&payload[..count], table, left, mpdu)
+            search_payload(&payload[..count], firmware, table, left, mpdu)
         }
         Item::Nothing => Search::Left(left),
         Item::NotHex(_, _) => Search::Left(left),
@@ -98,9 +105,10 @@ fn search_item(
     }
 }
 
-// The frame after so many of a source's.
+// The frame after so many of a source's, which that firmware wrote.
 pub fn find_frame(
     start: Source,
+    firmware: usize,
     before: u64,
     block: &mut [u8; 4096],
     payload: &mut [u8; 65536],
@@ -116,7 +124,7 @@ pub fn find_frame(
         let next = next_item(source, block, payload);
         source = next.source;
         let item = next.item;
-        let found = search_item(item, payload, table, left, mpdu);
+        let found = search_item(item, payload, firmware, table, left, mpdu);
         let Search::Left(more) = found else {
             return found;
         };

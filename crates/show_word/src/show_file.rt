@@ -39,7 +39,7 @@ ghost use Rattle.show_word.specs.Search.{Holds};
 const PARAMS: usize = 9216;
 
 // The frame after so many of the capture behind a descriptor.
-fn search(fd: i32, before: u64, mpdu: &mut [u8; 4096]) -> Search
+fn search(fd: i32, firmware: usize, before: u64, mpdu: &mut [u8; 4096]) -> Search
     ensures { λ r. ⌜ Holds (now (mpdu .exit)) r ⌝ }
 {
     let mut block = io::buffer();
@@ -48,7 +48,15 @@ fn search(fd: i32, before: u64, mpdu: &mut [u8; 4096]) -> Search
     };
     let mut payload = io::large_buffer();
     let mut table: Table = [0u64; 24000];
-    find_frame(source, before, &mut block, &mut payload, &mut table, mpdu)
+    find_frame(
+        source,
+        firmware,
+        before,
+        &mut block,
+        &mut payload,
+        &mut table,
+        mpdu,
+    )
 }
 
 // A capture with fewer frames.
@@ -170,7 +178,7 @@ fn show_heard(number: u64, heard: Heard, mpdu: &[u8], options: Options) {
 fn show_file(name: &[u8], fd: i32, number: u64, options: Options) {
     let before = wrapping_sub_u64(number, 1);
     let mut mpdu = io::buffer();
-    match search(fd, before, &mut mpdu) {
+    match search(fd, options.firmware, before, &mut mpdu) {
         Search::Found(heard) => {
             let n = heard.count;
             show_heard(number, heard, &mpdu[..n], options);

@@ -39,6 +39,8 @@ multicast is for are a mask, which tap show gives whole.
                           --colour for a terminal
   --picture               for tap show: a table has no picture
   --progress              every 1000 frames a count on standard error
+  --firmware N            which capture firmware wrote it: 2, as without this option, or 3, which
+                          says regions in five bits
 
 Where the frame text is missing or refused, no frame has a name. The last line of the output is
 failed then, or 'refused N V' with that refusal.

@@ -30,6 +30,9 @@ pub const KINDS: &[Kind] = &[
     Kind { name: "record", weight: 30, draw: pti::record },
     Kind { name: "frames", weight: 20, draw: pti::frames },
     Kind { name: "frametable", weight: 10, draw: pti::frametable },
+    Kind { name: "recordby", weight: 30, draw: pti::recordby },
+    Kind { name: "framesby", weight: 20, draw: pti::framesby },
+    Kind { name: "frametableby", weight: 10, draw: pti::frametableby },
     Kind { name: "frametext", weight: 30, draw: texts::frametext },
     Kind { name: "commandtext", weight: 30, draw: texts::commandtext },
     Kind { name: "header", weight: 30, draw: header::header },
@@ -41,7 +44,7 @@ pub const KINDS: &[Kind] = &[
 
 /// What `today` stands for: what the replay program answers so far.
 pub const TODAY: &str =
-    "rate,count,body,record,frames,frametable,frametext,commandtext,header,command,bits,checksum,bad";
+    "rate,count,body,record,frames,frametable,recordby,framesby,frametableby,frametext,commandtext,header,command,bits,checksum,bad";
 
 /// Draws requests of some kinds under a seed.
 #[derive(Clone)]

@@ -7,7 +7,7 @@ use zniff_core::types::{Frame, Region};
 use crate::limits;
 use crate::random::Random;
 use crate::request::Request;
-use crate::shape::{Body, LONGEST_BODY, PAIRS_BY_RATE, enclose};
+use crate::shape::{Body, LONGEST_BODY, PAIRS_BY_RATE, PAIRS_OF_FIVE_BITS, enclose};
 
 pub fn rate(random: &mut Random) -> Vec<u8> {
     let mut argument = |listed: usize| match random.below(12) {
@@ -42,11 +42,31 @@ pub fn body(random: &mut Random) -> Vec<u8> {
 }
 
 pub fn record(random: &mut Random) -> Vec<u8> {
-    let body = match random.below(1_000) {
+    Request::Record { body: some_body(random) }.line()
+}
+
+pub fn recordby(random: &mut Random) -> Vec<u8> {
+    Request::Recordby { firmware: firmware(random), body: some_body(random) }.line()
+}
+
+fn some_body(random: &mut Random) -> Vec<u8> {
+    match random.below(1_000) {
         0..=4 => long_body(random),
         _ => short_body(random, 400),
-    };
-    Request::Record { body }.line()
+    }
+}
+
+/// A firmware's number: mostly 3, often 2, sometimes one that there isn't.
+fn firmware(random: &mut Random) -> u64 {
+    match random.below(20) {
+        0..=11 => 3,
+        12..=18 => 2,
+        _ => match random.below(4) {
+            0 => wrapping(random, 4),
+            1 => u64::MAX >> random.below(64),
+            _ => random.below(6) as u64,
+        },
+    }
 }
 
 pub fn frames(random: &mut Random) -> Vec<u8> {
@@ -57,6 +77,18 @@ pub fn frames(random: &mut Random) -> Vec<u8> {
 pub fn frametable(random: &mut Random) -> Vec<u8> {
     let payload = payload(random);
     Request::Frametable { cap: cap(random, &payload), payload }.line()
+}
+
+pub fn framesby(random: &mut Random) -> Vec<u8> {
+    let payload = payload(random);
+    let cap = cap(random, &payload);
+    Request::Framesby { firmware: firmware(random), cap, payload }.line()
+}
+
+pub fn frametableby(random: &mut Random) -> Vec<u8> {
+    let payload = payload(random);
+    let cap = cap(random, &payload);
+    Request::Frametableby { firmware: firmware(random), cap, payload }.line()
 }
 
 /// A table one row short, exact, ample, empty, or the largest.
@@ -269,8 +301,11 @@ fn frame(random: &mut Random, longest: usize) -> Body {
     body
 }
 
-/// A channel and a region, each rate as often as the others.
+/// A channel and a region, each rate as often as the others; some regions take five bits.
 fn pair(random: &mut Random) -> (u8, u8) {
+    if random.one_in(6) {
+        return random.pick(PAIRS_OF_FIVE_BITS);
+    }
     if random.one_in(5) {
         return (random.byte() & 15, random.byte() & 15);
     }

@@ -1,23 +1,31 @@
-//! Document 01, 'Lawful reading of a header' and 'Parameters of a command', by themselves: each
-//! rule (H and C of docs/RULES.md) a function, in exact numbers. Whoever works on it should not
+//! Document 01, 'Records and frames', 'Lawful reading of a header' and 'Parameters of a command', by
+//! themselves: each rule (F, H and C of docs/RULES.md) a function, in exact numbers. Whoever works on it should not
 //! follow the Rust, which `oracle/test` compares it with. It answers where the Rust cannot, and
 //! tells the generator where a field would lie.
 
 pub mod command;
 pub mod header;
+pub mod pti;
 
+use crate::answer::push_row;
 use crate::definition;
 use crate::refusal::Refusal;
 use crate::request::Request;
 use crate::rows::within_table;
 
-/// The answer to a `header` or `command` request; `None` to another.
+/// The answer to a request on frames, to `header` or `command`; `None` to another.
 pub fn answer(request: &Request) -> Option<String> {
     let answer = match request {
         Request::Header { cap, region, speed, text, mpdu } => {
             header_answer(*cap, *region, *speed, text, mpdu)
         }
         Request::Command { cap, text, payload } => command_answer(*cap, text, payload),
+        Request::Recordby { firmware, body } => record_answer("recordby", *firmware, body),
+        Request::Record { body } => record_answer("frame", 2, body),
+        Request::Framesby { firmware, cap, payload } => {
+            frames_answer("framesby", *firmware, *cap, payload)
+        }
+        Request::Frames { cap, payload } => frames_answer("frames", 2, *cap, payload),
         _ => return None,
     };
     Some(answer.unwrap_or_else(|refusal| refusal.to_string()))
@@ -33,6 +41,21 @@ fn header_answer(
     let header = header::decode_header(&definition::read(text)?, mpdu, region, speed)?;
     within_table(&header.rows, cap)?;
     Ok(header.to_string())
+}
+
+fn record_answer(word: &str, firmware: u64, body: &[u8]) -> Result<String, Refusal> {
+    let mut answer = word.to_string();
+    push_row(&pti::parse_record(firmware, body)?, &mut answer);
+    Ok(answer)
+}
+
+fn frames_answer(word: &str, firmware: u64, cap: u64, payload: &[u8]) -> Result<String, Refusal> {
+    let frames = pti::parse_payload(firmware, payload, cap)?;
+    let mut answer = format!("{word} {}", frames.len());
+    for frame in frames {
+        push_row(&frame, &mut answer);
+    }
+    Ok(answer)
 }
 
 fn command_answer(cap: u64, text: &[u8], payload: &[u8]) -> Result<String, Refusal> {

@@ -7,10 +7,62 @@ use Rattle.pti.proofs.payload.write_frames.Statement.{statement}
 use Rattle.pti.proofs.payload.write_frames.Tie as tie
 
 abbrev Inv-loop : tie.InvT-loop
-Inv-loop rates payload table₀ n₀ at₀ table n at = Writing payload table₀ table n at
+Inv-loop rates payload width table₀ n₀ at₀ table n at = Writing width payload table₀ table n at
 
 abbrev μ-loop : tie.MeasureT-loop
-μ-loop rates payload table₀ n₀ at₀ table n at = length payload - at
+μ-loop rates payload width table₀ n₀ at₀ table n at = length payload - at
+
+-- src/payload.rt:150:5
+loop-holds : tie.Need-loop-holds Inv-loop μ-loop
+loop-holds c = search (needs, laws)
+
+-- src/payload.rt:151:32
+next-body-requires : tie.Need-next-body-requires Inv-loop μ-loop
+next-body-requires c κs = search (needs, laws)
+
+-- src/payload.rt:151:24
+enum-known-span : tie.Need-enum-known-span Inv-loop μ-loop
+enum-known-span c = search (needs, laws)
+
+-- src/payload.rt:152:13
+enum-told : tie.Need-enum-told Inv-loop μ-loop
+enum-told c = search (needs, laws)
+
+-- src/payload.rt:152:13
+same-length : tie.Need-same-length Inv-loop μ-loop
+same-length c = search (needs, laws)
+
+-- src/payload.rt:152:13
+returns : tie.Need-returns Inv-loop μ-loop
+returns c = search (needs, laws)
+
+-- src/payload.rt:156:32
+sub-write-frame : tie.Need-sub-write-frame Inv-loop μ-loop
+sub-write-frame c = search (needs, laws)
+
+-- src/payload.rt:156:32
+part-write-frame-start : tie.Need-part-write-frame-start Inv-loop μ-loop
+part-write-frame-start c = search (needs, laws)
+
+-- src/payload.rt:156:32
+part-write-frame-end : tie.Need-part-write-frame-end Inv-loop μ-loop
+part-write-frame-end c = search (needs, laws)
+
+-- src/payload.rt:156:9
+write-frame-requires : tie.Need-write-frame-requires Inv-loop μ-loop
+write-frame-requires c κs = search (needs, laws)
+
+-- src/payload.rt:157:14
+add-at : tie.Need-add-at Inv-loop μ-loop
+add-at c = search (needs, laws)
+
+-- src/payload.rt:150:5
+loop-less : tie.Need-loop-less Inv-loop μ-loop
+loop-less c = search (needs, laws)
+
+-- src/payload.rt:150:5
+loop-again : tie.Need-loop-again Inv-loop μ-loop
+loop-again c = search (needs, laws)
 
 pub write-frames-spec : {M : Type 1} → statement M
 write-frames-spec =
@@ -18,16 +70,16 @@ write-frames-spec =
     (tie.spec
     Inv-loop
     μ-loop
-    (λ c. search (needs, laws))
-    (λ c κs. search (needs, laws))
-    (λ c. search (needs, laws))
-    (λ c. search (needs, laws))
-    (λ c. search (needs, laws))
-    (λ c. search (needs, laws))
-    (λ c. search (needs, laws))
-    (λ c. search (needs, laws))
-    (λ c. search (needs, laws))
-    (λ c κs. search (needs, laws))
-    (λ c. search (needs, laws))
-    (λ c. search (needs, laws))
-    (λ c. search (needs, laws)))
+    loop-holds
+    next-body-requires
+    enum-known-span
+    enum-told
+    same-length
+    returns
+    sub-write-frame
+    part-write-frame-start
+    part-write-frame-end
+    write-frame-requires
+    add-at
+    loop-less
+    loop-again)
