@@ -39,7 +39,7 @@ extern "C" {
 /* The numbers of a row. */
 #define TAP_FRAME_WIDTH 8
 #define TAP_HEADER_WIDTH 7
-#define TAP_COMMAND_WIDTH 9
+#define TAP_COMMAND_WIDTH 10
 
 /* `refusal` is 0 and `value` the number that the call answers, or `refusal` is a number of the table above and `value` what it carries. */
 typedef struct {
@@ -151,7 +151,8 @@ typedef struct {
 
 /* The parameters of a command, whose payload starts with its class and command bytes, a row each: 0 for a parameter, 1 for some bits of one,
  * 2 for a repetition of a group; its line in the text, from 1; its parent's row + 1, or 0; where it starts and ends in the payload; 1 if it
- * has a value, else 0; the value, or 0; the line of the K that names it, or 0; which repetition it is, from 0 (C16). Refuses by 1 to 5 and 8. */
+ * has a value, else 0; the value, or 0; the line of the K that names it, or 0; which repetition it is, from 0; how many bytes it wanted that
+ * are not there (C16, L3). Refuses by 1 to 5 and 8. */
 TapParams tap_decode_params(const uint8_t *text, size_t text_length, const uint8_t *payload, size_t payload_length, uint64_t *rows,
                             size_t rows_length);
 

@@ -10,7 +10,7 @@ use crate::ours::{self, DecodeParams};
 use crate::stack;
 
 /// The numbers of a command's table: 7,000 rows.
-const TABLE: usize = 63_000;
+const TABLE: usize = 70_000;
 /// What the accepted call may cost of what zniff-rs does, and on long commands.
 const ACCEPTED: f64 = 1.0;
 const LONG: f64 = 0.5;

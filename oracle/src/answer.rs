@@ -12,7 +12,7 @@ use crate::limits::{self, within};
 use crate::reading::pti::{Frame, region_bits};
 use crate::refusal::Refusal;
 use crate::request::{Request, push_hex};
-use crate::rows::within_table;
+use crate::rows::{LACKING, within_table};
 use crate::{reading, source};
 
 /// An answer, without its 0x0A.
@@ -198,10 +198,15 @@ fn header(cap: u64, region: u64, speed: u64, text: &[u8], mpdu: &[u8]) -> Result
     Ok(Answer { is_past_the_rust, ..answer.into() })
 }
 
+/// The Rust's answer, with what each row lacks by the second reading.
 fn command(cap: u64, text: &[u8], payload: &[u8]) -> Result<String, Refusal> {
     let definition: CommandDefinition = definition::read(text)?;
     within(limits::COMMAND, payload)?;
-    let command = source::command::decode_params(&definition, payload)?;
+    let mut command = source::command::decode_params(&definition, payload)?;
+    let read = reading::command::decode_params(&definition, payload)?;
+    for (row, read) in command.rows.iter_mut().zip(&read.rows) {
+        row[LACKING] = read[LACKING];
+    }
     within_table(&command.rows, cap)?;
     Ok(command.to_string())
 }

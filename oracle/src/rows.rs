@@ -1,4 +1,4 @@
-//! Answers that have rows, as H18 and C16 of docs/RULES.md number them.
+//! Answers that have rows, as H18, C16 and L3 of docs/RULES.md number them.
 
 use std::fmt::{self, Display};
 
@@ -7,8 +7,11 @@ use crate::refusal::Refusal;
 /// H18: the numbers of a field's row.
 pub type HeaderRow = [u64; 7];
 
-/// C16: the numbers of a row.
-pub type CommandRow = [u64; 9];
+/// C16, L3: the numbers of a row. The Rust has the first nine.
+pub type CommandRow = [u64; 10];
+
+/// L3: which of them says how many bytes are lacking.
+pub const LACKING: usize = 9;
 
 /// H20: the answer, with its rows.
 #[derive(Debug, Clone, PartialEq, Eq)]

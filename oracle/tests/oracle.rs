@@ -77,7 +77,7 @@ fn limits_of_the_walks_are_where_the_document_has_them() {
         answer(&Request::Command { cap: 1, text, payload: vec![1; length] }.line())
     };
     let text = "Q|0|ARRAY|a|-|-\n";
-    assert_eq!("command 1 2048 0 1 0 2 2048 0 0 0 0", command(text, limits::COMMAND));
+    assert_eq!("command 1 2048 0 1 0 2 2048 0 0 0 0 0", command(text, limits::COMMAND));
     assert_eq!("refused 4 2049", command(text, limits::COMMAND + 1));
     assert_eq!("refused 1 1", command("Q", limits::COMMAND + 1));
     assert_eq!("refused 2 0", command(&"\n".repeat(limits::TEXT + 1), limits::COMMAND + 1));
@@ -89,9 +89,9 @@ fn the_last_offsets_count_entries() {
     let (text, payload) = entries_254_and_255();
     let text = text.replace('|', "\t").into_bytes();
     let answer = answer(&Request::Command { cap: 510, text, payload }.line());
-    assert!(answer.starts_with("command 510 260 0 1 0 2 3 1 253 0 0 2 2 0 3 4 0 0 0 0 "));
-    let last = " 2 2 0 255 256 0 0 0 252 0 3 506 255 256 1 165 0 0 \
-         0 4 0 256 257 1 2 0 0 0 5 0 257 259 1 43707 0 0 0 7 0 259 260 1 1 0 0";
+    assert!(answer.starts_with("command 510 260 0 1 0 2 3 1 253 0 0 0 2 2 0 3 4 0 0 0 0 0 "));
+    let last = " 2 2 0 255 256 0 0 0 252 0 0 3 506 255 256 1 165 0 0 0 \
+         0 4 0 256 257 1 2 0 0 0 0 5 0 257 259 1 43707 0 0 0 0 7 0 259 260 1 1 0 0 0";
     assert!(answer.ends_with(last));
 }
 

@@ -5,9 +5,9 @@ use mathlib.Core.List.{List, [], _∷_}
 use lib.Dec.{eqb}
 use lib.ListN.{length, replicate}
 
--- "`CAP` up to 16,384", rows of nine numbers at most
+-- "`CAP` up to 16,384", rows of ten numbers at most
 abbrev pub Ample : List ℕ → Type 0
-Ample table = 147456 ≤ length table
+Ample table = 163840 ≤ length table
 
 -- a table of n numbers that nothing has been written to: "fills the whole table with 0xA5A5A5A5A5A5A5A5"
 abbrev pub fresh : ℕ → List ℕ

@@ -113,12 +113,12 @@ module _ (t l body : List ℕ) (count : ℕ) (loaded : IsLoaded t l count) where
       module _ (d′ : List ℕ) (e : BodyOffset) (y c : ℕ) (w : IsRead body (fieldOf p) (g .es) (o .0) next 0 d next d′ e y c) where
         one-more : outer body (entriesOf (drop j (headsOf t))) (o .0) (g .es) next
             ≡ after (paramRows body (fieldOf p) (o .0) (w .size) next 0)
-            (outer body (entriesOf (drop (j + 1) (headsOf t))) (e .0) (g .es ++ (paramEntry body (o .0) (w .size) ∷ [])) (next + c))
+            (outer body (entriesOf (drop (j + 1) (headsOf t))) (e .0) (g .es ++ (paramEntry body (o .0) (w .size .taken) ∷ [])) (next + c))
         unfolding outer
         one-more = rw (rest, w .there, w .count, w .end) refl
 
         all-count : next + (length (paramRows body (fieldOf p) (o .0) (w .size) next 0) + length
-            (outer body (entriesOf (drop (j + 1) (headsOf t))) (e .0) (g .es ++ (paramEntry body (o .0) (w .size) ∷ [])) (next + c) .rows))
+            (outer body (entriesOf (drop (j + 1) (headsOf t))) (e .0) (g .es ++ (paramEntry body (o .0) (w .size .taken) ∷ [])) (next + c) .rows))
             ≡ length (walk body (entriesOf (headsOf t)) .rows)
         all-count = rw (one-more, length-append) at (g .count-is)
 
@@ -130,7 +130,7 @@ module _ (t l body : List ℕ) (count : ℕ) (loaded : IsLoaded t l count) where
         taken kept′ have′ ek eh =
             let b = w .count in
             let r : written d next (paramRows body (fieldOf p) (o .0) (w .size) next 0
-            ++ outer body (entriesOf (drop (j + 1) (headsOf t))) (e .0) (g .es ++ (paramEntry body (o .0) (w .size) ∷ [])) (next + c) .rows)
+            ++ outer body (entriesOf (drop (j + 1) (headsOf t))) (e .0) (g .es ++ (paramEntry body (o .0) (w .size .taken) ∷ [])) (next + c) .rows)
             ≡ written d₀ 0 (walk body (entriesOf (headsOf t)) .rows) = rw one-more at (g .rows) in
             let s : next + c ≡ next + length (paramRows body (fieldOf p) (o .0) (w .size) next 0) = omega arith in
             let f = size-facts body (fieldOf p) (g .es) (o .0) (w .size) (w .there) in
@@ -139,15 +139,15 @@ module _ (t l body : List ℕ) (count : ℕ) (loaded : IsLoaded t l count) where
             let i = g .inside in
             let k = g .entries-are .kept-are in
             record {
-              es = g .es ++ (paramEntry body (o .0) (w .size) ∷ []);
+              es = g .es ++ (paramEntry body (o .0) (w .size .taken) ∷ []);
               entries-are = rw (ek, eh) (record {
-                kept-are = kept-push kept (g .es) have y (paramEntry body (o .0) (w .size)) (w .entry) k;
+                kept-are = kept-push kept (g .es) have y (paramEntry body (o .0) (w .size .taken)) (w .entry) k;
                 free =
                     free-push kept (g .es) have y k (g .entries-are .free);
               });
               rows = rw (w .rows)
                   (written-more d next (paramRows body (fieldOf p) (o .0) (w .size) next 0)
-                  (outer body (entriesOf (drop (j + 1) (headsOf t))) (e .0) (g .es ++ (paramEntry body (o .0) (w .size) ∷ [])) (next + c) .rows)
+                  (outer body (entriesOf (drop (j + 1) (headsOf t))) (e .0) (g .es ++ (paramEntry body (o .0) (w .size .taken) ∷ [])) (next + c) .rows)
                   (next + c) s ∙ r);
               count-is = omega (arith, all-count);
               end = rw one-more at (g .end);

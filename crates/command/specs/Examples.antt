@@ -1,4 +1,4 @@
--- E11 (docs/RULES.md), refusals by the same text, and a group.
+-- E11 (docs/RULES.md), refusals by the same text, a field that is cut, and a group.
 use mathlib.Core.Path.{_≡_, refl}
 use mathlib.Core.List.{List, [], _∷_}
 use Prim.Native.Nat.{ℕ}
@@ -20,33 +20,41 @@ abbrev pub payload : List ℕ
 payload = 0x20 ∷ 0x01 ∷ 0x02 ∷ 0xAA ∷ 0xBB ∷ 0xCC ∷ []
 
 abbrev pub lent : List ℕ
-lent = 9 ∷ 9 ∷ 9 ∷ 9 ∷ 9 ∷ 9 ∷ 9 ∷ 9 ∷ 9 ∷ 9 ∷ 9 ∷ 9 ∷ 9 ∷ 9 ∷ 9 ∷ 9 ∷ 9 ∷ 9 ∷ 9 ∷ 9 ∷ []
+lent = 9 ∷ 9 ∷ 9 ∷ 9 ∷ 9 ∷ 9 ∷ 9 ∷ 9 ∷ 9 ∷ 9 ∷ 9 ∷ 9 ∷ 9 ∷ 9 ∷ 9 ∷ 9 ∷ 9 ∷ 9 ∷ 9 ∷ 9 ∷ 9 ∷ 9 ∷ []
 
--- E11: by a table of 20 numbers
-pub starred : answerOf text payload 20 ≡ answered 2 5
+-- E11: by a table of 22 numbers
+pub starred : answerOf text payload 22 ≡ answered 2 5
 unfolding answerOf answerBy within walk outer sizeOf paramRows paramEntry bigEndian bitRows
 starred = refl
 
 -- E11: the two rows; the two numbers behind them are as they were
-pub starred-rows : tableAfter (definition text) payload lent (answerOf text payload 20)
-    ≡ 0 ∷ 1 ∷ 0 ∷ 2 ∷ 3 ∷ 1 ∷ 2 ∷ 0 ∷ 0
-    ∷ 0 ∷ 2 ∷ 0 ∷ 3 ∷ 5 ∷ 1 ∷ 0xAABB ∷ 0 ∷ 0
+pub starred-rows : tableAfter (definition text) payload lent (answerOf text payload 22)
+    ≡ 0 ∷ 1 ∷ 0 ∷ 2 ∷ 3 ∷ 1 ∷ 2 ∷ 0 ∷ 0 ∷ 0
+    ∷ 0 ∷ 2 ∷ 0 ∷ 3 ∷ 5 ∷ 1 ∷ 0xAABB ∷ 0 ∷ 0 ∷ 0
     ∷ 9 ∷ 9 ∷ []
 unfolding answerOf answerBy within walk outer sizeOf paramRows paramEntry bigEndian bitRows tableAfter table
 starred-rows = refl
 
--- a table of 17 numbers: refusal 8, two rows are needed
-few-rows : answerOf text payload 17 ≡ refused 8 2
+-- the same cut off behind its third byte: Data wants two bytes, takes one and lacks one
+cut-rows : tableAfter (definition text) (0x20 ∷ 0x01 ∷ 0x02 ∷ 0xAA ∷ []) lent (answerOf text (0x20 ∷ 0x01 ∷ 0x02 ∷ 0xAA ∷ []) 22)
+    ≡ 0 ∷ 1 ∷ 0 ∷ 2 ∷ 3 ∷ 1 ∷ 2 ∷ 0 ∷ 0 ∷ 0
+    ∷ 0 ∷ 2 ∷ 0 ∷ 3 ∷ 4 ∷ 1 ∷ 0xAA ∷ 0 ∷ 0 ∷ 1
+    ∷ 9 ∷ 9 ∷ []
+unfolding answerOf answerBy within walk outer sizeOf paramRows paramEntry bigEndian bitRows tableAfter table
+cut-rows = refl
+
+-- a table of 19 numbers: refusal 8, two rows are needed
+few-rows : answerOf text payload 19 ≡ refused 8 2
 unfolding answerOf answerBy within walk outer sizeOf paramRows paramEntry bigEndian bitRows
 few-rows = refl
 
 -- one byte: refusal 5
-one-byte : answerOf text (0x20 ∷ []) 20 ≡ refused 5 1
+one-byte : answerOf text (0x20 ∷ []) 22 ≡ refused 5 1
 unfolding answerOf answerBy
 one-byte = refl
 
 -- no tab in line 1: refusal 1, before the payload's length
-bad-line : answerOf (81 ∷ 48 ∷ 10 ∷ []) [] 20 ≡ refused 1 1
+bad-line : answerOf (81 ∷ 48 ∷ 10 ∷ []) [] 22 ≡ refused 1 1
 unfolding answerOf
 bad-line = refl
 
@@ -62,19 +70,19 @@ group-text =
 
 -- 20 01 02 01 07 04 CC: Count 2 with Odd 0 and Pair 1; Kind 1 and More 7 in the first repetition; Kind 4 alone in the second; remainder CC
 group-rows : tableAfter (definition group-text) (0x20 ∷ 0x01 ∷ 0x02 ∷ 0x01 ∷ 0x07 ∷ 0x04 ∷ 0xCC ∷ []) [] (answered 8 6)
-    ≡ 0 ∷ 1 ∷ 0 ∷ 2 ∷ 3 ∷ 1 ∷ 2 ∷ 0 ∷ 0
-    ∷ 1 ∷ 2 ∷ 1 ∷ 2 ∷ 3 ∷ 1 ∷ 0 ∷ 0 ∷ 0
-    ∷ 1 ∷ 3 ∷ 1 ∷ 2 ∷ 3 ∷ 1 ∷ 1 ∷ 0 ∷ 0
-    ∷ 2 ∷ 4 ∷ 0 ∷ 3 ∷ 5 ∷ 0 ∷ 0 ∷ 0 ∷ 0
-    ∷ 0 ∷ 5 ∷ 4 ∷ 3 ∷ 4 ∷ 1 ∷ 1 ∷ 0 ∷ 0
-    ∷ 0 ∷ 6 ∷ 4 ∷ 4 ∷ 5 ∷ 1 ∷ 7 ∷ 7 ∷ 0
-    ∷ 2 ∷ 4 ∷ 0 ∷ 5 ∷ 6 ∷ 0 ∷ 0 ∷ 0 ∷ 1
-    ∷ 0 ∷ 5 ∷ 7 ∷ 5 ∷ 6 ∷ 1 ∷ 4 ∷ 0 ∷ 0
+    ≡ 0 ∷ 1 ∷ 0 ∷ 2 ∷ 3 ∷ 1 ∷ 2 ∷ 0 ∷ 0 ∷ 0
+    ∷ 1 ∷ 2 ∷ 1 ∷ 2 ∷ 3 ∷ 1 ∷ 0 ∷ 0 ∷ 0 ∷ 0
+    ∷ 1 ∷ 3 ∷ 1 ∷ 2 ∷ 3 ∷ 1 ∷ 1 ∷ 0 ∷ 0 ∷ 0
+    ∷ 2 ∷ 4 ∷ 0 ∷ 3 ∷ 5 ∷ 0 ∷ 0 ∷ 0 ∷ 0 ∷ 0
+    ∷ 0 ∷ 5 ∷ 4 ∷ 3 ∷ 4 ∷ 1 ∷ 1 ∷ 0 ∷ 0 ∷ 0
+    ∷ 0 ∷ 6 ∷ 4 ∷ 4 ∷ 5 ∷ 1 ∷ 7 ∷ 7 ∷ 0 ∷ 0
+    ∷ 2 ∷ 4 ∷ 0 ∷ 5 ∷ 6 ∷ 0 ∷ 0 ∷ 0 ∷ 1 ∷ 0
+    ∷ 0 ∷ 5 ∷ 7 ∷ 5 ∷ 6 ∷ 1 ∷ 4 ∷ 0 ∷ 0 ∷ 0
     ∷ []
 unfolding answerOf answerBy within walk outer groupAt repeats repetitions repetitionRow turn members sizeOf paramRows paramEntry bigEndian bitRows tableAfter
     table
 group-rows = refl
 
-group-answer : answerOf group-text (0x20 ∷ 0x01 ∷ 0x02 ∷ 0x01 ∷ 0x07 ∷ 0x04 ∷ 0xCC ∷ []) 72 ≡ answered 8 6
+group-answer : answerOf group-text (0x20 ∷ 0x01 ∷ 0x02 ∷ 0x01 ∷ 0x07 ∷ 0x04 ∷ 0xCC ∷ []) 80 ≡ answered 8 6
 unfolding answerOf answerBy within walk outer groupAt repeats repetitions repetitionRow turn members sizeOf paramRows paramEntry bigEndian bitRows
 group-answer = refl

@@ -7,6 +7,8 @@ use Rattle.records.specs.declared.BodyOffset.{BodyOffset}
 use Rattle.command_class.specs.Definition.{Parameter}
 use Rattle.command_lengths.specs.Entries.{entries}
 use Rattle.command_rules.specs.declared.Earlier.{Earlier}
+use Rattle.command_rules.specs.declared.Size.the-variants.{Bytes}
+use Rattle.command_rules.proofs.Lengths.{size-agrees}
 use Rattle.command_lengths.proofs.Laws.{size-first}
 use Rattle.command_rules.specs.Field.{Field, fieldOf}
 use Rattle.command_schema.specs.Loaded.{fieldIn}
@@ -29,6 +31,7 @@ param-from body q es at n parent d ys k rest (Read e x c) is w =
       size = w .size;
       there = w .there;
       end = w .end;
+      agrees = w .agrees;
       entry = w .entry;
       count = w .count;
       rows =
@@ -59,7 +62,16 @@ module _ (t : List ℕ) (l : Loaded) (p : Parameter) (is : IsParam t l p) (body 
       let w : IsRead body (fieldIn t l) (entries (take have kept)) at n parent d m d′ e x c = rw q at given in
       let v : IsRead body (fieldOf p) (entries (take have kept)) at n parent d m d′ e x c =
       subst (λ (f : Field). IsRead body f (entries (take have kept)) at n parent d m d′ e x c) (is .field) w in
-      record { size = v .size; there = sym (by-all (fieldOf p)) ∙ v .there; end = v .end; entry = v .entry; count = v .count; rows = v .rows }
+      let there : sizeAt body (fieldOf p) es at ≡ Bytes (v .size) = sym (by-all (fieldOf p)) ∙ v .there in
+      record {
+        size = v .size;
+        there = there;
+        end = v .end;
+        agrees = size-agrees (fieldOf p .offset) (fieldOf p .mask) (fieldOf p .rule) es (length body - at) (v .size) there;
+        entry = v .entry;
+        count = v .count;
+        rows = v .rows;
+      }
 
   pub is-absent : r ≡ Absent → IsAbsent body (fieldOf p) es at n parent d m d′
   is-absent q =

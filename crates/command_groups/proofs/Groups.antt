@@ -29,7 +29,7 @@ use Rattle.command_groups.specs.declared.Repetition.the-variants.{Took, 
 use Rattle.command_rules.proofs.Bounds.{Bound, turn-bound, repetitions-bound}
 
 pub row-is : (line at end k f t : ℕ) → f ≡ inPayload at → t ≡ inPayload end
-    → _≡_ {A = Row} (record { kind = 2; line = line; parent = 0; start = f; end = t; valued = 0; value = 0; named = 0; number = k })
+    → _≡_ {A = Row} (record { kind = 2; line = line; parent = 0; start = f; end = t; valued = 0; value = 0; named = 0; number = k; lacking = 0 })
     (repetitionRow line at end k)
 unfolding repetitionRow
 row-is line at end k f t ef et = rw (ef, et) refl

@@ -112,14 +112,14 @@ module _ (t l body : List ℕ) (count i n parent : ℕ) (loaded : IsLoaded t l c
       module _ (d′ : List ℕ) (e : BodyOffset) (y c : ℕ) (w : IsRead body (fieldOf p) (g .es) (o .0) (n + next) parent d next d′ e y c) where
         one-more : members body (membersOf (drop j (headsOf t))) (o .0) (g .es) (n + next) parent
             ≡ after (paramRows body (fieldOf p) (o .0) (w .size) (n + next) parent)
-            (members body (membersOf (drop (j + 1) (headsOf t))) (e .0) (g .es ++ (paramEntry body (o .0) (w .size) ∷ [])) (n + (next + c)) parent)
+            (members body (membersOf (drop (j + 1) (headsOf t))) (e .0) (g .es ++ (paramEntry body (o .0) (w .size .taken) ∷ [])) (n + (next + c)) parent)
         unfolding members
         one-more =
             let z : n + (next + c) ≡ n + next + length (paramRows body (fieldOf p) (o .0) (w .size) (n + next) parent) = let b = w .count in omega arith in
             rw (rest, w .there, z, w .end) refl
 
         all-count : next + (length (paramRows body (fieldOf p) (o .0) (w .size) (n + next) parent) + length
-            (members body (membersOf (drop (j + 1) (headsOf t))) (e .0) (g .es ++ (paramEntry body (o .0) (w .size) ∷ [])) (n + (next + c)) parent .rows))
+            (members body (membersOf (drop (j + 1) (headsOf t))) (e .0) (g .es ++ (paramEntry body (o .0) (w .size .taken) ∷ [])) (n + (next + c)) parent .rows))
             ≡ length (members body (membersOf (drop i (headsOf t))) start [] n parent .rows)
         all-count = rw (one-more, length-append) at (g .count-is)
 
@@ -131,15 +131,15 @@ module _ (t l body : List ℕ) (count i n parent : ℕ) (loaded : IsLoaded t l c
         taken kept′ have′ ek eh =
             let b = w .count in
             let r : written d next (paramRows body (fieldOf p) (o .0) (w .size) (n + next) parent
-            ++ members body (membersOf (drop (j + 1) (headsOf t))) (e .0) (g .es ++ (paramEntry body (o .0) (w .size) ∷ [])) (n + (next + c)) parent .rows)
+            ++ members body (membersOf (drop (j + 1) (headsOf t))) (e .0) (g .es ++ (paramEntry body (o .0) (w .size .taken) ∷ [])) (n + (next + c)) parent .rows)
             ≡ written d₀ 0 (members body (membersOf (drop i (headsOf t))) start [] n parent .rows) = rw one-more at (g .rows) in
             let s : next + c ≡ next + length (paramRows body (fieldOf p) (o .0) (w .size) (n + next) parent) = omega arith in
             record {
-              es = g .es ++ (paramEntry body (o .0) (w .size) ∷ []);
-              kept-are = rw (ek, eh) (kept-push kept (g .es) have y (paramEntry body (o .0) (w .size)) (w .entry) (g .kept-are));
+              es = g .es ++ (paramEntry body (o .0) (w .size .taken) ∷ []);
+              kept-are = rw (ek, eh) (kept-push kept (g .es) have y (paramEntry body (o .0) (w .size .taken)) (w .entry) (g .kept-are));
               rows = rw (w .rows)
                   (written-more d next (paramRows body (fieldOf p) (o .0) (w .size) (n + next) parent)
-                  (members body (membersOf (drop (j + 1) (headsOf t))) (e .0) (g .es ++ (paramEntry body (o .0) (w .size) ∷ [])) (n + (next + c)) parent .rows)
+                  (members body (membersOf (drop (j + 1) (headsOf t))) (e .0) (g .es ++ (paramEntry body (o .0) (w .size .taken) ∷ [])) (n + (next + c)) parent .rows)
                   (next + c) s ∙ r);
               count-is = omega (arith, all-count);
               end = rw one-more at (g .end);

@@ -167,6 +167,7 @@ fn repetition_row(line: u16, at: BodyOffset, end: BodyOffset, number: usize) -> 
         value: 0,
         named: 0,
         number: number as u64,
+        lacking: 0,
     }
 }
 

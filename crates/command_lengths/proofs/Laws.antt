@@ -3,7 +3,7 @@ use mathlib.Core.Path.{_≡_, refl, sym, ap, _∙_}
 use mathlib.Core.Bool.{Bool, true, false, cond, not, _||_}
 use mathlib.Core.List.{List, [], _∷_}
 use mathlib.Core.Option.{Option, none, some}
-use Prim.Native.Nat.{ℕ, zero, suc, _^_, _≤_, _<_}
+use Prim.Native.Nat.{ℕ, zero, suc, _-_, _^_, _≤_, _<_}
 use native.Mathlib.Nat.{lt-of-le-of-lt, lt-of-lt-of-le, div-eq-of-lt}
 use native.Mathlib.Omega.{arith}
 use lib.Bits.{bitAnd, and-le-l}
@@ -21,6 +21,7 @@ use Rattle.command_rules.specs.declared.Rule.{Rule}
 use Rattle.command_rules.specs.declared.Rule.the-variants.{Fixed, Open, Counted}
 use Rattle.command_rules.specs.declared.Wanted.{Wanted}
 use Rattle.command_rules.specs.declared.Wanted.the-variants.{Exactly, Rest}
+use Rattle.command_rules.specs.declared.Length.{Length}
 use Rattle.command_rules.specs.declared.Size.the-variants.{Bytes, Missing}
 
 -- ---- entries
@@ -115,13 +116,13 @@ module _ (rule : Rule) (es : List Earlier) where
   wanted-counted k mask shift e r q ee er = er ∙ ap (byEntry mask shift) ee ∙ rw q
 
 module _ (w : Wanted) (rest : ℕ) where
-  pub cut-rest : w ≡ Rest → rest ≡ cut w rest
+  pub cut-rest : w ≡ Rest → record { taken = rest; lacking = 0 } ≡ cut w rest
   cut-rest q = rw q
 
-  pub cut-less : (n : ℕ) → w ≡ Exactly n → n ≤ rest → n ≡ cut w rest
-  cut-less n q h = rw (q, le-leb n rest h)
+  pub cut-less : (n : ℕ) → w ≡ Exactly n → n ≤ rest → record { taken = n; lacking = 0 } ≡ cut w rest
+  cut-less n q h = let z : n - n ≡ 0 = omega arith in rw (q, le-leb n rest h, z)
 
-  pub cut-more : (n : ℕ) → w ≡ Exactly n → rest < n → rest ≡ cut w rest
+  pub cut-more : (n : ℕ) → w ≡ Exactly n → rest < n → record { taken = rest; lacking = n - rest } ≡ cut w rest
   cut-more n q h = rw (q, lt-leb n rest h)
 
 module _ (offset mask : ℕ) (rule : Rule) (es : List Earlier) (rest : ℕ) where
@@ -134,14 +135,14 @@ module _ (offset mask : ℕ) (rule : Rule) (es : List Earlier) (rest : ℕ) wher
     unfolding sizeOf
     size-absent f = rw (lt-ltb 0 rest (omega arith), ← is-x, f)
 
-    module _ (w : Wanted) (n : ℕ) (is-w : w ≡ wanted rule es) (is-n : n ≡ cut w rest) (t : x ≡ true) where
-      pub size-zero : n ≡ 0 → Missing ≡ sizeOf (given offset) (given mask) rule es rest
+    module _ (w : Wanted) (l : Length) (is-w : w ≡ wanted rule es) (is-l : l ≡ cut w rest) (t : x ≡ true) where
+      pub size-zero : l .taken ≡ 0 → Missing ≡ sizeOf (given offset) (given mask) rule es rest
       unfolding sizeOf
-      size-zero z = rw (lt-ltb 0 rest (omega arith), ← is-x, t, ← is-w, ← is-n, eq-eqb n 0 z)
+      size-zero z = rw (lt-ltb 0 rest (omega arith), ← is-x, t, ← is-w, ← is-l, eq-eqb (l .taken) 0 z)
 
-      pub size-is : (n ≡ 0 → ⊥) → Bytes n ≡ sizeOf (given offset) (given mask) rule es rest
+      pub size-is : (l .taken ≡ 0 → ⊥) → Bytes l ≡ sizeOf (given offset) (given mask) rule es rest
       unfolding sizeOf
-      size-is z = rw (lt-ltb 0 rest (omega arith), ← is-x, t, ← is-w, ← is-n, ne-eqb n 0 z)
+      size-is z = rw (lt-ltb 0 rest (omega arith), ← is-x, t, ← is-w, ← is-l, ne-eqb (l .taken) 0 z)
 
 -- ---- groups
 

@@ -4,6 +4,7 @@
 // one number each, 256 for an entry without value. A number of a definition that may be missing is 256 where it is.
 use command_rules::BitShift;
 use command_rules::Earlier;
+use command_rules::Length;
 use command_rules::Rule;
 use command_rules::Size;
 use command_rules::Wanted;
@@ -96,17 +97,29 @@ pub fn variable_len(rule: Rule, es: &[u16]) -> Wanted
 }
 
 // A length, cut to what remains.
-fn cut_len(wanted: Wanted, rest: usize) -> usize
+fn cut_len(wanted: Wanted, rest: usize) -> Length
     ensures { λ r. ⌜ r ≡ cut wanted rest ⌝ }
 {
     let Wanted::Exactly(n) = wanted else {
-        return rest;
+        return Length {
+            taken: rest,
+            lacking: 0,
+        };
     };
-    let length = n as usize;
-    if length <= rest { length } else { rest }
+    let bytes = n as usize;
+    if bytes <= rest {
+        return Length {
+            taken: bytes,
+            lacking: 0,
+        };
+    }
+    Length {
+        taken: rest,
+        lacking: bytes - rest,
+    }
 }
 
-// How many of the bytes that remain a Q takes, if it exists.
+// The length of a Q, of the bytes that remain, if it exists.
 pub fn size_of(offset: u16, mask: u16, rule: Rule, es: &[u16], rest: usize) -> Size
     ensures { λ r. ⌜ r ≡ sizeOf (given offset) (given mask) rule (entries (now (es .entry))) rest ⌝ }
 {
@@ -115,7 +128,7 @@ pub fn size_of(offset: u16, mask: u16, rule: Rule, es: &[u16], rest: usize) -> S
     }
     if is_present(offset, mask, es) {
         let length = cut_len(variable_len(rule, es), rest);
-        if length == 0 {
+        if length.taken == 0 {
             return Size::Missing;
         }
         return Size::Bytes(length);

@@ -43,7 +43,18 @@ module _ (b : ℕ) (l : Line) where
   bit-set h e = rw (eq-eqb (l .kind) 84 h, ne-eqb (bitAnd b (l .mask)) 0 e)
 
 pub bit-row-is : (b number parent start v : ℕ) (l : Line) → v ≡ bitNumber b l
-    → _≡_ {A = Row} (record { kind = 1; line = number; parent = parent; start = start; end = start + 1; valued = 1; value = v; named = 0; number = 0 })
+    → _≡_ {A = Row} (record {
+      kind = 1;
+      line = number;
+      parent = parent;
+      start = start;
+      end = start + 1;
+      valued = 1;
+      value = v;
+      named = 0;
+      number = 0;
+      lacking = 0;
+    })
     (bitRow number parent start (bitNumber b l))
 bit-row-is b number parent start v l e = rw e refl
 

@@ -11,11 +11,12 @@ use Rattle.command_class.specs.Definition.{under}
 use Rattle.command_class.specs.Find.{from}
 use Rattle.command_lengths.specs.Entries.{entries, given, earlier}
 use Rattle.command_rules.specs.Rows.{rowWidth}
-use Rattle.command_rules.specs.Lengths.{sizeOf}
+use Rattle.command_rules.specs.Lengths.{wanted, sizeOf, Agrees}
 use Rattle.command_rules.specs.declared.Rule.{Rule}
+use Rattle.command_rules.specs.declared.Length.{Length}
 use Rattle.command_rules.specs.declared.Size.{Size}
 use Rattle.command_rules.specs.declared.Size.the-variants.{Bytes, Missing}
-use Rattle.command_rules.proofs.Lengths.{size-within, size-some}
+use Rattle.command_rules.proofs.Lengths.{size-within, size-some, size-agrees}
 use Rattle.command_rules.specs.Field.{Field}
 use Rattle.command_schema.specs.Loaded.{ruleIn, after, fieldIn}
 use Rattle.command_schema.specs.declared.Loaded.{Loaded}
@@ -30,7 +31,7 @@ use Rattle.command_param.specs.declared.Param.the-variants.{Read, Absent
 use Rattle.command_param.specs.declared.Wrote.{Wrote}
 
 -- ---- its own row
-pub row-is : (t : List ℕ) (q : Loaded) (bs : List ℕ) (start parent : ℕ) (value : Uint) (a v k : ℕ) → value ≡ valueOf bs → a ≡ valued value
+pub row-is : (t : List ℕ) (q : Loaded) (bs : List ℕ) (start parent : ℕ) (value : Uint) (a v k lacking : ℕ) → value ≡ valueOf bs → a ≡ valued value
     → v ≡ orZero value → k ≡ constLine (fieldIn t q) value
     → _≡_ {A = Row} (record {
       kind = 0;
@@ -43,8 +44,9 @@ pub row-is : (t : List ℕ) (q : Loaded) (bs : List ℕ) (start parent : ℕ) (v
       named =
           k;
       number = 0;
-    }) (rowOf (fieldIn t q) parent start bs)
-row-is t q bs start parent value a v k is-value ea ev ek = rw (ea, ev, ek, is-value) refl
+      lacking = lacking;
+    }) (rowOf (fieldIn t q) parent start bs lacking)
+row-is t q bs start parent value a v k lacking is-value ea ev ek = rw (ea, ev, ek, is-value) refl
 
 -- ---- its children
 module _ (q : Field) (bs d : List ℕ) (start parent : ℕ) where
@@ -72,25 +74,25 @@ pub ruleset own-laws = (own-full, own-written)
 
 -- ---- all its rows
 
-module _ (t : List ℕ) (q : Loaded) (body : List ℕ) (at size n parent start : ℕ) (d₀ d : List ℕ) where
+module _ (t : List ℕ) (q : Loaded) (body : List ℕ) (at : ℕ) (size : Length) (n parent start : ℕ) (d₀ d : List ℕ) where
   -- the bytes that it takes, as they are lent
-  the-bytes : take (at + size - at) (drop at body) ≡ bytesAt body at size
-  the-bytes = let z : at + size - at ≡ size = omega arith in rw z refl
+  the-bytes : take (at + size .taken - at) (drop at body) ≡ bytesAt body at (size .taken)
+  the-bytes = let z : at + size .taken - at ≡ size .taken = omega arith in rw z refl
 
   pub param-written : (d′ : List ℕ) (c : ℕ) (value : Uint) (e : ℕ)
-      → d ≡ written d₀ 0 (rowOf (fieldIn t q) parent start (take (at + size - at) (drop at body)) ∷ [])
-      → Writes d 1 (childRows (fieldIn t q) (n + 1) start (take (at + size - at) (drop at body))) d′ c → start ≡ inPayload at
-      → value ≡ valueOf (take (at + size - at) (drop at body)) → earlier e ≡ entryOf value
+      → d ≡ written d₀ 0 (rowOf (fieldIn t q) parent start (take (at + size .taken - at) (drop at body)) (size .lacking) ∷ [])
+      → Writes d 1 (childRows (fieldIn t q) (n + 1) start (take (at + size .taken - at) (drop at body))) d′ c → start ≡ inPayload at
+      → value ≡ valueOf (take (at + size .taken - at) (drop at body)) → earlier e ≡ entryOf value
       → WritesParam body (fieldIn t q) at size n parent d₀ d′ (record { entry = e; count = c + 1 })
   unfolding paramRows paramEntry
   param-written d′ c value e ed w es ev ee =
-      let b : take (at + size - at) (drop at body) ≡ take size (drop at body) = the-bytes in
-      let kids : d′ ≡ written d 1 (childRows (fieldIn t q) (n + 1) (inPayload at) (take size (drop at body))) = rw (b, es) at (w .rows) in
-      let own : d ≡ written d₀ 0 (rowOf (fieldIn t q) parent (inPayload at) (take size (drop at body)) ∷ []) = rw (b, es) at ed in
-      let c-is : c ≡ length (childRows (fieldIn t q) (n + 1) (inPayload at) (take size (drop at body))) = rw (b, es) at (w .count) in
+      let b : take (at + size .taken - at) (drop at body) ≡ take (size .taken) (drop at body) = the-bytes in
+      let kids : d′ ≡ written d 1 (childRows (fieldIn t q) (n + 1) (inPayload at) (take (size .taken) (drop at body))) = rw (b, es) at (w .rows) in
+      let own : d ≡ written d₀ 0 (rowOf (fieldIn t q) parent (inPayload at) (take (size .taken) (drop at body)) (size .lacking) ∷ []) = rw (b, es) at ed in
+      let c-is : c ≡ length (childRows (fieldIn t q) (n + 1) (inPayload at) (take (size .taken) (drop at body))) = rw (b, es) at (w .count) in
       record {
-        rows = kids ∙ rw own (written-more d₀ 0 (rowOf (fieldIn t q) parent (inPayload at) (take size (drop at body)) ∷ [])
-            (childRows (fieldIn t q) (n + 1) (inPayload at) (take size (drop at body))) 1 refl);
+        rows = kids ∙ rw own (written-more d₀ 0 (rowOf (fieldIn t q) parent (inPayload at) (take (size .taken) (drop at body)) (size .lacking) ∷ [])
+            (childRows (fieldIn t q) (n + 1) (inPayload at) (take (size .taken) (drop at body))) 1 refl);
         count = omega arith;
         entry = ee ∙ ap entryOf (ev ∙ ap valueOf b);
       }
@@ -107,22 +109,25 @@ module _ (t : List ℕ) (q : Loaded) (body ns : List ℕ) (at n parent : ℕ) (d
   pub param-absent : s ≡ Missing → ReadsParam body (fieldIn t q) (entries ns) at n parent d 0 d Absent
   param-absent e = record { there = sym here ∙ e; rows = refl }
 
-  module _ (size : ℕ) (e : s ≡ Bytes size) where
+  module _ (size : Length) (e : s ≡ Bytes size) where
     there : sizeAt body (fieldIn t q) (entries ns) at ≡ Bytes size
     there = sym here ∙ e
 
-    pub param-inside : at + size ≤ length body
+    pub param-inside : at + size .taken ≤ length body
     param-inside =
         let a = size-within (given (q .optionaloffs)) (given (q .optionalmask)) (ruleIn q) (entries ns) (length body - at) size there in
         let b = size-some (given (q .optionaloffs)) (given (q .optionalmask)) (ruleIn q) (entries ns) (length body - at) size there in
         omega arith
 
-    pub param-end-fits : length body < 65536 → Fits w64 (at + size)
+    pub param-end-fits : length body < 65536 → Fits w64 (at + size .taken)
     param-end-fits h = omega (arith, param-inside)
 
+    agreed : Agrees (wanted (fieldIn t q .rule) (entries ns)) size
+    agreed = size-agrees (given (q .optionaloffs)) (given (q .optionalmask)) (ruleIn q) (entries ns) (length body - at) size there
+
     pub param-read : (d′ : List ℕ) (w : Wrote) → WritesParam body (fieldIn t q) at size n parent d d′ w
-        → ReadsParam body (fieldIn t q) (entries ns) at n parent d 0 d′ (Read (record { 0 = at + size }) (w .entry) (w .count))
-    param-read d′ w wrote = record { size = size; there = there; end = refl; entry = wrote .entry; count = wrote .count; rows = wrote .rows }
+        → ReadsParam body (fieldIn t q) (entries ns) at n parent d 0 d′ (Read (record { 0 = at + size .taken }) (w .entry) (w .count))
+    param-read d′ w wrote = record { size = size; there = there; end = refl; agrees = agreed; entry = wrote .entry; count = wrote .count; rows = wrote .rows }
 
 pub remaining-none : (size at : ℕ) → size ≤ at → 0 ≡ size - at
 remaining-none size at h = omega arith

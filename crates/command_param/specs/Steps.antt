@@ -9,8 +9,9 @@ use lib.ListN.{length}
 use Rattle.records.specs.declared.BodyOffset.{BodyOffset}
 use Rattle.command_class.specs.declared.Row.{Row as Line}
 use Rattle.command_lengths.specs.Entries.{earlier}
-use Rattle.command_rules.specs.Lengths.{masked}
+use Rattle.command_rules.specs.Lengths.{masked, wanted, Agrees}
 use Rattle.command_rules.specs.declared.Earlier.{Earlier}
+use Rattle.command_rules.specs.declared.Length.{Length}
 use Rattle.command_rules.specs.declared.Size.the-variants.{Bytes, Missing}
 use Rattle.command_rules.specs.Field.{Field}
 use Rattle.command_rows.specs.Rows.{written}
@@ -23,19 +24,20 @@ use Rattle.command_param.specs.declared.Param.the-variants.{Read, Absent
 abbrev pub bitNumber : ℕ → Line → ℕ
 bitNumber b l = cond (eqb (l .kind) 0x54) (cond (eqb (bitAnd b (l .mask)) 0) 0 1) (masked b (l .mask) (record { 0 = l .shift }))
 
--- a Q that takes `size` bytes is written, its own row as row n
-pub record WritesParam (body : List ℕ) (q : Field) (at size n parent : ℕ) (t t′ : List ℕ) (r : Wrote) : Type 0 where
+-- a Q of this length is written, its own row as row n
+pub record WritesParam (body : List ℕ) (q : Field) (at : ℕ) (size : Length) (n parent : ℕ) (t t′ : List ℕ) (r : Wrote) : Type 0 where
   pub rows : t′ ≡ written t 0 (paramRows body q at size n parent)
   pub count : r .count ≡ length (paramRows body q at size n parent)
-  pub entry : earlier (r .entry) ≡ paramEntry body at size
+  pub entry : earlier (r .entry) ≡ paramEntry body at (size .taken)
 
 module _ (body : List ℕ) (q : Field) (es : List Earlier) (at n parent : ℕ) (t : List ℕ) (k : ℕ) (t′ : List ℕ) where
-  -- a Q is there: where it ends, which entry it is, how many rows it has
+  -- a Q is there: where it ends, that its length agrees with what it wanted (L4), which entry it is, how many rows it has
   pub record IsRead (e : BodyOffset) (x c : ℕ) : Type 0 where
-    pub size : ℕ
+    pub size : Length
     pub there : sizeAt body q es at ≡ Bytes size
-    pub end : e .0 ≡ at + size
-    pub entry : earlier x ≡ paramEntry body at size
+    pub end : e .0 ≡ at + size .taken
+    pub agrees : Agrees (wanted (q .rule) es) size
+    pub entry : earlier x ≡ paramEntry body at (size .taken)
     pub count : c ≡ length (paramRows body q at size n parent)
     pub rows : t′ ≡ written t k (paramRows body q at size n parent)
 

@@ -3,6 +3,7 @@
 use command_class::Row as Line;
 use command_rows::ROW_WIDTH;
 use command_rules::BitShift;
+use command_rules::Length;
 use command_rules::Row;
 use command_rules::Size;
 use command_rules::Uint;
@@ -135,10 +136,17 @@ fn or_zero(value: Uint) -> u64
     }
 }
 
-// The row of a Q that takes these bytes.
-fn param_row(text: &[u8], q: Loaded, bytes: &[u8], start: PayloadOffset, parent: u64) -> Row
+// The row of a Q that takes these bytes and lacks so many more.
+fn param_row(
+    text: &[u8],
+    q: Loaded,
+    bytes: &[u8],
+    start: PayloadOffset,
+    parent: u64,
+    lacking: usize,
+) -> Row
     requires { ⌜ (Stands (now text) q) × (start .0 + length (now bytes) < 2 ^ 63) ⌝ }
-    ensures { λ r. ⌜ r ≡ rowOf (fieldIn (now (text .entry)) q) parent (start .0) (now (bytes .entry)) ⌝ }
+    ensures { λ r. ⌜ r ≡ rowOf (fieldIn (now (text .entry)) q) parent (start .0) (now (bytes .entry)) lacking ⌝ }
 {
     let value = read_uint(bytes);
     Row {
@@ -151,6 +159,7 @@ fn param_row(text: &[u8], q: Loaded, bytes: &[u8], start: PayloadOffset, parent:
         value: or_zero(value),
         named: const_line(text, q, value),
         number: 0,
+        lacking: lacking as u64,
     }
 }
 
@@ -182,6 +191,7 @@ fn bit_row(line: Line, number: usize, b: u16, start: PayloadOffset, parent: u64)
         value: bit_value(line, b),
         named: 0,
         number: 0,
+        lacking: 0,
     }
 }
 
@@ -252,44 +262,45 @@ fn write_children(
     decode_bits(text, q, b, start, parent, &mut rows[rest..])
 }
 
-// Writes the own row of a Q that takes these bytes as row 0. Without room for it, the row is not made.
+// Writes the own row of a Q that takes these bytes and lacks so many more as row 0. Without room for it, the row is not made.
 fn write_own(
     text: &[u8],
     q: Loaded,
     bytes: &[u8],
     start: PayloadOffset,
     parent: u64,
+    lacking: usize,
     rows: &mut [u64],
 )
     requires { ⌜ (Stands (now text) q) × (start .0 + length (now bytes) < 2 ^ 63) ⌝ }
     ensures { λ _. ⌜ now (rows .exit) ≡ written (now (rows .entry)) 0
-        (rowOf (fieldIn (now (text .entry)) q) parent (start .0) (now (bytes .entry)) ∷ []) ⌝ }
+        (rowOf (fieldIn (now (text .entry)) q) parent (start .0) (now (bytes .entry)) lacking ∷ []) ⌝ }
 {
     if rows.len() < ROW_WIDTH {
         return;
     }
-    command_rows::write_row(rows, 0, param_row(text, q, bytes, start, parent));
+    command_rows::write_row(rows, 0, param_row(text, q, bytes, start, parent, lacking));
 }
 
-// Writes a Q that takes `size` bytes. `rows` is the table from its own row on.
+// Writes a Q of this length. `rows` is the table from its own row on.
 fn write_param(
     text: &[u8],
     q: Loaded,
     body: &[u8],
     spot: Spot,
-    size: usize,
+    size: Length,
     rows: &mut [u64],
 ) -> Wrote
-    requires { ⌜ (Stands (now text) q) × (length (now body) < 65536) × (spot .at .0 + size ≤ length (now body)) × (spot .row < 2 ^ 50) ⌝ }
+    requires { ⌜ (Stands (now text) q) × (length (now body) < 65536) × (spot .at .0 + size .taken ≤ length (now body)) × (spot .row < 2 ^ 50) ⌝ }
     ensures { λ r. ⌜ WritesParam (now (body .entry)) (fieldIn (now (text .entry)) q) (spot .at .0) size (spot .row) (spot .parent) (now (rows .entry))
         (now (rows .exit)) r ⌝ }
 {
     let at = spot.at;
     let from = at.0;
-    let end = from + size;
+    let end = from + size.taken;
     let bytes = &body[from..end];
     let start = in_payload(at);
-    write_own(text, q, bytes, start, spot.parent, rows);
+    write_own(text, q, bytes, start, spot.parent, size.lacking, rows);
     let children = write_children(text, q, bytes, start, (spot.row + 1) as u64, rows);
     Wrote {
         entry: entry_of(read_uint(bytes)),
@@ -333,7 +344,7 @@ pub fn decode_param(
     };
     let wrote = write_param(text, q, body, spot, size, rows);
     Param::Read {
-        end: BodyOffset(at.0 + size),
+        end: BodyOffset(at.0 + size.taken),
         entry: wrote.entry,
         count: wrote.count,
     }

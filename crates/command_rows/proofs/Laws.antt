@@ -1,4 +1,4 @@
--- Laws of a command's rows in a table: those of rows of any width, at nine. Assumes nothing.
+-- Laws of a command's rows in a table: those of rows of any width, at ten. Assumes nothing.
 use mathlib.Core.Path.{_≡_, refl, sym, ap}
 use mathlib.Core.List.{List, [], _∷_, _++_, map}
 use Prim.Native.Nat.{ℕ, _+_, _-_, _*_, _/_, _≤_, _<_}

@@ -1,4 +1,4 @@
-// Rows of a command's table: C16 of docs/RULES.md. A function that writes rows is lent the table from its first row on, and
+// Rows of a command's table: C16 and L3 of docs/RULES.md. A function that writes rows is lent the table from its first row on, and
 // hands on the rest as a part; what has no room in its part is counted and not written.
 use command_rules::Row;
 ghost use mathlib.Core.Path.{_≡_};
@@ -7,7 +7,7 @@ ghost use Prim.Native.Nat.{_≤_, _<_, _^_};
 ghost use Rattle.command_rows.specs.Rows.{written, rowAt};
 ghost use Rattle.command_rules.specs.Rows.{numbers};
 
-// The columns of a row: C16 of docs/RULES.md.
+// The columns of a row: C16 and L3 of docs/RULES.md.
 pub const KIND: usize = 0;
 
 pub const LINE: usize = 1;
@@ -26,8 +26,10 @@ pub const NAMED: usize = 7;
 
 pub const NUMBER: usize = 8;
 
+pub const LACKING: usize = 9;
+
 // The numbers of a row.
-pub const ROW_WIDTH: usize = NUMBER + 1;
+pub const ROW_WIDTH: usize = LACKING + 1;
 
 fn numbers_of(row: Row) -> [u64; ROW_WIDTH]
     ensures { λ r. ⌜ r ≡ numbers row ⌝ }
@@ -42,6 +44,7 @@ fn numbers_of(row: Row) -> [u64; ROW_WIDTH]
         row.value,
         row.named,
         row.number,
+        row.lacking,
     ]
 }
 

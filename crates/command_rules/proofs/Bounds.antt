@@ -11,6 +11,7 @@ use Rattle.command_class.specs.Definition.{Parameter, Entry, single, repeated}
 use Rattle.command_rules.specs.Lengths.{repeats}
 use Rattle.command_rules.specs.declared.Earlier.{Earlier}
 use Rattle.command_rules.specs.declared.Earlier.the-variants.{NoValue}
+use Rattle.command_rules.specs.declared.Length.{Length}
 use Rattle.command_rules.specs.declared.Size.{Size}
 use Rattle.command_rules.specs.declared.Size.the-variants.{Bytes, Missing}
 use Rattle.command_rules.proofs.Lengths.{size-within, size-some}
@@ -30,16 +31,17 @@ stays : (b size at : ℕ) → Bound b size at (ended at)
 stays b size at = record { forward = omega arith; inside = omega arith; few = omega arith }
 
 -- what a Q takes, and how many rows it has
-pub size-facts : (body : List ℕ) (q : Field) (es : List Earlier) (at n : ℕ) → sizeAt body q es at ≡ Bytes n → (0 < n) × (n ≤ length body - at)
-size-facts body q es at n e =
-    (size-some (q .offset) (q .mask) (q .rule) es (length body - at) n e, size-within (q .offset) (q .mask) (q .rule) es (length body - at) n e)
+pub size-facts : (body : List ℕ) (q : Field) (es : List Earlier) (at : ℕ) (l : Length) → sizeAt body q es at ≡ Bytes l
+    → (0 < l .taken) × (l .taken ≤ length body - at)
+size-facts body q es at l e =
+    (size-some (q .offset) (q .mask) (q .rule) es (length body - at) l e, size-within (q .offset) (q .mask) (q .rule) es (length body - at) l e)
 
-params-few : (body : List ℕ) (q : Parameter) (at size n parent : ℕ) → Small q → length (paramRows body (fieldOf q) at size n parent) ≤ 33
+params-few : (body : List ℕ) (q : Parameter) (at : ℕ) (size : Length) (n parent : ℕ) → Small q → length (paramRows body (fieldOf q) at size n parent) ≤ 33
 unfolding paramRows
-params-few body q at size n parent small = go (eqb (length (bytesAt body at size)) 1)
+params-few body q at size n parent small = go (eqb (length (bytesAt body at (size .taken))) 1)
   where
-    go : (x : Bool) → suc (length (cond x (bitRows (getD (bytesAt body at size) 0 0) (n + 1) (inPayload at) (q .items)) [])) ≤ 33
-    go true = omega (arith, bits-count (getD (bytesAt body at size) 0 0) (n + 1) (inPayload at) (q .items))
+    go : (x : Bool) → suc (length (cond x (bitRows (getD (bytesAt body at (size .taken)) 0 0) (n + 1) (inPayload at) (q .items)) [])) ≤ 33
+    go true = omega (arith, bits-count (getD (bytesAt body at (size .taken)) 0 0) (n + 1) (inPayload at) (q .items))
     go false = omega arith
 
 pub members-bound : (body : List ℕ) (qs : List Parameter) (at : ℕ) (es : List Earlier) (n parent : ℕ) → SmallAll qs
@@ -47,17 +49,17 @@ pub members-bound : (body : List ℕ) (qs : List Parameter) (at : ℕ) (es : Lis
 unfolding members SmallAll
 members-bound body [] at es n parent small = stays 33 (length body) at
 members-bound body (q ∷ qs) at es n parent small =
-    go (sizeAt body (fieldOf q) es at) refl (λ size. members-bound body qs (at + size) (es ++ (paramEntry body at size ∷ []))
+    go (sizeAt body (fieldOf q) es at) refl (λ size. members-bound body qs (at + size .taken) (es ++ (paramEntry body at (size .taken) ∷ []))
     (n + length (paramRows body (fieldOf q) at size n parent)) parent (small .1))
   where
     go : (s : Size) → sizeAt body (fieldOf q) es at ≡ s
-        → ((size : ℕ) → Bound 33 (length body) (at + size)
-        (members body qs (at + size) (es ++ (paramEntry body at size ∷ [])) (n + length (paramRows body (fieldOf q) at size n parent)) parent))
+        → ((size : Length) → Bound 33 (length body) (at + size .taken)
+        (members body qs (at + size .taken) (es ++ (paramEntry body at (size .taken) ∷ [])) (n + length (paramRows body (fieldOf q) at size n parent)) parent))
         → Bound 33 (length body) at
         (onSize s
         (λ size.
         after (paramRows body (fieldOf q) at size n parent)
-        (members body qs (at + size) (es ++ (paramEntry body at size ∷ [])) (n + length (paramRows body (fieldOf q) at size n parent)) parent))
+        (members body qs (at + size .taken) (es ++ (paramEntry body at (size .taken) ∷ [])) (n + length (paramRows body (fieldOf q) at size n parent)) parent))
         (ended at))
     go (Bytes size) e more =
         let f = size-facts body (fieldOf q) es at size e in
@@ -116,14 +118,14 @@ outer-bound body (single q ∷ ds) at es n small =
         (onSize s
         (λ size.
         after (paramRows body (fieldOf q) at size n 0)
-        (outer body ds (at + size) (es ++ (paramEntry body at size ∷ [])) (n + length (paramRows body (fieldOf q) at size n 0))))
+        (outer body ds (at + size .taken) (es ++ (paramEntry body at (size .taken) ∷ [])) (n + length (paramRows body (fieldOf q) at size n 0))))
         (outer body ds at es n))
     go (Bytes size) e more =
         let f = size-facts body (fieldOf q) es at size e in
         let f0 = f .0 in
         let f1 = f .1 in
         let p = params-few body q at size n 0 (small .0) in
-        let r = more (at + size) (es ++ (paramEntry body at size ∷ [])) (n + length (paramRows body (fieldOf q) at size n 0)) in
+        let r = more (at + size .taken) (es ++ (paramEntry body at (size .taken) ∷ [])) (n + length (paramRows body (fieldOf q) at size n 0)) in
         let g0 = r .forward in
         let g1 = r .inside in
         let g2 = r .few in

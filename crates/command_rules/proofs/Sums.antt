@@ -14,6 +14,7 @@ use Rattle.command_class.specs.Definition.{Item, Parameter, Entry, single, repe
 use Rattle.command_rules.specs.Lengths.{repeats}
 use Rattle.command_rules.specs.declared.Earlier.{Earlier}
 use Rattle.command_rules.specs.declared.Earlier.the-variants.{NoValue}
+use Rattle.command_rules.specs.declared.Length.{Length}
 use Rattle.command_rules.specs.declared.Size.{Size}
 use Rattle.command_rules.specs.declared.Size.the-variants.{Bytes, Missing}
 use Rattle.command_rules.specs.Field.{Field, fieldOf}
@@ -21,7 +22,8 @@ use Rattle.command_rules.specs.Limits.{SmallEntries}
 use Rattle.command_rules.specs.declared.Row.{Row}
 use Rattle.command_rules.specs.Param.{inPayload, bitValue, bitOnto, bitRows, rowOf, bytesAt, sizeAt, paramRows, paramEntry}
 use Rattle.command_rules.specs.Walk.{Walked, ended, after, once, onSize, members, turn, repetitionRow, repetitions, groupAt, outer, walk}
-use Rattle.command_rules.specs.Sum.{childrenOf, Follow, bytes, AllParams, OnByte, Inside, Placed, Adds}
+use Rattle.command_rules.specs.Sum.{childrenOf, Follow, bytes, AllParams, OnByte, Inside, Placed, CutAtEnd, Adds}
+use Rattle.command_rules.proofs.Lengths.{size-all}
 use Rattle.command_rules.proofs.Bounds.{size-facts, walk-inside}
 
 -- ---- children of rows that stand together
@@ -119,35 +121,35 @@ record Shape (rs : List Row) (at size n parent : ℕ) : Type 0 where
   leaves : Leaves (n + 1) (inPayload at) kids
   on : OnByte row kids
 
-shape : (body : List ℕ) (q : Field) (es : List Earlier) (at size n parent : ℕ) → sizeAt body q es at ≡ Bytes size
-    → Shape (paramRows body q at size n parent) at size n parent
+shape : (body : List ℕ) (q : Field) (es : List Earlier) (at : ℕ) (size : Length) (n parent : ℕ) → sizeAt body q es at ≡ Bytes size
+    → Shape (paramRows body q at size n parent) at (size .taken) n parent
 unfolding paramRows
-shape body q es at size n parent there = go (eqb (length (bytesAt body at size)) 1) refl
+shape body q es at size n parent there = go (eqb (length (bytesAt body at (size .taken))) 1) refl
   where
-    long : length (bytesAt body at size) ≡ size
-    long = let f = size-facts body q es at size there in let f1 = f .1 in length-take-le size (drop at body) (rw length-drop f1)
+    long : length (bytesAt body at (size .taken)) ≡ size .taken
+    long = let f = size-facts body q es at size there in let f1 = f .1 in length-take-le (size .taken) (drop at body) (rw length-drop f1)
 
-    go : (x : Bool) → eqb (length (bytesAt body at size)) 1 ≡ x
-        → Shape (rowOf q parent (inPayload at) (bytesAt body at size) ∷ cond x
-        (bitRows (getD (bytesAt body at size) 0 0) (n + 1) (inPayload at) (q .items)) []) at size n parent
+    go : (x : Bool) → eqb (length (bytesAt body at (size .taken))) 1 ≡ x
+        → Shape (rowOf q parent (inPayload at) (bytesAt body at (size .taken)) (size .lacking) ∷ cond x
+        (bitRows (getD (bytesAt body at (size .taken)) 0 0) (n + 1) (inPayload at) (q .items)) []) at (size .taken) n parent
     go true e =
-        let kids-are = bits-leaves (getD (bytesAt body at size) 0 0) (n + 1) (inPayload at) (q .items) in
-        let one : length (bytesAt body at size) ≡ 1 = eqb-true (length (bytesAt body at size)) 1 e in
+        let kids-are = bits-leaves (getD (bytesAt body at (size .taken)) 0 0) (n + 1) (inPayload at) (q .items) in
+        let one : length (bytesAt body at (size .taken)) ≡ 1 = eqb-true (length (bytesAt body at (size .taken))) 1 e in
         record {
-          row = rowOf q parent (inPayload at) (bytesAt body at size);
-          kids = bitRows (getD (bytesAt body at size) 0 0) (n + 1) (inPayload at) (q .items);
+          row = rowOf q parent (inPayload at) (bytesAt body at (size .taken)) (size .lacking);
+          kids = bitRows (getD (bytesAt body at (size .taken)) 0 0) (n + 1) (inPayload at) (q .items);
           is = refl;
           kind = refl;
           parent-is = refl;
           start = refl;
           end = omega (arith, long);
           leaves = kids-are;
-          on = leaves-on (n + 1) (inPayload at) (bitRows (getD (bytesAt body at size) 0 0) (n + 1) (inPayload at) (q .items))
-              (rowOf q parent (inPayload at) (bytesAt body at size)) kids-are refl (ap (λ (x : ℕ). inPayload at + x) one);
+          on = leaves-on (n + 1) (inPayload at) (bitRows (getD (bytesAt body at (size .taken)) 0 0) (n + 1) (inPayload at) (q .items))
+              (rowOf q parent (inPayload at) (bytesAt body at (size .taken)) (size .lacking)) kids-are refl (ap (λ (x : ℕ). inPayload at + x) one);
         }
     go false e =
         record {
-          row = rowOf q parent (inPayload at) (bytesAt body at size);
+          row = rowOf q parent (inPayload at) (bytesAt body at (size .taken)) (size .lacking);
           kids = [];
           is = refl;
           kind = refl;
@@ -155,7 +157,7 @@ shape body q es at size n parent there = go (eqb (length (bytesAt body at size))
           start = refl;
           end = omega (arith, long);
           leaves = no-leaves (n + 1) (inPayload at);
-          on = no-kids (rowOf q parent (inPayload at) (bytesAt body at size));
+          on = no-kids (rowOf q parent (inPayload at) (bytesAt body at (size .taken)) (size .lacking));
         }
 
 module _ (rs : List Row) (at size n parent : ℕ) (w : Shape rs at size n parent) where
@@ -232,21 +234,21 @@ inner-members : (body : List ℕ) (qs : List Parameter) (at : ℕ) (es : List Ea
 unfolding members
 inner-members body [] at es n parent = inner-end at n parent
 inner-members body (q ∷ qs) at es n parent =
-    go (sizeAt body (fieldOf q) es at) refl (λ size. inner-members body qs (at + size) (es ++ (paramEntry body at size ∷ []))
+    go (sizeAt body (fieldOf q) es at) refl (λ size. inner-members body qs (at + size .taken) (es ++ (paramEntry body at (size .taken) ∷ []))
     (n + length (paramRows body (fieldOf q) at size n parent)) parent)
   where
     go : (s : Size) → sizeAt body (fieldOf q) es at ≡ s
-        → ((size : ℕ) → Inner (members body qs (at + size) (es ++ (paramEntry body at size ∷ []))
-        (n + length (paramRows body (fieldOf q) at size n parent)) parent) (at + size) (n + length (paramRows body (fieldOf q) at size n parent)) parent)
+        → ((size : Length) → Inner (members body qs (at + size .taken) (es ++ (paramEntry body at (size .taken) ∷ []))
+        (n + length (paramRows body (fieldOf q) at size n parent)) parent) (at + size .taken) (n + length (paramRows body (fieldOf q) at size n parent)) parent)
         → Inner
         (onSize s
         (λ size.
         after (paramRows body (fieldOf q) at size n parent)
-        (members body qs (at + size) (es ++ (paramEntry body at size ∷ [])) (n + length (paramRows body (fieldOf q) at size n parent)) parent))
+        (members body qs (at + size .taken) (es ++ (paramEntry body at (size .taken) ∷ [])) (n + length (paramRows body (fieldOf q) at size n parent)) parent))
         (ended at))
         at n parent
     go (Bytes size) e more =
-        inner-more (paramRows body (fieldOf q) at size n parent) at size n parent _ (shape body (fieldOf q) es at size n parent e)
+        inner-more (paramRows body (fieldOf q) at size n parent) at (size .taken) n parent _ (shape body (fieldOf q) es at size n parent e)
         (size-facts body (fieldOf q) es at size e .0) (more size)
     go Missing e more = inner-end at n parent
 
@@ -299,6 +301,7 @@ module _ (line k at n : ℕ) (m : Walked) (inside : Inner m at (n + 1) (n + 1)) 
         0;
     named = 0;
     number = k;
+    lacking = 0;
   } ∷ l) (inside .none-other 0 (λ z. omega arith) (omega arith))
 
   repetition-follow : Follow (inPayload at) (repetitionRow line at (m .end) k ∷ []) (inPayload (m .end))
@@ -382,13 +385,13 @@ outermost body (single q ∷ ds) at es n = go (sizeAt body (fieldOf q) es at) re
         (onSize s
         (λ size.
         after (paramRows body (fieldOf q) at size n 0)
-        (outer body ds (at + size) (es ++ (paramEntry body at size ∷ [])) (n + length (paramRows body (fieldOf q) at size n 0))))
+        (outer body ds (at + size .taken) (es ++ (paramEntry body at (size .taken) ∷ [])) (n + length (paramRows body (fieldOf q) at size n 0))))
         (outer body ds at es n))
         at n
     go (Bytes size) e more =
-        outermost-param (paramRows body (fieldOf q) at size n 0) at size n _ (shape body (fieldOf q) es at size n 0 e)
+        outermost-param (paramRows body (fieldOf q) at size n 0) at (size .taken) n _ (shape body (fieldOf q) es at size n 0 e)
         (size-facts body (fieldOf q) es at size e .0)
-        (more (at + size) (es ++ (paramEntry body at size ∷ [])) (n + length (paramRows body (fieldOf q) at size n 0)))
+        (more (at + size .taken) (es ++ (paramEntry body at (size .taken) ∷ [])) (n + length (paramRows body (fieldOf q) at size n 0)))
     go Missing e more = more at es n
 outermost body (repeated line g qs ∷ ds) at es n =
     go (repetitions body line qs (repeats (g .offset) (g .mask) (record { 0 = g .shift }) es (length body - at)) 0 at n)
@@ -399,6 +402,110 @@ outermost body (repeated line g qs ∷ ds) at es n =
         → Outermost (after (w .rows) (outer body ds (w .end) (es ++ replicate (w .times) NoValue) (n + length (w .rows)))) at n
     go w o more = outermost-group w _ at n o (more (w .end) (es ++ replicate (w .times) NoValue) (n + length (w .rows)))
 
+-- ---- what a row lacks
+cut-append : (size : ℕ) (a b : List Row) → CutAtEnd size a → CutAtEnd size b → CutAtEnd size (a ++ b)
+unfolding CutAtEnd
+cut-append size [] b h k = k
+cut-append size (r ∷ a) b h k = (h .0, cut-append size a b (h .1) k)
+
+cut-none : (size : ℕ) → CutAtEnd size []
+unfolding CutAtEnd
+cut-none size = tt
+
+cut-bits : (size b p s : ℕ) (is : List Item) → CutAtEnd size (bitRows b p s is)
+unfolding CutAtEnd bitRows
+cut-bits size b p s [] = tt
+cut-bits size b p s (i ∷ is) = go (bitValue b (i .says)) (cut-bits size b p s is)
+  where
+    go : (v : Option ℕ) → CutAtEnd size (bitRows b p s is) → CutAtEnd size (bitOnto (i .line) p s v (bitRows b p s is))
+    go none ih = ih
+    go (some v) ih = (λ h. absurd (omega arith), ih)
+
+cut-param : (body : List ℕ) (q : Field) (es : List Earlier) (at : ℕ) (size : Length) (n parent : ℕ) → sizeAt body q es at ≡ Bytes size
+    → CutAtEnd (2 + length body) (paramRows body q at size n parent)
+unfolding CutAtEnd paramRows
+cut-param body q es at size n parent there = (own, kids (eqb (length (bytesAt body at (size .taken))) 1))
+  where
+    own : 0 < size .lacking → (_≡_ {A = ℕ} 0 0) × (inPayload at + length (bytesAt body at (size .taken)) ≡ 2 + length body)
+    own h =
+        let f = size-facts body q es at size there in
+        let f0 = f .0 in
+        let f1 = f .1 in
+        let all = size-all (q .offset) (q .mask) (q .rule) es (length body - at) size there h in
+        let long : length (bytesAt body at (size .taken)) ≡ size .taken = length-take-le (size .taken) (drop at body) (rw length-drop f1) in
+        (refl, omega arith)
+
+    kids : (x : Bool) → CutAtEnd (2 + length body) (cond x (bitRows (getD (bytesAt body at (size .taken)) 0 0) (n + 1) (inPayload at) (q .items)) [])
+    kids true = cut-bits (2 + length body) (getD (bytesAt body at (size .taken)) 0 0) (n + 1) (inPayload at) (q .items)
+    kids false = cut-none (2 + length body)
+
+cut-members : (body : List ℕ) (qs : List Parameter) (at : ℕ) (es : List Earlier) (n parent : ℕ)
+    → CutAtEnd (2 + length body) (members body qs at es n parent .rows)
+unfolding members
+cut-members body [] at es n parent = cut-none (2 + length body)
+cut-members body (q ∷ qs) at es n parent =
+    go (sizeAt body (fieldOf q) es at) refl (λ at′ es′ n′. cut-members body qs at′ es′ n′ parent)
+  where
+    go : (s : Size) → sizeAt body (fieldOf q) es at ≡ s
+        → ((at′ : ℕ) (es′ : List Earlier) (n′ : ℕ) → CutAtEnd (2 + length body) (members body qs at′ es′ n′ parent .rows))
+        → CutAtEnd (2 + length body)
+        (onSize s
+        (λ size.
+        after (paramRows body (fieldOf q) at size n parent)
+        (members body qs (at + size .taken) (es ++ (paramEntry body at (size .taken) ∷ []))
+        (n + length (paramRows body (fieldOf q) at size n parent)) parent))
+        (ended at) .rows)
+    go (Bytes size) e more =
+        cut-append (2 + length body) (paramRows body (fieldOf q) at size n parent) _ (cut-param body (fieldOf q) es at size n parent e)
+        (more (at + size .taken) (es ++ (paramEntry body at (size .taken) ∷ [])) (n + length (paramRows body (fieldOf q) at size n parent)))
+    go Missing e more = cut-none (2 + length body)
+
+cut-repetition : (size line at end k : ℕ) (rs : List Row) → CutAtEnd size rs → CutAtEnd size (repetitionRow line at end k ∷ rs)
+unfolding CutAtEnd repetitionRow
+cut-repetition size line at end k rs h = (λ z. absurd (omega arith), h)
+
+cut-repetitions : (body : List ℕ) (line : ℕ) (qs : List Parameter) (most k at n : ℕ)
+    → CutAtEnd (2 + length body) (repetitions body line qs most k at n .rows)
+unfolding repetitions turn
+cut-repetitions body line qs zero k at n = cut-none (2 + length body)
+cut-repetitions body line qs (suc most) k at n =
+    go (members body qs at [] (n + 1) (n + 1)) (cut-members body qs at [] (n + 1) (n + 1))
+    (λ m. cut-repetitions body line qs most (k + 1) (m .end) (n + 1 + length (m .rows)))
+  where
+    go : (m : Walked) → CutAtEnd (2 + length body) (m .rows)
+        → ((m : Walked) → CutAtEnd (2 + length body) (repetitions body line qs most (k + 1) (m .end) (n + 1 + length (m .rows)) .rows))
+        → CutAtEnd (2 + length body) (cond (ltb at (m .end)) (after (repetitionRow line at (m .end) k ∷ m .rows)
+        (once (repetitions body line qs most (k + 1) (m .end) (n + 1 + length (m .rows))))) (ended at) .rows)
+    go m h more = by (ltb at (m .end))
+      where
+        by : (x : Bool) → CutAtEnd (2 + length body) (cond x (after (repetitionRow line at (m .end) k ∷ m .rows)
+            (once (repetitions body line qs most (k + 1) (m .end) (n + 1 + length (m .rows))))) (ended at) .rows)
+        by true = cut-append (2 + length body) (repetitionRow line at (m .end) k ∷ m .rows) _ (cut-repetition (2 + length body) line at (m .end) k (m .rows) h) (more m)
+        by false = cut-none (2 + length body)
+
+cut-outer : (body : List ℕ) (ds : List Entry) (at : ℕ) (es : List Earlier) (n : ℕ) → CutAtEnd (2 + length body) (outer body ds at es n .rows)
+unfolding outer groupAt
+cut-outer body [] at es n = cut-none (2 + length body)
+cut-outer body (single q ∷ ds) at es n = go (sizeAt body (fieldOf q) es at) refl (λ at′ es′ n′. cut-outer body ds at′ es′ n′)
+  where
+    go : (s : Size) → sizeAt body (fieldOf q) es at ≡ s
+        → ((at′ : ℕ) (es′ : List Earlier) (n′ : ℕ) → CutAtEnd (2 + length body) (outer body ds at′ es′ n′ .rows))
+        → CutAtEnd (2 + length body)
+        (onSize s
+        (λ size.
+        after (paramRows body (fieldOf q) at size n 0)
+        (outer body ds (at + size .taken) (es ++ (paramEntry body at (size .taken) ∷ [])) (n + length (paramRows body (fieldOf q) at size n 0))))
+        (outer body ds at es n) .rows)
+    go (Bytes size) e more =
+        cut-append (2 + length body) (paramRows body (fieldOf q) at size n 0) _ (cut-param body (fieldOf q) es at size n 0 e)
+        (more (at + size .taken) (es ++ (paramEntry body at (size .taken) ∷ [])) (n + length (paramRows body (fieldOf q) at size n 0)))
+    go Missing e more = more at es n
+cut-outer body (repeated line g qs ∷ ds) at es n =
+    cut-append (2 + length body) (groupAt body line g qs es at n .rows) _
+    (cut-repetitions body line qs (repeats (g .offset) (g .mask) (record { 0 = g .shift }) es (length body - at)) 0 at n)
+    (cut-outer body ds (groupAt body line g qs es at n .end) (es ++ replicate (groupAt body line g qs es at n .times) NoValue)
+    (n + length (groupAt body line g qs es at n .rows)))
+
 -- ---- the whole command
 pub walk-adds : (body : List ℕ) (ds : List Entry) (size : ℕ) → SmallEntries ds → size ≡ 2 + length body
     → Adds size (walk body ds .rows) (inPayload (walk body ds .end))
@@ -408,4 +515,4 @@ walk-adds body ds size small is =
     let inside = walk-inside body ds small in
     let f : Follow 2 (childrenOf 0 (outer body ds 0 [] 0 .rows)) (inPayload (outer body ds 0 [] 0 .end)) = o .follow in
     let s = follow-sum 2 (inPayload (outer body ds 0 [] 0 .end)) (childrenOf 0 (outer body ds 0 [] 0 .rows)) f in
-    record { follow = f; sum = omega arith; placed = rw append-nil at (o .placed [] (λ c u v. refl) tt) }
+    record { follow = f; sum = omega arith; placed = rw append-nil at (o .placed [] (λ c u v. refl) tt); cut = rw is (cut-outer body ds 0 [] 0) }

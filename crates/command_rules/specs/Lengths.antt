@@ -1,5 +1,6 @@
--- C2, C3, C6 to C8 and C13 (docs/RULES.md): whether a Q exists, how many bytes it takes, and how often a group repeats.
-use Prim.Native.Nat.{ℕ, _/_, _^_}
+-- C2, C3, C6 to C8, C13, L1 and L2 (docs/RULES.md): whether a Q exists, how many bytes it takes and lacks, and how often a group repeats.
+use Prim.Native.Nat.{ℕ, _+_, _-_, _/_, _^_}
+use mathlib.Core.Path.{_≡_}
 use mathlib.Core.Bool.{Bool, true, false, cond, not, _&&_, _||_}
 use mathlib.Core.List.{List}
 use mathlib.Core.Option.{Option, none, some}
@@ -13,6 +14,7 @@ use Rattle.command_rules.specs.declared.Rule.{Rule}
 use Rattle.command_rules.specs.declared.Rule.the-variants.{Fixed, Open, Counted}
 use Rattle.command_rules.specs.declared.Wanted.{Wanted}
 use Rattle.command_rules.specs.declared.Wanted.the-variants.{Exactly, Rest}
+use Rattle.command_rules.specs.declared.Length.{Length}
 use Rattle.command_rules.specs.declared.Size.{Size}
 use Rattle.command_rules.specs.declared.Size.the-variants.{Bytes, Missing}
 
@@ -46,7 +48,7 @@ byEntry mask shift (Value b) = Exactly (masked b mask shift)
 byEntry mask shift NoValue = Exactly (masked 0 mask shift)
 byEntry mask shift NoEntry = Rest
 
--- C4 to C6: how many bytes a Q wants, by what its lines say of its length and by the entries
+-- C4 to C6, L1: how many bytes a Q wants, by what its lines say of its length and by the entries
 abbrev pub wanted : Rule → List Earlier → Wanted
 wanted (Fixed n) es = Exactly n
 wanted Open es = Rest
@@ -55,18 +57,23 @@ wanted (Counted k mask shift) es = byEntry mask shift (entryAt es k)
 abbrev pub least : ℕ → ℕ → ℕ
 least a b = cond (leb a b) a b
 
--- C7: the length, if so many bytes are left
-abbrev pub cut : Wanted → ℕ → ℕ
-cut (Exactly n) rest = least n rest
-cut Rest rest = rest
+-- C7, L2: the length, if so many bytes are left; the rest lacks nothing
+abbrev pub cut : Wanted → ℕ → Length
+cut (Exactly n) rest = record { taken = least n rest; lacking = n - least n rest }
+cut Rest rest = record { taken = rest; lacking = 0 }
 
 -- C8: does a Q exist
 abbrev pub exists : Option ℕ → Option ℕ → Rule → List Earlier → ℕ → Bool
-exists offset mask rule es rest = ltb 0 rest && (holds offset mask es && not (eqb (cut (wanted rule es) rest) 0))
+exists offset mask rule es rest = ltb 0 rest && (holds offset mask es && not (eqb (cut (wanted rule es) rest .taken) 0))
 
--- C8: the bytes that it takes of those that are left
+-- C8: its length, of those that are left
 unfoldable pub sizeOf : Option ℕ → Option ℕ → Rule → List Earlier → ℕ → Size
 sizeOf offset mask rule es rest = cond (exists offset mask rule es rest) (Bytes (cut (wanted rule es) rest)) Missing
+
+-- L4: a length agrees with what was wanted
+abbrev pub Agrees : Wanted → Length → Type 0
+Agrees (Exactly n) l = l .taken + l .lacking ≡ n
+Agrees Rest l = l .lacking ≡ 0
 
 -- ---- groups
 

@@ -1,4 +1,4 @@
--- C1, C10 to C12 and C16 (docs/RULES.md): a Q that exists: its value, its row, its bit children.
+-- C1, C10 to C12, C16 and L3 (docs/RULES.md): a Q that exists: its value, its row, its bit children.
 use mathlib.Core.Bool.{cond, _&&_}
 use mathlib.Core.List.{List, [], _∷_}
 use mathlib.Core.Option.{Option, none, some}
@@ -11,6 +11,7 @@ use Rattle.command_class.specs.Definition.{Item, firstConst}
 use Rattle.command_rules.specs.Lengths.{masked, sizeOf}
 use Rattle.command_rules.specs.declared.Earlier.{Earlier}
 use Rattle.command_rules.specs.declared.Earlier.the-variants.{Value, NoValue}
+use Rattle.command_rules.specs.declared.Length.{Length}
 use Rattle.command_rules.specs.declared.Size.{Size}
 use Rattle.command_rules.specs.Field.{Field}
 use Rattle.command_rules.specs.declared.Row.{Row}
@@ -68,7 +69,7 @@ bitValue b (bitmask length) = none
 -- C16: the row of a bit child
 abbrev pub bitRow : ℕ → ℕ → ℕ → ℕ → Row
 bitRow line parent start v =
-    record { kind = 1; line = line; parent = parent; start = start; end = start + 1; valued = 1; value = v; named = 0; number = 0 }
+    record { kind = 1; line = line; parent = parent; start = start; end = start + 1; valued = 1; value = v; named = 0; number = 0; lacking = 0 }
 
 -- its row, if a line has one, in front of others
 abbrev pub bitOnto : ℕ → ℕ → ℕ → Option ℕ → List Row → List Row
@@ -86,9 +87,9 @@ childRows q parent start bs = cond (eqb (length bs) 1) (bitRows (getD bs 0 0) pa
 
 -- ---- rows
 
--- C16: the row of a Q that takes the bytes bs
-abbrev pub rowOf : Field → ℕ → ℕ → List ℕ → Row
-rowOf q parent start bs =
+-- C16, L3: the row of a Q that takes the bytes bs and lacks so many more
+abbrev pub rowOf : Field → ℕ → ℕ → List ℕ → ℕ → Row
+rowOf q parent start bs lacking =
     record {
       kind = 0;
       line = q .line;
@@ -99,20 +100,22 @@ rowOf q parent start bs =
       value = orZero (valueOf bs);
       named = constLine q (valueOf bs);
       number = 0;
+      lacking = lacking;
     }
 
 -- the bytes of a body from a place on
 abbrev pub bytesAt : List ℕ → ℕ → ℕ → List ℕ
 bytesAt body at n = take n (drop at body)
 
--- the bytes that a Q takes at a place of the body, if it exists there, after these entries
+-- the length of a Q at a place of the body, if it exists there, after these entries
 abbrev pub sizeAt : List ℕ → Field → List Earlier → ℕ → Size
 sizeAt body q es at = sizeOf (q .offset) (q .mask) (q .rule) es (length body - at)
 
--- C17: the rows of a Q whose own is row n, and which takes `size` bytes at a place of the body
-unfoldable pub paramRows : List ℕ → Field → ℕ → ℕ → ℕ → ℕ → List Row
+-- C17: the rows of a Q whose own is row n, and which has this length at a place of the body
+unfoldable pub paramRows : List ℕ → Field → ℕ → Length → ℕ → ℕ → List Row
 paramRows body q at size n parent =
-    rowOf q parent (inPayload at) (bytesAt body at size) ∷ childRows q (n + 1) (inPayload at) (bytesAt body at size)
+    rowOf q parent (inPayload at) (bytesAt body at (size .taken)) (size .lacking)
+    ∷ childRows q (n + 1) (inPayload at) (bytesAt body at (size .taken))
 
 -- the entry that it is
 unfoldable pub paramEntry : List ℕ → ℕ → ℕ → Earlier

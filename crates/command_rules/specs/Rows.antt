@@ -1,5 +1,5 @@
--- C16 (docs/RULES.md): the rows of a command's table.
-use mathlib.Core.List.{List, _∷_, [], map}
+-- C16 and L3 (docs/RULES.md): the rows of a command's table.
+use mathlib.Core.List.{List, _∷_, [], _++_, map}
 use Prim.Native.Nat.{ℕ, zero, suc}
 use lib.ListN.{drop, getD}
 use Rattle.rows.specs.Rows.{laid}
@@ -7,11 +7,15 @@ use Rattle.command_rules.specs.declared.Row.{Row}
 
 -- the numbers of a row
 abbrev pub rowWidth : ℕ
-rowWidth = 9
+rowWidth = 10
 
--- C16: the nine numbers, in their order
+-- C16: the nine numbers that zniff-rs gives, in their order
+abbrev pub nine : Row → List ℕ
+nine r = r .kind ∷ r .line ∷ r .parent ∷ r .start ∷ r .end ∷ r .valued ∷ r .value ∷ r .named ∷ r .number ∷ []
+
+-- C16, L3: and the tenth behind them
 abbrev pub numbers : Row → List ℕ
-numbers r = r .kind ∷ r .line ∷ r .parent ∷ r .start ∷ r .end ∷ r .valued ∷ r .value ∷ r .named ∷ r .number ∷ []
+numbers r = nine r ++ (r .lacking ∷ [])
 
 -- R12: the table whose first rows are these, and behind them what stood there
 unfoldable pub table : List ℕ → List Row → List ℕ
@@ -32,6 +36,7 @@ firstRow t =
       value = getD t 6 0;
       named = getD t 7 0;
       number = getD t 8 0;
+      lacking = getD t 9 0;
     }
 
 -- C17: the rows that stand in a table, the first so many

@@ -1,4 +1,4 @@
--- C19 (docs/RULES.md): each byte of an answered command stands in one outer row or in the remainder, and each row lies where its parent does.
+-- C19 and L4 (docs/RULES.md): each byte of an answered command stands in one outer row or in the remainder, and each row lies where its parent does.
 use mathlib.Core.Bool.{cond}
 use mathlib.Core.Path.{_≡_}
 use mathlib.Core.List.{List, [], _∷_}
@@ -42,8 +42,14 @@ unfoldable pub Placed : ℕ → List Row → Type 0
 Placed n [] = Unit {0}
 Placed n (r ∷ rs) = (r .parent ≤ n) × Inside (r .kind) r (childrenOf (n + 1) rs) × Placed (n + 1) rs
 
+-- L4: only a parameter lacks bytes, and only one that ends with the command
+unfoldable pub CutAtEnd : ℕ → List Row → Type 0
+CutAtEnd size [] = Unit {0}
+CutAtEnd size (r ∷ rs) = (0 < r .lacking → (r .kind ≡ 0) × (r .end ≡ size)) × CutAtEnd size rs
+
 -- C19, demand 3: the outer rows follow one another from the body's start to the remainder, and all bytes add up
 pub record Adds (size : ℕ) (rows : List Row) (remainder : ℕ) : Type 0 where
   pub follow : Follow 2 (childrenOf 0 rows) remainder
   pub sum : bytes (childrenOf 0 rows) + (size - remainder) ≡ size - 2
   pub placed : Placed 0 rows
+  pub cut : CutAtEnd size rows

@@ -9,6 +9,7 @@ use Rattle.command_class.specs.Definition.{Parameter, Entry, single, repeated}
 use Rattle.command_rules.specs.Lengths.{repeats}
 use Rattle.command_rules.specs.declared.Earlier.{Earlier}
 use Rattle.command_rules.specs.declared.Earlier.the-variants.{NoValue}
+use Rattle.command_rules.specs.declared.Length.{Length}
 use Rattle.command_rules.specs.declared.Size.{Size}
 use Rattle.command_rules.specs.declared.Size.the-variants.{Bytes, Missing}
 use Rattle.command_rules.specs.Field.{fieldOf}
@@ -34,7 +35,7 @@ abbrev pub once : Walked → Walked
 once w = record { rows = w .rows; end = w .end; times = w .times + 1 }
 
 -- by whether a Q exists
-abbrev pub onSize : {A : Type 0} → Size → (ℕ → A) → A → A
+abbrev pub onSize : {A : Type 0} → Size → (Length → A) → A → A
 onSize (Bytes n) f a = f n
 onSize Missing f a = a
 
@@ -46,17 +47,17 @@ members body (q ∷ qs) at es n parent =
     onSize (sizeAt body (fieldOf q) es at)
     (λ size.
     after (paramRows body (fieldOf q) at size n parent)
-    (members body qs (at + size) (es ++ (paramEntry body at size ∷ [])) (n + length (paramRows body (fieldOf q) at size n parent)) parent))
+    (members body qs (at + size .taken) (es ++ (paramEntry body at (size .taken) ∷ [])) (n + length (paramRows body (fieldOf q) at size n parent)) parent))
     (ended at)
 
 -- C14: the members of the repetition whose row is n
 unfoldable pub turn : List ℕ → List Parameter → ℕ → ℕ → Walked
 turn body qs at n = members body qs at [] (n + 1) (n + 1)
 
--- C16: a repetition's row; its line is its G's, and it has a number from 0
+-- C16, L3: a repetition's row; its line is its G's, and it has a number from 0
 unfoldable pub repetitionRow : ℕ → ℕ → ℕ → ℕ → Row
 repetitionRow line at end k =
-    record { kind = 2; line = line; parent = 0; start = inPayload at; end = inPayload end; valued = 0; value = 0; named = 0; number = k }
+    record { kind = 2; line = line; parent = 0; start = inPayload at; end = inPayload end; valued = 0; value = 0; named = 0; number = k; lacking = 0 }
 
 -- C15: the repetitions of a group from number k on, at most so many; one without a byte ends the group
 unfoldable pub repetitions : List ℕ → ℕ → List Parameter → ℕ → ℕ → ℕ → ℕ → Walked
@@ -79,7 +80,7 @@ outer body (single q ∷ ds) at es n =
     onSize (sizeAt body (fieldOf q) es at)
     (λ size.
     after (paramRows body (fieldOf q) at size n 0)
-    (outer body ds (at + size) (es ++ (paramEntry body at size ∷ [])) (n + length (paramRows body (fieldOf q) at size n 0))))
+    (outer body ds (at + size .taken) (es ++ (paramEntry body at (size .taken) ∷ [])) (n + length (paramRows body (fieldOf q) at size n 0))))
     (outer body ds at es n)
 outer body (repeated line g qs ∷ ds) at es n =
     after (groupAt body line g qs es at n .rows)

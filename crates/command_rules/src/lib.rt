@@ -28,9 +28,15 @@ pub enum Wanted {
     Rest,
 }
 
-// How many bytes a Q takes, if it exists.
+// How many bytes a Q takes, and how many more it wanted that are not there.
+pub struct Length {
+    pub taken: usize,
+    pub lacking: usize,
+}
+
+// The length of a Q, if it exists.
 pub enum Size {
-    Bytes(usize),
+    Bytes(Length),
     Missing,
 }
 
@@ -40,7 +46,7 @@ pub enum Uint {
     Not,
 }
 
-// C16: a row of the table, nine numbers.
+// C16, L3: a row of the table, ten numbers.
 pub struct Row {
     // 0 parameter, 1 bit child, 2 repetition.
     pub kind: u64,
@@ -58,4 +64,6 @@ pub struct Row {
     pub named: u64,
     // The number of a repetition, from 0.
     pub number: u64,
+    // Bytes wanted but not there.
+    pub lacking: u64,
 }

@@ -52,10 +52,10 @@ pub record Starred : Type 0 where
       ∷ 9 ∷ 9 ∷ []
   pub no-header : decoded text (0xA5 ∷ 0x3C ∷ []) 0 0 30 ≡ Refused NoCandidate
   -- E11
-  pub params : answerOf command-text payload 20 ≡ answered 2 5
-  pub params-rows : rowsAfter (definition command-text) payload lent (answerOf command-text payload 20)
-      ≡ 0 ∷ 1 ∷ 0 ∷ 2 ∷ 3 ∷ 1 ∷ 2 ∷ 0 ∷ 0
-      ∷ 0 ∷ 2 ∷ 0 ∷ 3 ∷ 5 ∷ 1 ∷ 0xAABB ∷ 0 ∷ 0
+  pub params : answerOf command-text payload 22 ≡ answered 2 5
+  pub params-rows : rowsAfter (definition command-text) payload lent (answerOf command-text payload 22)
+      ≡ 0 ∷ 1 ∷ 0 ∷ 2 ∷ 3 ∷ 1 ∷ 2 ∷ 0 ∷ 0 ∷ 0
+      ∷ 0 ∷ 2 ∷ 0 ∷ 3 ∷ 5 ∷ 1 ∷ 0xAABB ∷ 0 ∷ 0 ∷ 0
       ∷ 9 ∷ 9 ∷ []
 
 -- as a checksum 0F is wrong, and as a CRC 1D 0F has no body

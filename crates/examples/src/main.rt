@@ -82,7 +82,7 @@ V\tProps.Type\t3
 
 // The parameters of a command, by the text of E11: how many rows, where each starts and ends, their values, and where the remainder starts.
 fn print_params(name: &[u8], payload: &[u8]) {
-    let mut rows = [0; 18];
+    let mut rows = [0; 20];
     let text = b"Q\t0\tBYTE\tLength\t-\t-\nQ\t0\tVARIANT\tData\t-\t-\nR\t0\t7\t0\t0\n";
     let names: &[u8] =
         b"  Length starts:\t  Length ends:\t  Length:\t  Data starts:\t  Data ends:\t  remainder starts:";
@@ -92,8 +92,8 @@ fn print_params(name: &[u8], payload: &[u8]) {
             print_piece(names, 0, rows[3]);
             print_piece(names, 1, rows[4]);
             print_piece(names, 2, rows[6]);
-            print_piece(names, 3, rows[12]);
-            print_piece(names, 4, rows[13]);
+            print_piece(names, 3, rows[13]);
+            print_piece(names, 4, rows[14]);
             print_piece(names, 5, remainder.0 as u64);
         }
         Params::Refused(refusal) => print_refusal(name, refusal),

@@ -8,7 +8,7 @@ ghost use Rattle.files.specs.Folder.{Loads};
 pub enum Loaded {
     // So many bytes: as much of the file as the lent slice has room for.
     Bytes(usize),
-    // There is none: that is said already.
+    // There is none.
     Missing,
 }
 
@@ -40,12 +40,10 @@ fn open(path: &[u8]) -> i32 {
     fd
 }
 
-fn load_from(folder: usize, part: &[u8], name: &[u8], bytes: &mut [u8]) -> Loaded
+// The file behind a descriptor, if it is one.
+fn read_all(fd: i32, bytes: &mut [u8]) -> Loaded
     ensures { λ r. ⌜ Loads (now (bytes .exit)) r ⌝ }
 {
-    let mut path = io::buffer();
-    let n = put_path(folder, part, name, &mut path);
-    let fd = open(&path[..n]);
     if fd < 0 {
         return Loaded::Missing;
     }
@@ -54,16 +52,33 @@ fn load_from(folder: usize, part: &[u8], name: &[u8], bytes: &mut [u8]) -> Loade
     Loaded::Bytes(count)
 }
 
-// A file of the folder that an argument names.
+fn load_from(folder: usize, part: &[u8], name: &[u8], bytes: &mut [u8]) -> Loaded
+    ensures { λ r. ⌜ Loads (now (bytes .exit)) r ⌝ }
+{
+    let mut path = io::buffer();
+    let n = put_path(folder, part, name, &mut path);
+    read_all(open(&path[..n]), bytes)
+}
+
+// A file of the folder that an argument names. That there is none is said.
 pub fn load(folder: usize, name: &[u8], bytes: &mut [u8]) -> Loaded
     ensures { λ r. ⌜ Loads (now (bytes .exit)) r ⌝ }
 {
     load_from(folder, b"/", name, bytes)
 }
 
-// A file of its commands.
+// The same of a file of its commands.
 pub fn load_command(folder: usize, name: &[u8], bytes: &mut [u8]) -> Loaded
     ensures { λ r. ⌜ Loads (now (bytes .exit)) r ⌝ }
 {
     load_from(folder, b"/commands/", name, bytes)
+}
+
+// The same, without a word where there is none.
+pub fn find_command(folder: usize, name: &[u8], bytes: &mut [u8]) -> Loaded
+    ensures { λ r. ⌜ Loads (now (bytes .exit)) r ⌝ }
+{
+    let mut path = io::buffer();
+    let n = put_path(folder, b"/commands/", name, &mut path);
+    read_all(os::open_read(&path[..n]), bytes)
 }

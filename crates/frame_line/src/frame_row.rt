@@ -1,4 +1,5 @@
 // A frame's line of the table, column by column. Each column keeps two spaces before it.
+use crate::mpdu_columns::Look;
 use crate::mpdu_columns::Radio;
 use crate::mpdu_columns::put_beam;
 use crate::mpdu_columns::put_mpdu;
@@ -69,13 +70,13 @@ fn put_heard(
     payload: &[u8],
     text: &[u8],
     index: &[u8],
-    colour: bool,
+    look: Look,
 ) -> usize
     requires { ⌜ 8 ≤ length (now row) ⌝ }
     requires { ⌜ verdict (now text) ≡ Accepted ⌝ }
 {
     if row[5] != 0 {
-        return put_beam(out, at, row[5], row[7], colour);
+        return put_beam(out, at, row[5], row[7], look.colour);
     }
     let start = row[6] as usize;
     let count = row[7] as usize;
@@ -84,7 +85,7 @@ fn put_heard(
         region: row[1],
         speed: row[3],
     };
-    put_mpdu(out, at, text, index, mpdu, radio, colour)
+    put_mpdu(out, at, text, index, mpdu, radio, look)
 }
 
 // The number of a frame, in front of its line.
@@ -100,12 +101,12 @@ pub fn put_row(
     payload: &[u8],
     text: &[u8],
     index: &[u8],
-    colour: bool,
+    look: Look,
 ) -> usize
     requires { ⌜ 8 ≤ length (now row) ⌝ }
     requires { ⌜ verdict (now text) ≡ Accepted ⌝ }
 {
     let mut place = put_signal(out, at, row);
-    place = put_heard(out, place, row, payload, text, index, colour);
+    place = put_heard(out, place, row, payload, text, index, look);
     put(out, place, b"\n")
 }

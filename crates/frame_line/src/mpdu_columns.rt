@@ -2,8 +2,12 @@
 // name; or by which refusal it has no name.
 use crate::node_columns::put_no_nodes;
 use crate::node_columns::put_nodes;
+use command::Params;
+use command::decode_params;
 use command_part::command_part;
 use crc::check_crc;
+use files::folder::Loaded;
+use files::folder::find_command;
 use header::Decoded;
 use header::DecodedHeader;
 use header::MOST_NUMBERS;
@@ -11,7 +15,10 @@ use header::decode_accepted;
 use output::paint::Hue;
 use output::paint::put_painted;
 use output::refusals::put_short;
+use readers::cells::is_cut;
 use readers::cells::part;
+use readers::line_fields::field_of;
+use readers::lines::find_line;
 use readers::region::frame_code;
 use refusal::Refusal;
 use writer::Buffer;
@@ -27,11 +34,20 @@ ghost use Rattle.frame_text.specs.Rules.{verdict};
 // How many bytes the column of names has.
 const NAMES: usize = 26;
 
+// The numbers of a command's rows: 1,024 of ten.
+const PARAMS: usize = 10240;
+
 // Where and how an MPDU was heard.
 pub struct Radio {
     // Of the PTI, not an F line's code.
     pub region: u64,
     pub speed: u64,
+}
+
+// How a line is shown: in colour or not, and by the command texts of which folder, told by its argument's number.
+pub struct Look {
+    pub colour: bool,
+    pub folder: usize,
 }
 
 // A name in its column.
@@ -56,29 +72,62 @@ fn put_command_name(out: &mut Buffer, at: usize, line: &[u8], bytes: &[u8], colo
     put_painted(out, at, readers::catalog::name(line), 0, Hue::Name, colour)
 }
 
+// Does a command lack bytes by its text? One that is refused has no rows to tell by.
+fn lacks(text: &[u8], payload: &[u8]) -> bool {
+    let mut rows = [0u64; PARAMS];
+    match decode_params(text, payload, &mut rows) {
+        Params::Rows {
+            count,
+            remainder: _,
+        } => is_cut(&rows, count),
+        Params::Refused(_) => false,
+    }
+}
+
+// The same by its line in the catalog.
+fn lacks_by(line: &[u8], payload: &[u8], folder: usize) -> bool {
+    let mut text = io::large_buffer();
+    let Loaded::Bytes(n) = find_command(folder, readers::catalog::file(line), &mut text) else {
+        return false;
+    };
+    lacks(&text[..n], payload)
+}
+
+// Marks a command with a field that is cut.
+fn put_cut(out: &mut Buffer, at: usize, line: &[u8], payload: &[u8], look: Look) -> usize {
+    if line.len() == 0 {
+        return at;
+    }
+    if lacks_by(line, payload, look.folder) {
+        return put_painted(out, at, b"  (cut)", 7, Hue::Wrong, look.colour);
+    }
+    at
+}
+
 // How many spaces part the checksum's column from the command's.
 fn gap(right: bool) -> usize {
     if right { 5 } else { 2 }
 }
 
-// The name of the command in these bytes, if there is one.
+// The name of the command in these bytes, if there is one, and whether a field of it is cut.
 fn put_command(
     out: &mut Buffer,
     at: usize,
     index: &[u8],
     bytes: &[u8],
     right: bool,
-    colour: bool,
+    look: Look,
 ) -> usize {
     if bytes.len() == 0 {
         return at;
     }
-    let place = put_spaces(out, at, gap(right));
+    let mut place = put_spaces(out, at, gap(right));
     if bytes.len() < 2 {
         return put_hex(out, place, bytes);
     }
     let line = readers::catalog::find_command(index, bytes[0], bytes[1]);
-    put_command_name(out, place, line, &bytes[..2], colour)
+    place = put_command_name(out, place, line, &bytes[..2], look.colour);
+    put_cut(out, place, line, bytes, look)
 }
 
 // Length and checksum.
@@ -146,7 +195,7 @@ pub fn put_mpdu(
     index: &[u8],
     mpdu: &[u8],
     radio: Radio,
-    colour: bool,
+    look: Look,
 ) -> usize
     requires { ⌜ verdict (now text) ≡ Accepted ⌝ }
 {
@@ -154,10 +203,10 @@ pub fn put_mpdu(
     let mut rows = [0u64; MOST_NUMBERS];
     match decode_accepted(text, mpdu, frame_code(radio.region), speed, &mut rows) {
         Decoded::Header(header) => {
-            let place = put_header(out, at, text, mpdu, header, &rows, colour);
+            let place = put_header(out, at, text, mpdu, header, &rows, look.colour);
             let bytes = command_part(mpdu, header.payload, speed);
-            put_command(out, place, index, bytes, header.right, colour)
+            put_command(out, place, index, bytes, header.right, look)
         }
-        Decoded::Refused(refusal) => put_unnamed(out, at, mpdu, speed, refusal, colour),
+        Decoded::Refused(refusal) => put_unnamed(out, at, mpdu, speed, refusal, look.colour),
     }
 }

@@ -44,7 +44,7 @@ fn put_frame(
 {
     let next = sheet.with_frame(row[BEAMS]);
     let from = put_number(out, next.at, next.frames);
-    let at = put_row(out, from, row, payload, text, index, next.colour);
+    let at = put_row(out, from, row, payload, text, index, next.look());
     tell_progress(next);
     next.gathered(at)
 }

@@ -82,7 +82,12 @@ fn show_file(name: &[u8], fd: i32, options: Options) {
         &text[..n],
         state,
         options.folder,
-        Sheet::new(options.firmware, options.colour, options.progress),
+        Sheet::new(
+            options.firmware,
+            options.colour,
+            options.progress,
+            options.folder,
+        ),
     );
 }
 

@@ -1,4 +1,5 @@
 // What was shown of a capture so far, and what stands below it at the end.
+use frame_line::mpdu_columns::Look;
 use libc::STDERR_FILENO;
 use libc::STDOUT_FILENO;
 use output::outcome::fail;
@@ -37,12 +38,14 @@ pub struct Sheet {
     pub firmware: usize,
     // In colour?
     pub colour: bool,
+    // The folder of the definitions, 0 where none is named.
+    pub folder: usize,
     // Does standard error say how far it is?
     pub progress: bool,
 }
 
 impl Sheet {
-    pub fn new(firmware: usize, colour: bool, progress: bool) -> Self {
+    pub fn new(firmware: usize, colour: bool, progress: bool, folder: usize) -> Self {
         Sheet {
             at: 0,
             frames: 0,
@@ -51,7 +54,16 @@ impl Sheet {
             verdict: Verdict::Fine,
             firmware,
             colour,
+            folder,
             progress,
+        }
+    }
+
+    // How the lines are shown.
+    pub fn look(self) -> Look {
+        Look {
+            colour: self.colour,
+            folder: self.folder,
         }
     }
 
@@ -85,6 +97,7 @@ impl Sheet {
             verdict,
             firmware: self.firmware,
             colour: self.colour,
+            folder: self.folder,
             progress: self.progress,
         }
     }

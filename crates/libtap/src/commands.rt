@@ -33,7 +33,7 @@ fn tell_params(params: Params) -> TapParams
     }
 }
 
-// The parameters of a command by its text, into the table, the nine numbers of C16 (docs/RULES.md) a row. Refusals 1 to 5 and 8.
+// The parameters of a command by its text, into the table, the ten numbers of C16 and L3 (docs/RULES.md) a row. Refusals 1 to 5 and 8.
 #[no_mangle]
 pub extern "C" fn tap_decode_params(text: &[u8], payload: &[u8], rows: &mut [u64]) -> TapParams
     ensures { λ r. ⌜ Decodes (now (text .entry)) (now (payload .entry)) (now (rows .entry)) (toldBy r) (now (rows .exit)) ⌝ }

@@ -23,15 +23,27 @@ pub fn header_cell(rows: &[u64], i: usize, k: usize) -> u64 {
     rows[i * 7 + k]
 }
 
-// Number k of command row i: a row has nine.
+// Number k of command row i: a row has ten.
 pub fn command_cell(rows: &[u64], i: usize, k: usize) -> u64 {
-    if rows.len() / 9 <= i {
+    if rows.len() / 10 <= i {
         return 0;
     }
-    if 9 <= k {
+    if 10 <= k {
         return 0;
     }
-    rows[i * 9 + k]
+    rows[i * 10 + k]
+}
+
+// Is one of the first n command rows cut?
+pub fn is_cut(rows: &[u64], n: usize) -> bool {
+    let mut i: usize = 0;
+    while i < n {
+        if command_cell(rows, i, 9) != 0 {
+            return true;
+        }
+        i += 1;
+    }
+    false
 }
 
 // The first of n header rows whose P line has a number; n where there is none.

@@ -128,7 +128,7 @@ fn step(
 pub fn serve(
     lines: &mut [u8; 524288],
     bytes: &mut [u8; 262144],
-    rows: &mut [u64; 147456],
+    rows: &mut [u64; 163840],
     out: &mut Buffer,
 ) {
     let mut input = Input::empty(false);

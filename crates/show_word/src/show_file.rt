@@ -35,8 +35,8 @@ use writer::Buffer;
 use writer::flush;
 ghost use Rattle.show_word.specs.Search.{Holds};
 
-// The numbers of a command's rows: 1,024 of nine.
-const PARAMS: usize = 9216;
+// The numbers of a command's rows: 1,024 of ten.
+const PARAMS: usize = 10240;
 
 // The frame after so many of the capture behind a descriptor.
 fn search(fd: i32, firmware: usize, before: u64, mpdu: &mut [u8; 4096]) -> Search

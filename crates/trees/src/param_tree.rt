@@ -55,11 +55,24 @@ fn put_repetition(out: &mut Buffer, at: usize, number: u64) -> usize {
     put_number(out, place, wrapping_add_u64(number, 1))
 }
 
+// How many bytes row i has.
+fn bytes_of(rows: &[u64], i: usize) -> u64 {
+    wrapping_sub_u64(command_cell(rows, i, 4), command_cell(rows, i, 3))
+}
+
 // The bytes of row i.
 fn put_bytes(out: &mut Buffer, at: usize, payload: &[u8], rows: &[u64], i: usize) -> usize {
     let start = command_cell(rows, i, 3);
-    let count = wrapping_sub_u64(command_cell(rows, i, 4), start);
-    put_hex(out, at, part(payload, start as usize, count as usize))
+    put_hex(
+        out,
+        at,
+        part(payload, start as usize, bytes_of(rows, i) as usize),
+    )
+}
+
+// Which word: for one, or for more.
+fn many(n: u64) -> usize {
+    if n == 1 { 0 } else { 1 }
 }
 
 // The name in a line of K, if there is one.
@@ -81,6 +94,19 @@ fn put_value(out: &mut Buffer, at: usize, text: &[u8], rows: &[u64], i: usize) -
     put_symbol(out, place, text, command_cell(rows, i, 7))
 }
 
+// How many bytes a row has of those that it wanted, if some are not there.
+fn put_cut(out: &mut Buffer, at: usize, taken: u64, lacking: u64) -> usize {
+    if lacking == 0 {
+        return at;
+    }
+    let words: &[u8] = b" byte of \t bytes of \t: cut";
+    let mut place = put(out, at, b"  ");
+    place = put_number(out, place, taken);
+    place = put(out, place, field_of(words, many(taken)));
+    place = put_number(out, place, wrapping_add_u64(taken, lacking));
+    put(out, place, field_of(words, 2))
+}
+
 // What row i says.
 fn put_said(
     out: &mut Buffer,
@@ -97,8 +123,9 @@ fn put_said(
     if kind == BIT {
         return put_number(out, at, command_cell(rows, i, 6));
     }
-    let place = put_bytes(out, at, payload, rows, i);
-    put_value(out, place, text, rows, i)
+    let mut place = put_bytes(out, at, payload, rows, i);
+    place = put_value(out, place, text, rows, i);
+    put_cut(out, place, bytes_of(rows, i), command_cell(rows, i, 9))
 }
 
 fn put_param(

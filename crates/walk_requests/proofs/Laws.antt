@@ -35,21 +35,21 @@ pub taken-before : (s : List ℕ) (n e : ℕ) → n ≤ e → e ≤ length s →
 taken-before s n e l h = taken s n (omega arith)
 
 -- the numbers of a table
-module _ (cap width : ℕ) (few : cap ≤ 16384) (narrow : width ≤ 9) where
-  most : cap * width ≤ 147456
+module _ (cap width : ℕ) (few : cap ≤ 16384) (narrow : width ≤ 10) where
+  most : cap * width ≤ 163840
   most = omega (arith, mul-le-mul few narrow)
 
   pub table-fits : Fits w64 (cap * width)
   table-fits = omega (arith, most)
 
-  pub table-few : cap * width ≤ 147456
+  pub table-few : cap * width ≤ 163840
   table-few = most
 
 module _ (words : List ℕ) (r : Table) (numbers at : ℕ) (told : Tables words r) (is : r ≡ Of numbers at) where
-  table : (numbers ≤ 147456) × (at ≤ length words)
+  table : (numbers ≤ 163840) × (at ≤ length words)
   table = rw is at told
 
-  pub table-most : numbers ≤ 147456
+  pub table-most : numbers ≤ 163840
   table-most = table .0
 
   pub table-room : (rows : List ℕ) → Ample rows → numbers ≤ length rows

@@ -13,9 +13,9 @@ use Rattle.walk_requests.specs.declared.Radio.the-variants.{Is, Not as N
 use Rattle.walk_requests.specs.declared.Asked.{Asked}
 use Rattle.walk_requests.specs.declared.Asked.the-variants as asked
 
--- no more than 16,384 rows of nine numbers; the other words start inside
+-- no more than 16,384 rows of ten numbers; the other words start inside
 abbrev pub Tables : List ℕ → Table → Type 0
-Tables words (Of numbers at) = (numbers ≤ 147456) × (at ≤ length words)
+Tables words (Of numbers at) = (numbers ≤ 163840) × (at ≤ length words)
 Tables words NoTable = Unit
 
 abbrev pub Tunes : List ℕ → Radio → Type 0
@@ -24,7 +24,7 @@ Tunes words NoRadio = Unit
 
 -- such a table, and bytes that the buffer holds
 pub record Inside (held : List ℕ) (numbers n end : ℕ) : Type 0 where
-  pub few : numbers ≤ 147456
+  pub few : numbers ≤ 163840
   pub ordered : n ≤ end
   pub within : end ≤ length held
 
@@ -32,7 +32,7 @@ abbrev pub Asks : List ℕ → Asked → Type 0
 Asks held (asked.Header q) = Inside held (q .numbers) (q .n) (q .end)
 Asks held asked.Not = Unit
 
--- as many rows as are answered stand in the table: of a header seven numbers each, of a command nine
+-- as many rows as are answered stand in the table: of a header seven numbers each, of a command ten
 abbrev pub StandHeader : List ℕ → Decoded → Type 0
 StandHeader table (Header h) = h .rows * 7 ≤ length table
 StandHeader table (NoHeader x) = Unit

@@ -29,7 +29,7 @@ ghost use Rattle.walk_requests.specs.Walks.{Tables, Tunes, Asks, StandHe
 const HEADER_WIDTH: usize = 7;
 
 // The numbers of a command's row.
-const COMMAND_WIDTH: usize = 9;
+const COMMAND_WIDTH: usize = 10;
 
 // How many numbers a table has, and where the other words start.
 enum Table {
@@ -59,7 +59,7 @@ enum Asked {
 
 // `CAP` of rows so wide
 fn read_table(words: &[u8], width: usize) -> Table
-    requires { ⌜ width ≤ 9 ⌝ }
+    requires { ⌜ width ≤ 10 ⌝ }
     ensures { λ r. ⌜ Tables (now (words .entry)) r ⌝ }
 {
     let Leading::Is(cap, at) = read_leading(words) else {

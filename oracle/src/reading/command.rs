@@ -68,12 +68,14 @@ impl<'a> Walk<'a> {
     /// Takes a Q, where it exists: its row, and those of its bit children.
     fn take_param(&mut self, q: &Param, entries: &[Entry], parent: u64) -> Option<Entry> {
         let length = length_if_it_exists(q, entries, self.remaining())?;
+        let lacking = lacking(q, entries, self.remaining());
         let start = self.place;
         self.place += length;
         let bytes = &self.body[start..self.place];
         let value = value(bytes);
         let (line, named_by) = (q.line, named_by(q, value));
-        self.push(start, Row { kind: PARAMETER, line, parent, value, named_by, repetition: 0 });
+        let kind = PARAMETER;
+        self.push(start, Row { kind, line, parent, value, named_by, repetition: 0, lacking });
         if let &[byte] = bytes {
             self.push_bit_children(q, byte, start);
         }
@@ -135,6 +137,7 @@ impl<'a> Walk<'a> {
             row.value.unwrap_or(0),
             row.named_by as u64,
             row.repetition,
+            row.lacking as u64,
         ]);
     }
 }
@@ -150,6 +153,8 @@ struct Row {
     /// The line of a K, or 0.
     named_by: usize,
     repetition: u64,
+    /// Bytes wanted but not there.
+    lacking: usize,
 }
 
 /// C8: the length of a Q, if it exists.
@@ -167,9 +172,19 @@ fn condition_holds(q: &Param, entries: &[Entry]) -> bool {
     value.is_some_and(|value| low_byte(value) & mask != 0)
 }
 
-/// C4 to C7: the length, cut to what is left.
+/// C7: the length, cut to what is left.
 fn length(q: &Param, entries: &[Entry], remaining: usize) -> usize {
-    let wanted = match q.param_type {
+    wanted(q, entries).map_or(remaining, |length| length.min(remaining))
+}
+
+/// L2: how many bytes are wanted but not there; of the rest none.
+fn lacking(q: &Param, entries: &[Entry], remaining: usize) -> usize {
+    wanted(q, entries).map_or(0, |length| length.saturating_sub(remaining))
+}
+
+/// C4 to C6, L1: how many bytes a Q wants. `None`: the rest.
+fn wanted(q: &Param, entries: &[Entry]) -> Option<usize> {
+    match q.param_type {
         ParamType::Byte | ParamType::StructByte | ParamType::Const | ParamType::Marker => Some(1),
         ParamType::Word => Some(2),
         ParamType::Bit24 => Some(3),
@@ -178,8 +193,7 @@ fn length(q: &Param, entries: &[Entry], remaining: usize) -> usize {
         ParamType::Variant | ParamType::Bitmask | ParamType::MultiArray => {
             first_m(q).flatten().map(usize::from).or_else(|| length_by_r(q, entries))
         }
-    };
-    wanted.map_or(remaining, |length| length.min(remaining))
+    }
 }
 
 /// C6: the length by the first R. `None`: the rest.

@@ -10,7 +10,7 @@ use crate::definition::command::{
 use crate::refusal::Refusal;
 use crate::rows::{self, CommandRow};
 
-/// The Rust's answer, refusal by 5 among them.
+/// The Rust's answer, refusal by 5 among them. It does not tell what a row lacks: that number is 0.
 pub fn decode_params(
     definition: &CommandDefinition,
     payload: &[u8],
@@ -157,5 +157,6 @@ fn row(kind: u64, line: u64, parent: u64, param: &DecodedParam, repetition: u64)
         param.value.unwrap_or(0),
         param.display.strip_suffix('\0').map_or(0, number),
         repetition,
+        0,
     ]
 }

@@ -6,5 +6,12 @@ use Rattle.command_lengths.proofs.cut_len.Tie as tie
 
 pub cut-len-spec : {M : Type 1} → statement M
 cut-len-spec =
-    tie.close (tie.spec (λ c. search (needs, laws)) (λ c. search (needs, laws)) (λ c. search (needs, laws)) (λ c. search (needs, laws))
-    (λ c. search (needs, laws)) (λ c. search (needs, laws)))
+    tie.close
+    (tie.spec
+    (λ c. search (needs, laws))
+    (λ c. search (needs, laws))
+    (λ c. search (needs, laws))
+    (λ c. search (needs, laws))
+    (λ c. search (needs, laws))
+    (λ c. search (needs, laws))
+    (λ c. search (needs, laws)))

@@ -15,8 +15,6 @@ load-from-spec =
     (λ c. search (needs, laws))
     (λ c. search (needs, front-count))
     (λ c κs. search (needs, laws))
-    (λ c. search (needs, laws))
-    (λ c κs. search (needs, laws))
     (λ c κs. search (needs, laws))
     (λ c. search (needs, laws))
     (λ c. search (needs, laws)))

@@ -18,4 +18,5 @@ put-command-spec =
     (λ c κs. search needs)
     (λ c. search (needs, front-count))
     (λ c κs. search needs)
+    (λ c κs. search needs)
     (λ c. search needs))
