@@ -9,7 +9,7 @@
  *   - A table that is lent overlaps nothing else that the same call is lent: no bytes, no other table. Bytes may overlap bytes.
  *   - While a call runs nobody else writes what it is lent, or reads a table that it is lent.
  *
- * Refusals (docs/RULES.md, R1 to R9 and FV2), and the `value` that each carries:
+ * Refusals (docs/RULES.md, R1 to R9, U5 and FV2), and the `value` that each carries:
  *
  *   0  none
  *   1  a line of the text has none of the forms                                     its number, from 1
@@ -23,6 +23,7 @@
  *   7  no candidate holds                                                           0
  *   8  the answer does not fit into the table                                       how many rows it has
  *   9  a body is not a frame                                                        0
+ *  12  the text does not fit into the buffer                                        how many bytes it has
  *  13  there is no such capture firmware                                            its number
  */
 #ifndef LIBTAP_H
@@ -96,6 +97,10 @@ TapAnswer tap_parse_payload(const uint8_t *payload, size_t payload_length, size_
 /* Is the text accepted? Refuses by 1, 2 and 3. */
 TapAnswer tap_check_frame_text(const uint8_t *text, size_t text_length);
 TapAnswer tap_check_command_text(const uint8_t *text, size_t text_length);
+
+/* A command text with each U line as an S line, into the buffer; nothing else of it is moved. Answers its length, which is that of the text. A
+ * refusal writes nothing, an answer nothing behind the text. Refuses by 1 to 3, then 12. */
+TapAnswer tap_tidy_command_text(const uint8_t *text, size_t text_length, uint8_t *buffer, size_t buffer_length);
 
 /* ---- headers ---- */
 

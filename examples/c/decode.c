@@ -12,7 +12,8 @@ enum { FIRMWARE = 2 };
 enum { LONGEST_TEXT = 60000, LONGEST_PAYLOAD = 65535, FRAMES = 2978, HEADER_ROWS = 128, COMMAND_ROWS = 4096 };
 
 static uint8_t frame_text[LONGEST_TEXT + 1];
-static uint8_t command_text[LONGEST_TEXT + 1];
+static uint8_t given_text[LONGEST_TEXT + 1];
+static uint8_t command_text[LONGEST_TEXT];
 static uint8_t payload[LONGEST_PAYLOAD + 1];
 static uint64_t frames[FRAMES * TAP_FRAME_WIDTH];
 static uint64_t header_rows[HEADER_ROWS * TAP_HEADER_WIDTH];
@@ -107,13 +108,15 @@ int main(int count, char **words) {
         return 2;
     }
     size_t frame_text_length = read_file(words[1], frame_text, sizeof frame_text);
-    size_t command_text_length = read_file(words[2], command_text, sizeof command_text);
+    size_t given_length = read_file(words[2], given_text, sizeof given_text);
     size_t payload_length = read_hex(words[3], payload, sizeof payload);
 
     TapAnswer verdict = tap_check_frame_text(frame_text, frame_text_length);
     if (!verdict.refusal) {
-        verdict = tap_check_command_text(command_text, command_text_length);
+        /* Checks the text, and makes the S lines of it that its U lines stand for. */
+        verdict = tap_tidy_command_text(given_text, given_length, command_text, sizeof command_text);
     }
+    size_t command_text_length = verdict.value;
     TapAnswer parsed = verdict.refusal ? verdict : tap_parse_payload(payload, payload_length, FIRMWARE, frames, sizeof frames / sizeof *frames);
     if (parsed.refusal) {
         print_refusal(parsed.refusal, parsed.value);

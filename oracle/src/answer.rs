@@ -62,6 +62,7 @@ pub fn full_answer(line: &[u8]) -> Answer {
         Request::Command { cap, text, payload } => command(*cap, text, payload),
         Request::Bits { place, width, bytes } => Ok(bits(*place, *width, bytes)),
         Request::Checksum { speed, mpdu } => Ok(checksum(*speed, mpdu)),
+        Request::Tidy { cap, text } => tidy(*cap, text),
     };
     answer.into()
 }
@@ -225,4 +226,22 @@ fn bits(place: u64, width: u64, bytes: &[u8]) -> String {
 fn checksum(speed: u64, mpdu: &[u8]) -> String {
     let right = check_crc(mpdu, if speed > 1 { 2 } else { 1 });
     format!("checksum {}", u8::from(right))
+}
+
+/// U2, U3: a command text with S for the letter of each U line, if the buffer has room for it.
+fn tidy(cap: u64, text: &[u8]) -> Result<String, Refusal> {
+    definition::read::<CommandDefinition>(text)?;
+    if text.len() as u64 > cap {
+        return Err(Refusal { number: 12, carried: text.len() });
+    }
+    let mut tidied = Vec::with_capacity(text.len());
+    for line in text.split_inclusive(|&byte| byte == b'\n') {
+        match line.strip_prefix(b"U\t") {
+            Some(fields) => tidied.extend([b"S\t", fields].concat()),
+            None => tidied.extend(line),
+        }
+    }
+    let mut answer = "tidy ".to_string();
+    push_hex(&tidied, &mut answer);
+    Ok(answer)
 }

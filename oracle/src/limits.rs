@@ -17,6 +17,8 @@ pub const MPDU: usize = 2_048;
 pub const COMMAND: usize = 2_048;
 /// The most rows that a request may ask for.
 pub const CAP: u64 = 16_384;
+/// The most bytes that a request may ask for as a buffer.
+pub const BUFFER: u64 = 196_608;
 
 /// The longest definition text that is not refused by 2.
 pub const TEXT: usize = 60_000;

@@ -21,6 +21,7 @@ pub enum Request {
     Command { cap: u64, text: Vec<u8>, payload: Vec<u8> },
     Bits { place: u64, width: u64, bytes: Vec<u8> },
     Checksum { speed: u64, mpdu: Vec<u8> },
+    Tidy { cap: u64, text: Vec<u8> },
 }
 
 impl Request {
@@ -65,6 +66,7 @@ impl Request {
                 bytes: words.bytes()?,
             },
             b"checksum" => Request::Checksum { speed: words.number()?, mpdu: words.bytes()? },
+            b"tidy" => Request::Tidy { cap: words.buffer()?, text: words.bytes()? },
             _ => return None,
         };
         words.end()?;
@@ -95,6 +97,7 @@ impl Request {
             Request::Command { cap, text, payload } => ("command", vec![*cap], vec![text, payload]),
             Request::Bits { place, width, bytes } => ("bits", vec![*place, *width], vec![bytes]),
             Request::Checksum { speed, mpdu } => ("checksum", vec![*speed], vec![mpdu]),
+            Request::Tidy { cap, text } => ("tidy", vec![*cap], vec![text]),
         }
     }
 
@@ -158,6 +161,11 @@ impl<'a, W: Iterator<Item = &'a [u8]>> Words<W> {
     fn by(&mut self) -> Option<u64> {
         let firmware = self.number()?;
         (self.number()? == 0).then_some(firmware)
+    }
+
+    /// The length of a byte buffer.
+    fn buffer(&mut self) -> Option<u64> {
+        self.number().filter(|&cap| cap <= limits::BUFFER)
     }
 
     fn bytes(&mut self) -> Option<Vec<u8>> {

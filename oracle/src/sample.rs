@@ -28,6 +28,7 @@ pub fn sample(seed: u64, kinds: &str) -> Result<Vec<Vec<u8>>, String> {
     requests.extend(about_headers());
     requests.extend(about_commands());
     requests.extend(about_bits());
+    requests.extend(about_tidied());
     lines.extend(requests.iter().map(Request::line));
 
     let generator = Generator::new(seed, kinds)?;
@@ -393,6 +394,22 @@ fn about_commands() -> Vec<Request> {
         command(34, &most, vec![0xA5; 3]),
         command(33, &most, vec![0xA5; 3]),
         command(limits::CAP, &most, vec![0xA5; limits::COMMAND]),
+    ]
+}
+
+/// Buffers of a text's length, a byte more and a byte less, the largest, and none.
+fn about_tidied() -> Vec<Request> {
+    let text = "Q|0|BYTE|U|-|-\nU|1|-|U\nS|2|1|U\nU|4|2|US\nK|0|U\n".replace('|', "\t").into_bytes();
+    let tidy = |cap: u64, text: &[u8]| Request::Tidy { cap, text: text.to_vec() };
+    let length = text.len() as u64;
+    vec![
+        tidy(length, &text),
+        tidy(length + 1, &text),
+        tidy(length - 1, &text),
+        tidy(limits::BUFFER, &text),
+        tidy(0, &text),
+        tidy(0, &text[1..]),
+        tidy(0, b""),
     ]
 }
 

@@ -45,6 +45,32 @@ pub fn put_touched(out: &mut Buffer, used: usize, table: &[u64]) -> usize {
     put(out, used, b" TOUCHED")
 }
 
+// The most bytes that a request may ask for as a buffer.
+pub const MOST_BYTES: u64 = 196608;
+
+// What every byte of a buffer is before a call.
+pub const BYTE: u8 = 0xA5;
+
+// Whether nothing has been written to a part of a buffer.
+fn is_fresh_bytes(bytes: &[u8]) -> bool {
+    let mut i = 0;
+    while i < bytes.len() {
+        if bytes[i] != BYTE {
+            return false;
+        }
+        i += 1;
+    }
+    true
+}
+
+// Says so if something has been written to a part of a buffer that nothing may write to.
+pub fn put_touched_bytes(out: &mut Buffer, used: usize, bytes: &[u8]) -> usize {
+    if is_fresh_bytes(bytes) {
+        return used;
+    }
+    put(out, used, b" TOUCHED")
+}
+
 // A refusal, after which nothing may have been written to the table.
 pub fn put_refused(out: &mut Buffer, used: usize, refusal: Refusal, table: &[u64]) -> usize {
     let n = put_refusal(out, used, refusal);

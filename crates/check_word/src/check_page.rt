@@ -128,7 +128,17 @@ fn say_accepted(name: &[u8], what: &[u8], text: &[u8], letters: &[u8]) {
     say(b" text:");
     say_lines(text, letters);
     say(b" lines\n");
-    output::outcome::succeed();
+}
+
+// What to do about the U lines of a command text, if it has any.
+fn say_retired(text: &[u8]) {
+    let n = count_lines(text, b'U');
+    if n == 0 {
+        return;
+    }
+    say(b"  U lines: ");
+    say_number(n);
+    say(b". A U is read as an S, and new texts use S: 'tap tidy FILE' writes the text so.\n");
 }
 
 // By which number a line is refused, and the line.
@@ -190,6 +200,7 @@ fn say_reason(is_frame: bool, text: &[u8], refusal: Refusal, line: &[u8]) {
         Refusal::NoCandidate => {}
         Refusal::MoreRows(_) => {}
         Refusal::NotAFrame => {}
+        Refusal::MoreBytes(_) => {}
         Refusal::Firmware(_) => {}
     }
 }
@@ -208,7 +219,10 @@ fn say_refusal(name: &[u8], what: &[u8], is_frame: bool, text: &[u8], refusal: R
 // What is said of a text that is taken for a frame text.
 pub fn check_frame(name: &[u8], text: &[u8]) {
     match check_frame_text(text) {
-        Verdict::Accepted => say_accepted(name, b"frame", text, b"FBHPVDE"),
+        Verdict::Accepted => {
+            say_accepted(name, b"frame", text, b"FBHPVDE");
+            output::outcome::succeed();
+        }
         Verdict::Refused(refusal) => {
             say_refusal(name, b"frame", true, text, refusal);
             say(b"\n");
@@ -220,7 +234,11 @@ pub fn check_frame(name: &[u8], text: &[u8]) {
 // The same of a command text.
 pub fn check_command(name: &[u8], text: &[u8]) {
     match check_command_text(text) {
-        Verdict::Accepted => say_accepted(name, b"command", text, b"QGRATSUKM"),
+        Verdict::Accepted => {
+            say_accepted(name, b"command", text, b"QGRATSUKM");
+            say_retired(text);
+            output::outcome::succeed();
+        }
         Verdict::Refused(refusal) => {
             say_refusal(name, b"command", false, text, refusal);
             say(b"\n");

@@ -8,6 +8,7 @@ use native.Mathlib.Nat.{add-zero}
 use native.Mathlib.Numerals.{add-one}
 use native.Mathlib.Omega.{arith}
 use lib.Dec.{eqb}
+use borrow.Author.Tests.{ne-eqb}
 use lib.ListN.{length, getD, length-drop}
 use lib.Seq.{getD-drop}
 use Rattle.text.specs.Text.{lines, fields}
@@ -20,9 +21,9 @@ use Rattle.text.specs.declared.Verdict.the-variants.{Accepted}
 use Rattle.text.proofs.Judging.{Reads, first-reads, split-some, judge-line}
 use Rattle.text.proofs.Reading.{Allowed, accepted-line, records-line}
 use Rattle.text.proofs.Passing.{Passed, passed}
-use Rattle.command_text.specs.Form.{Record, param, group, variant, array, bitFlag, bitField, fieldEnum, const, bitmask, form}
+use Rattle.command_text.specs.Form.{Record, param, group, item, variant, array, bitFlag, bitField, const, bitmask, form}
 use Rattle.command_text.specs.Rules.{rules}
-use Rattle.command_class.specs.Definition.{letter, numbered}
+use Rattle.command_class.specs.Definition.{letter, readAs, numbered}
 use Rattle.command_class.specs.Find.{Begins, Follows}
 use Rattle.command_class.proofs.Saying.{kind-letter}
 
@@ -46,13 +47,12 @@ first-byte (x ∷ xs) fs more e h = go (eqb x 10) (eqb x 9) (first xs) e
 some-letter : (r : Record) → letter r ≡ 0 → ⊥
 some-letter (param q) h = let z : _≡_ {A = ℕ} 0x51 0 = h in omega arith
 some-letter (group g) h = let z : _≡_ {A = ℕ} 0x47 0 = h in omega arith
-some-letter (variant s) h = let z : _≡_ {A = ℕ} 0x52 0 = h in omega arith
-some-letter (array n a) h = let z : _≡_ {A = ℕ} 0x41 0 = h in omega arith
-some-letter (bitFlag m n) h = let z : _≡_ {A = ℕ} 0x54 0 = h in omega arith
-some-letter (bitField b) h = let z : _≡_ {A = ℕ} 0x53 0 = h in omega arith
-some-letter (fieldEnum b) h = let z : _≡_ {A = ℕ} 0x55 0 = h in omega arith
-some-letter (const v n) h = let z : _≡_ {A = ℕ} 0x4b 0 = h in omega arith
-some-letter (bitmask n) h = let z : _≡_ {A = ℕ} 0x4d 0 = h in omega arith
+some-letter (item (variant s)) h = let z : _≡_ {A = ℕ} 0x52 0 = h in omega arith
+some-letter (item (array n a)) h = let z : _≡_ {A = ℕ} 0x41 0 = h in omega arith
+some-letter (item (bitFlag m n)) h = let z : _≡_ {A = ℕ} 0x54 0 = h in omega arith
+some-letter (item (bitField b)) h = let z : _≡_ {A = ℕ} 0x53 0 = h in omega arith
+some-letter (item (const v n)) h = let z : _≡_ {A = ℕ} 0x4b 0 = h in omega arith
+some-letter (item (bitmask n)) h = let z : _≡_ {A = ℕ} 0x4d 0 = h in omega arith
 
 -- the line at a place from which on every line is accepted: its fields, what stands after it, and what it says
 pub record Opened (t : List ℕ) (p : Place) : Type 0 where
@@ -98,17 +98,27 @@ opened t p r inside = go (first (left t p)) refl (first-reads (left t p))
     go unended e reads = absurd (open-end (left t p) some-left (sym (ap (judge rules (r .before) (p .line)) reads) ∙ r .good))
     go (ended fs more) e reads = with-line fs (reads .0) more e (reads .1) (reads .2) (allowed (reads .0) more (reads .1))
 
-pub begins-at : (t : List ℕ) (p : Place) → Readable rules t p → p .at < length t → Begins t p (getD t (p .at) 0)
-begins-at t p r inside =
+begins-as : (t : List ℕ) (p : Place) → Readable rules t p → p .at < length t → Begins t p (readAs (getD t (p .at) 0))
+begins-as t p r inside =
     let o = opened t p r inside in
-    let k : kindOf (o .cells) ≡ letter (o .said) = kind-letter (o .cells) (o .said) (o .form-is) in
-    let b : kindOf (o .cells) ≡ getD (left t p) 0 0 = first-byte (left t p) (o .cells) (o .more) (o .first-is) (λ z. some-letter (o .said) (sym k ∙ z)) in
+    let k : readAs (kindOf (o .cells)) ≡ letter (o .said) = kind-letter (o .cells) (o .said) (o .form-is) in
+    let b : kindOf (o .cells) ≡ getD (left t p) 0 0 =
+    first-byte (left t p) (o .cells) (o .more) (o .first-is) (λ z. some-letter (o .said) (sym k ∙ ap readAs z)) in
+    let g : getD t (p .at) 0 ≡ kindOf (o .cells) = sym (getD-drop (p .at) t 0 0 ∙ ap (λ (n : ℕ). getD t n 0) (add-zero (p .at))) ∙ sym b in
     record {
       said = o .said;
       others = numbered (suc (p .line)) (records form (lines (o .more)));
       lines = ap (numbered (p .line)) (o .rest-is);
-      kind = sym (getD-drop (p .at) t 0 0 ∙ ap (λ (n : ℕ). getD t n 0) (add-zero (p .at))) ∙ sym b ∙ k;
+      kind = ap readAs g ∙ k;
     }
+
+module _ (t : List ℕ) (p : Place) (r : Readable rules t p) (inside : p .at < length t) where
+  -- a U is read as an S
+  pub begins-enum : getD t (p .at) 0 ≡ 85 → Begins t p 83
+  begins-enum e = rw e at (begins-as t p r inside)
+
+  pub begins-other : (getD t (p .at) 0 ≡ 85 → ⊥) → Begins t p (getD t (p .at) 0)
+  begins-other h = rw (ne-eqb (getD t (p .at) 0) 85 h) at (begins-as t p r inside)
 
 pub follows-at : (t : List ℕ) (p q : Place) → Readable rules t p → p .at < length t → Passes t p q → Follows t p q
 follows-at t p q r inside pass =
@@ -121,4 +131,4 @@ follows-at t p q r inside pass =
       on = pass .on;
     }
 
-pub ruleset begin-laws = (begins-at, follows-at)
+pub ruleset begin-laws = (begins-enum, begins-other, follows-at)

@@ -1,6 +1,6 @@
 -- Laws on looking things up in an accepted command text, line by line. Assumes nothing.
 use mathlib.Core.Path.{_≡_, refl, sym, ap, _∙_}
-use mathlib.Core.Bool.{Bool, true, false, _||_}
+use mathlib.Core.Bool.{Bool, true, false, cond, _||_}
 use mathlib.Core.List.{List, _∷_}
 use mathlib.Core.Option.{some}
 use Prim.Native.Nat.{ℕ, _<_}
@@ -13,11 +13,11 @@ use Rattle.text.specs.Records.{rest, Readable}
 use Rattle.text.specs.declared.Place.{Place}
 use Rattle.text.specs.declared.Line.{Line}
 use Rattle.text.proofs.Reading.{Said, said-step}
-use Rattle.command_text.specs.Form.{Record, param, group, variant, array, bitFlag, bitField, fieldEnum, const, bitmask}
+use Rattle.command_text.specs.Form.{Record, param, group, item, variant, array, bitFlag, bitField, const, bitmask, form}
 use Rattle.command_text.specs.Form.{said, form}
 use Rattle.command_text.specs.Form as form
 use Rattle.command_text.specs.Rules.{begins, rules}
-use Rattle.command_class.specs.Definition.{numbered, letter}
+use Rattle.command_class.specs.Definition.{numbered, letter, readAs}
 use Rattle.command_class.specs.Find.{from, among}
 use Rattle.command_text.proofs.Keeping.{brief}
 use Rattle.command_class.proofs.Saying.{kind-letter}
@@ -26,7 +26,7 @@ use Rattle.command_class.proofs.Saying.{kind-letter}
 pub record Lined (t : List ℕ) (p : Place) (l : Line) : Type 0 where
   pub says : Record
   pub form-is : form (cells t l) ≡ some says
-  pub kind-is : l .kind ≡ letter says
+  pub kind-is : readAs (l .kind) ≡ letter says
   pub lines : from t p ≡ record { line = p .line; says = says } ∷ from t (l .next)
   pub next : Readable rules t (l .next)
 
@@ -36,22 +36,29 @@ lined t p l readable inside step =
     record {
       says = h .said;
       form-is = h .form-is;
-      kind-is = step .kind-is ∙ kind-letter (cells t l) (h .said) (h .form-is);
+      kind-is = ap readAs (step .kind-is) ∙ kind-letter (cells t l) (h .said) (h .form-is);
       lines = ap (numbered (p .line)) (h .rest-is) ∙ ap (λ (n : ℕ). record { line = p .line; says = h .said } ∷ numbered n (rest rules t (l .next)))
           (sym (step .passes .count ∙ add-one (p .line)));
       next = h .next;
     }
 
+-- a letter that is read as another than S is that one
+pub read-other : (k b : ℕ) → (b ≡ 83 → ⊥) → readAs k ≡ b → k ≡ b
+read-other k b h e = go (eqb k 85) e
+  where
+    go : (u : Bool) → cond u 83 k ≡ b → k ≡ b
+    go true q = absurd (h (sym q))
+    go false q = q
+
 pub begins-kind : (r : Record) → begins r ≡ among 81 71 71 (letter r)
 begins-kind (param q) = refl
 begins-kind (group g) = refl
-begins-kind (variant s) = refl
-begins-kind (array n a) = refl
-begins-kind (bitFlag m n) = refl
-begins-kind (bitField b) = refl
-begins-kind (fieldEnum b) = refl
-begins-kind (const v n) = refl
-begins-kind (bitmask n) = refl
+begins-kind (item (variant s)) = refl
+begins-kind (item (array n a)) = refl
+begins-kind (item (bitFlag m n)) = refl
+begins-kind (item (bitField b)) = refl
+begins-kind (item (const v n)) = refl
+begins-kind (item (bitmask n)) = refl
 
 -- is a kind one of three
 module _ (a b c k : ℕ) where

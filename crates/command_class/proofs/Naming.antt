@@ -14,11 +14,11 @@ use Rattle.text.specs.Records.{Readable}
 use Rattle.text.specs.declared.Place.{Place}
 use Rattle.text.specs.declared.Line.{Line}
 use Rattle.text.proofs.Reading.{rest-end}
-use Rattle.command_text.specs.Form.{Record, param, group, variant, array, bitFlag, bitField, fieldEnum, const, bitmask}
+use Rattle.command_text.specs.Form.{Record, param, group, item, variant, array, bitFlag, bitField, const, bitmask}
 use Rattle.command_text.specs.Rules.{begins, rules}
-use Rattle.command_class.specs.Definition.{Item, numbered, under, letter, firstConst}
+use Rattle.command_class.specs.Definition.{Item, numbered, under, letter, readAs, firstConst}
 use Rattle.command_class.specs.Find.{from, Good, among, Begins, Follows}
-use Rattle.command_class.proofs.Finding.{Lined, lined, begins-kind}
+use Rattle.command_class.proofs.Finding.{Lined, lined, read-other, begins-kind}
 use Rattle.command_class.proofs.Rows.{named-value, k-said, const-has}
 
 pub record Naming (t : List ℕ) (p₀ : Place) (v : ℕ) (p : Place) : Type 0 where
@@ -33,13 +33,12 @@ other-const : (v n : ℕ) (x : Record) (is : List Item) → begins x ≡ false �
     → firstConst v (under (record { line = n; says = x } ∷ is)) ≡ firstConst v (under is)
 other-const v n (param q) is b k = absurd (let z : _≡_ {A = ℕ} 0 1 = cc in omega arith)
 other-const v n (group g) is b k = absurd (let z : _≡_ {A = ℕ} 0 1 = cc in omega arith)
-other-const v n (variant s) is b k = refl
-other-const v n (array m a) is b k = refl
-other-const v n (bitFlag m l) is b k = refl
-other-const v n (bitField m) is b k = refl
-other-const v n (fieldEnum m) is b k = refl
-other-const v n (const w l) is b k = absurd (k refl)
-other-const v n (bitmask m) is b k = refl
+other-const v n (item (variant s)) is b k = refl
+other-const v n (item (array m a)) is b k = refl
+other-const v n (item (bitFlag m l)) is b k = refl
+other-const v n (item (bitField m)) is b k = refl
+other-const v n (item (const w l)) is b k = absurd (k refl)
+other-const v n (item (bitmask m)) is b k = refl
 
 module _ (t : List ℕ) (p₀ : Place) (v : ℕ) (p : Place) (k : Naming t p₀ v p) where
   pub const-end : length t ≤ p .at → 0 ≡ firstConst v (under (from t p₀))
@@ -77,18 +76,21 @@ module _ (t : List ℕ) (p₀ : Place) (v : ℕ) (p : Place) (k : Naming t p₀ 
       good : Good t l
       good = record { marked = step .marked; kind-is = step .kind-is; formed = rw (here .form-is) refl }
 
-      kind-is : l .kind ≡ 75
-      kind-is =
+      is-const-line : readAs (l .kind) ≡ 75
+      is-const-line =
           let z : record { line = p .line; says = begin .said } ∷ begin .others ≡ record { line = p .line; says = here .says } ∷ from t (l .next) =
           sym (begin .lines) ∙ here .lines in
           let y : _≡_ {A = Item} (record { line = p .line; says = begin .said }) (record { line = p .line; says = here .says }) = cc in
           here .kind-is ∙ ap (λ (i : Item). letter (i .says)) (sym y) ∙ sym (begin .kind) ∙ is-k
 
+      kind-is : l .kind ≡ 75
+      kind-is = read-other (l .kind) 75 (λ e. omega arith) is-const-line
+
       pub const-field : Has t l 1
       const-field = const-has t l good kind-is 1 (omega arith)
 
-      is-const : here .says ≡ const (worth 0 (field 1 (cells t l))) (field 2 (cells t l))
-      is-const = let z : some (here .says) ≡ some (const (worth 0 (field 1 (cells t l))) (field 2 (cells t l))) =
+      is-const : here .says ≡ item (const (worth 0 (field 1 (cells t l))) (field 2 (cells t l)))
+      is-const = let z : some (here .says) ≡ some (item (const (worth 0 (field 1 (cells t l))) (field 2 (cells t l)))) =
           sym (here .form-is) ∙ k-said t l good kind-is .1 in cc
 
       told-const : firstConst v (under (from t p₀)) ≡ cond (eqb (value 255 (field 1 (cells t l))) v) (p .line) (firstConst v (under (from t (l .next))))

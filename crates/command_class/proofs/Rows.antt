@@ -7,7 +7,7 @@ use Prim.Native.Nat.{ℕ, _<_}
 use native.Mathlib.Omega.{arith}
 use lib.Dec.{eqb, leb}
 use lib.ListN.{length}
-use borrow.Author.Tests.{eqb-true}
+use borrow.Author.Tests.{eqb-true, ne-eqb}
 use Rattle.text.specs.Text.{field, worth, decimal, upTo, value, missing, name, optionalUpTo, optionalValue, optional}
 use Rattle.text.specs.Text as text
 use Rattle.text.specs.Place.{cells, Steps, Has}
@@ -20,11 +20,11 @@ use Rattle.text.specs.declared.Optional.{Optional}
 use Rattle.text.specs.declared.Optional.the-variants.{Given, Missing, Wrong}
 use Rattle.text.proofs.Laws.{cells-length}
 use Rattle.text.proofs.Tests.{and-left, and-right, value-of, optional-value-of}
-use Rattle.command_text.specs.Form.{Record, param, group, variant, array, bitFlag, bitField, fieldEnum, const, bitmask, typeOf, paramWords, paramCondition}
+use Rattle.command_text.specs.Form.{Record, param, group, item, variant, array, bitFlag, bitField, const, bitmask, typeOf, paramWords, paramCondition}
 use Rattle.command_text.specs.Form.{paramFields, paramForm, paramOf, groupFields, groupForm, groupOf, variantFields, variantForm, sizeOf, arrayForm, asciiOf}
 use Rattle.command_text.specs.Form.{namedForm, bitsFields, bitsForm, bitsOf, bitmaskForm, given, ofType, said, form}
 use Rattle.command_text.specs.Rules.{rules}
-use Rattle.command_class.specs.Definition.{letter}
+use Rattle.command_class.specs.Definition.{letter, readAs}
 use Rattle.command_class.specs.Find.{from, Good, orMissing, optionalOr, Tells, IsRead}
 use Rattle.command_class.specs.declared.Row.{Row}
 use Rattle.command_text.specs.declared.ParamType.{ParamType}
@@ -146,7 +146,7 @@ module _ (t : List ℕ) (l : Line) (good : Good t l) where
 
   -- R
   module _ (is : l .kind ≡ 82) where
-    r-said : (variantForm fs ≡ true) × (form fs ≡ some (variant (sizeOf fs)))
+    r-said : (variantForm fs ≡ true) × (form fs ≡ some (item (variant (sizeOf fs))))
     r-said = said-good fs (variantForm fs) _ (rw (sym (good .kind-is) ∙ is)) (good .formed)
 
     pub variant-has : (k : ℕ) → k < 5 → Has t l k
@@ -160,7 +160,7 @@ module _ (t : List ℕ) (l : Line) (good : Good t l) where
         let x : (upTo 255 (field 2 fs) && (optionalUpTo 255 (field 3 fs) && upTo 1 (field 4 fs))) ≡ true = and-right (upTo 255 (field 1 fs)) _ w in
         let y : (optionalUpTo 255 (field 3 fs) && upTo 1 (field 4 fs)) ≡ true = and-right (upTo 255 (field 2 fs)) _ x in
         record {
-          said = variant (sizeOf fs);
+          said = item (variant (sizeOf fs));
           form-is = r-said .1;
           kind = refl;
           says = (
@@ -173,7 +173,7 @@ module _ (t : List ℕ) (l : Line) (good : Good t l) where
 
   -- A
   module _ (is : l .kind ≡ 65) where
-    a-said : (arrayForm fs ≡ true) × (form fs ≡ some (array (worth 0 (field 1 fs)) (asciiOf (field 2 fs))))
+    a-said : (arrayForm fs ≡ true) × (form fs ≡ some (item (array (worth 0 (field 1 fs)) (asciiOf (field 2 fs)))))
     a-said = said-good fs (arrayForm fs) _ (rw (sym (good .kind-is) ∙ is)) (good .formed)
 
     pub array-has : (k : ℕ) → k < 3 → Has t l k
@@ -184,7 +184,7 @@ module _ (t : List ℕ) (l : Line) (good : Good t l) where
     array-tells v a ev ea =
         let w : (upTo 255 (field 1 fs) && upTo 1 (field 2 fs)) ≡ true = and-right (eqb (length fs) 3) _ (a-said .0) in
         record {
-          said = array (worth 0 (field 1 fs)) (asciiOf (field 2 fs));
+          said = item (array (worth 0 (field 1 fs)) (asciiOf (field 2 fs)));
           form-is = a-said .1;
           kind = refl;
           says = (
@@ -199,7 +199,7 @@ module _ (t : List ℕ) (l : Line) (good : Good t l) where
   named-value e = value-of 255 (field 1 fs) (and-left (upTo 255 (field 1 fs)) (name (field 2 fs)) (and-right (eqb (length fs) 3) _ e))
 
   module _ (is : l .kind ≡ 84) where
-    t-said : (namedForm fs ≡ true) × (form fs ≡ some (bitFlag (worth 0 (field 1 fs)) (field 2 fs)))
+    t-said : (namedForm fs ≡ true) × (form fs ≡ some (item (bitFlag (worth 0 (field 1 fs)) (field 2 fs))))
     t-said = said-good fs (namedForm fs) _ (rw (sym (good .kind-is) ∙ is)) (good .formed)
 
     pub bit-flag-has : (k : ℕ) → k < 3 → Has t l k
@@ -207,10 +207,10 @@ module _ (t : List ℕ) (l : Line) (good : Good t l) where
 
     pub bit-flag-tells : (m : ℕ) → m ≡ value 255 (field 1 fs)
         → Tells t l (record { kind = 84; level = 0; typed = Byte; offset = 0; mask = m; shift = 0; value = 0; ascii = false })
-    bit-flag-tells m e = record { said = bitFlag (worth 0 (field 1 fs)) (field 2 fs); form-is = t-said .1; kind = refl; says = e ∙ named-value (t-said .0) }
+    bit-flag-tells m e = record { said = item (bitFlag (worth 0 (field 1 fs)) (field 2 fs)); form-is = t-said .1; kind = refl; says = e ∙ named-value (t-said .0) }
 
   module _ (is : l .kind ≡ 75) where
-    pub k-said : (namedForm fs ≡ true) × (form fs ≡ some (const (worth 0 (field 1 fs)) (field 2 fs)))
+    pub k-said : (namedForm fs ≡ true) × (form fs ≡ some (item (const (worth 0 (field 1 fs)) (field 2 fs))))
     k-said = said-good fs (namedForm fs) _ (rw (sym (good .kind-is) ∙ is)) (good .formed)
 
     pub const-has : (k : ℕ) → k < 3 → Has t l k
@@ -218,40 +218,39 @@ module _ (t : List ℕ) (l : Line) (good : Good t l) where
 
     pub const-tells : (v : ℕ) → v ≡ value 255 (field 1 fs)
         → Tells t l (record { kind = 75; level = 0; typed = Byte; offset = 0; mask = 0; shift = 0; value = v; ascii = false })
-    const-tells v e = record { said = const (worth 0 (field 1 fs)) (field 2 fs); form-is = k-said .1; kind = refl; says = e ∙ named-value (k-said .0) }
+    const-tells v e = record { said = item (const (worth 0 (field 1 fs)) (field 2 fs)); form-is = k-said .1; kind = refl; says = e ∙ named-value (k-said .0) }
 
-  -- S and U
+  -- S, and U, which is read as one
   bits-says : (m s : ℕ) → bitsForm fs ≡ true → m ≡ value 255 (field 1 fs) → s ≡ optionalValue 255 (field 2 fs) → (m ≡ bitsOf fs .mask)
       × (s ≡ bitsOf fs .shift)
   bits-says m s h em es =
       let w : bitsFields fs ≡ true = and-right (eqb (length fs) 4) (bitsFields fs) h in
       (em ∙ value-of 255 (field 1 fs) (and-left (upTo 255 (field 1 fs)) _ w), es ∙ optional-value-of 255 (field 2 fs) (bits-shift fs w))
 
-  module _ (is : l .kind ≡ 83) where
-    s-said : (bitsForm fs ≡ true) × (form fs ≡ some (bitField (bitsOf fs)))
-    s-said = said-good fs (bitsForm fs) _ (rw (sym (good .kind-is) ∙ is)) (good .formed)
+  module _ (is : readAs (l .kind) ≡ 83) where
+    s-said : (bitsForm fs ≡ true) × (form fs ≡ some (item (bitField (bitsOf fs))))
+    s-said = go (eqb (l .kind) 85) refl is
+      where
+        go : (b : Bool) → eqb (l .kind) 85 ≡ b → cond b 83 (l .kind) ≡ 83 → (bitsForm fs ≡ true) × (form fs ≡ some (item (bitField (bitsOf fs))))
+        go true e q = said-good fs (bitsForm fs) _ (rw (sym (good .kind-is) ∙ eqb-true (l .kind) 85 e)) (good .formed)
+        go false e q = said-good fs (bitsForm fs) _ (rw (sym (good .kind-is) ∙ q)) (good .formed)
 
     pub bit-field-has : (k : ℕ) → k < 4 → Has t l k
     bit-field-has k h = has-of 4 (bitsFields fs) (s-said .0) k h
 
     pub bit-field-tells : (m s : ℕ) → m ≡ value 255 (field 1 fs) → s ≡ optionalValue 255 (field 2 fs)
         → Tells t l (record { kind = 83; level = 0; typed = Byte; offset = 0; mask = m; shift = s; value = 0; ascii = false })
-    bit-field-tells m s em es = record { said = bitField (bitsOf fs); form-is = s-said .1; kind = refl; says = bits-says m s (s-said .0) em es }
+    bit-field-tells m s em es = record { said = item (bitField (bitsOf fs)); form-is = s-said .1; kind = refl; says = bits-says m s (s-said .0) em es }
 
-  module _ (is : l .kind ≡ 85) where
-    u-said : (bitsForm fs ≡ true) × (form fs ≡ some (fieldEnum (bitsOf fs)))
-    u-said = said-good fs (bitsForm fs) _ (rw (sym (good .kind-is) ∙ is)) (good .formed)
+  pub as-field : l .kind ≡ 83 → readAs (l .kind) ≡ 83
+  as-field e = rw e
 
-    pub field-enum-has : (k : ℕ) → k < 4 → Has t l k
-    field-enum-has k h = has-of 4 (bitsFields fs) (u-said .0) k h
-
-    pub field-enum-tells : (m s : ℕ) → m ≡ value 255 (field 1 fs) → s ≡ optionalValue 255 (field 2 fs)
-        → Tells t l (record { kind = 85; level = 0; typed = Byte; offset = 0; mask = m; shift = s; value = 0; ascii = false })
-    field-enum-tells m s em es = record { said = fieldEnum (bitsOf fs); form-is = u-said .1; kind = refl; says = bits-says m s (u-said .0) em es }
+  pub as-enum : l .kind ≡ 85 → readAs (l .kind) ≡ 83
+  as-enum e = rw e
 
   -- M
   module _ (is : l .kind ≡ 77) where
-    m-said : (bitmaskForm fs ≡ true) × (form fs ≡ some (bitmask (given (field 1 fs))))
+    m-said : (bitmaskForm fs ≡ true) × (form fs ≡ some (item (bitmask (given (field 1 fs)))))
     m-said = said-good fs (bitmaskForm fs) _ (rw (sym (good .kind-is) ∙ is)) (good .formed)
 
     pub bitmask-has : (k : ℕ) → k < 2 → Has t l k
@@ -260,7 +259,7 @@ module _ (t : List ℕ) (l : Line) (good : Good t l) where
     pub bitmask-tells : (v : ℕ) → v ≡ optionalOr (optional 255 (field 1 fs))
         → Tells t l (record { kind = 77; level = 0; typed = Byte; offset = 0; mask = 0; shift = 0; value = v; ascii = false })
     bitmask-tells v e = record {
-      said = bitmask (given (field 1 fs));
+      said = item (bitmask (given (field 1 fs)));
       form-is = m-said .1;
       kind = refl;
       says =
@@ -272,20 +271,22 @@ module _ (t : List ℕ) (l : Line) (good : Good t l) where
       → (l .kind ≡ 83 → ⊥) → (l .kind ≡ 85 → ⊥) → (l .kind ≡ 75 → ⊥) → l .kind ≡ 77
   last-kind q g r a f s u k = go (form fs) refl (good .formed)
     where
+      other : readAs (l .kind) ≡ l .kind
+      other = rw (ne-eqb (l .kind) 85 u)
+
       of-record : (x : Record) → l .kind ≡ letter x → l .kind ≡ 77
       of-record (param y) e = absurd (q e)
       of-record (group y) e = absurd (g e)
-      of-record (variant y) e = absurd (r e)
-      of-record (array n y) e = absurd (a e)
-      of-record (bitFlag m y) e = absurd (f e)
-      of-record (bitField y) e = absurd (s e)
-      of-record (fieldEnum y) e = absurd (u e)
-      of-record (const v y) e = absurd (k e)
-      of-record (bitmask y) e = e
+      of-record (item (variant y)) e = absurd (r e)
+      of-record (item (array n y)) e = absurd (a e)
+      of-record (item (bitFlag m y)) e = absurd (f e)
+      of-record (item (bitField y)) e = absurd (s e)
+      of-record (item (const v y)) e = absurd (k e)
+      of-record (item (bitmask y)) e = e
 
       go : (x : Option Record) → form fs ≡ x → isSome x ≡ true → l .kind ≡ 77
       go none e h = absurd (let z : _≡_ {A = ℕ} 0 1 = cc in omega arith)
-      go (some x) e h = of-record x (good .kind-is ∙ kind-letter fs x e)
+      go (some x) e h = of-record x (sym other ∙ ap readAs (good .kind-is) ∙ kind-letter fs x e)
 
 pub ruleset param-laws = (param-has, type-says, type-never, param-tells)
 
@@ -302,8 +303,6 @@ pub ruleset row-laws = (
   const-tells,
   bit-field-has,
   bit-field-tells,
-  field-enum-has,
-  field-enum-tells,
   bitmask-has,
   bitmask-tells,
 )

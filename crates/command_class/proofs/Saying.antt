@@ -14,15 +14,15 @@ use Rattle.text.specs.Print.{shown, orDash, Optionally, Every, Reads}
 use Rattle.text.specs.Records.{onto, records}
 use Rattle.text.proofs.Tests.{and-left, and-right}
 use Rattle.text.proofs.Printing.{up-to-back, missing-is, same-is, all-fields, letter-field}
-use Rattle.command_text.specs.Form.{Record, param, group, variant, array, bitFlag, bitField, fieldEnum, const, bitmask, value, given, shiftOf, asciiOf}
+use Rattle.command_text.specs.Form.{Record, param, group, item, Detail, variant, array, bitFlag, bitField, const, bitmask, value, given, shiftOf, asciiOf}
 use Rattle.command_text.specs.Form.{typeName, types, typeAmong, known, typeOf, paramWords, paramCondition, paramFields, paramForm, groupFields, groupForm, variantFields, variantForm}
 use Rattle.command_text.specs.Form.{arrayForm, namedForm, bitsFields, bitsForm, bitmaskForm, paramOf, groupOf, sizeOf, bitsOf, ofType, said, paramSaid, form}
 use Rattle.command_text.specs.declared.ParamType.{ParamType}
 use Rattle.command_text.specs.declared.Typed.{Typed}
 use Rattle.command_text.specs.declared.Typed.the-variants.{Is, Not}
 use Rattle.command_text.specs.Rules.{shift, rules}
-use Rattle.command_class.specs.Definition.{letter}
-use Rattle.command_class.specs.Print.{digit, shiftShown, print, BitsFit, Fits, writing}
+use Rattle.command_class.specs.Definition.{letterOf, letter, readAs}
+use Rattle.command_class.specs.Print.{digit, shiftShown, Spelling, printItem, print, Fits, writing}
 
 -- ---- what a field says
 optional-reads : (l : List ℕ) → optionalUpTo 255 l ≡ true → (orDash shown (given l) ≡ l) × Optionally (λ n. n ≤ 255) (given l)
@@ -71,14 +71,16 @@ type-reads (t ∷ ts) l type e = by-test (same l (typeName t)) refl (type-reads 
 -- ---- each form
 module _ (fs : List (List ℕ)) where
   -- a line of n fields that says x
-  line : (n : ℕ) (x : Record) (m : Bool) → eqb (length fs) n ≡ true → (length fs ≡ n → print m x ≡ fs) → Fits x → (m ≡ true → shift x ≡ 0)
-      → Reads rules writing fs x
-  line n x m e p f z =
-      record { line = record { says = x; missing = m }; says-it = refl; print-is = p (eqb-true (length fs) n e); fits = record { fits = f; zero = z } }
+  line : (n : ℕ) (x : Record) (w : Spelling) → eqb (length fs) n ≡ true → (length fs ≡ n → print w x ≡ fs) → Fits x
+      → (w .missing ≡ true → shift x ≡ 0) → Reads rules writing fs x
+  line n x w e p f z =
+      record { line = record { says = x; spelling = w }; says-it = refl; print-is = p (eqb-true (length fs) n e); fits = record { fits = f; zero = z } }
 
-  -- one without a shift that may be missing
-  plain-line : (n : ℕ) (x : Record) → eqb (length fs) n ≡ true → (length fs ≡ n → print false x ≡ fs) → Fits x → Reads rules writing fs x
-  plain-line n x e p f = line n x false e p f (λ q. absurd (let z : _≡_ {A = ℕ} 0 1 = cc in omega arith))
+  -- one that is written in one way
+  plain-line : (n : ℕ) (x : Record) → eqb (length fs) n ≡ true
+      → (length fs ≡ n → print (record { missing = false; enum = false }) x ≡ fs) → Fits x → Reads rules writing fs x
+  plain-line n x e p f =
+      line n x (record { missing = false; enum = false }) e p f (λ q. absurd (let z : _≡_ {A = ℕ} 0 1 = cc in omega arith))
 
   param-reads : (type : ParamType) → kindOf fs ≡ 81 → typeOf (field 2 fs) ≡ Is type → paramForm fs ≡ true → Reads rules writing fs (param (paramOf fs type))
   param-reads type k t e =
@@ -111,7 +113,7 @@ module _ (fs : List (List ℕ)) where
       (λ n. rw (two .0, three .0, four .0, ← letter-field fs 71 k (omega arith)) (all-fields 5 0 fs n))
       (and-left (name (field 1 fs)) _ w, two .1, three .1, four .1)
 
-  variant-reads : kindOf fs ≡ 82 → variantForm fs ≡ true → Reads rules writing fs (variant (sizeOf fs))
+  variant-reads : kindOf fs ≡ 82 → variantForm fs ≡ true → Reads rules writing fs (item (variant (sizeOf fs)))
   variant-reads k e =
       let w : variantFields fs ≡ true = and-right (eqb (length fs) 5) _ e in
       let x : (upTo 255 (field 2 fs) && (optionalUpTo 255 (field 3 fs) && upTo 1 (field 4 fs))) ≡ true = and-right (upTo 255 (field 1 fs)) _ w in
@@ -122,11 +124,11 @@ module _ (fs : List (List ℕ)) where
       up-to-back 255 (field 2 fs) (and-left (upTo 255 (field 2 fs)) _ x) in
       let three : ShiftReads (field 3 fs) = shift-reads (field 3 fs) (and-left (optionalUpTo 255 (field 3 fs)) _ y) in
       let four : digit (asciiOf (field 4 fs)) ≡ field 4 fs = digit-reads (field 4 fs) (and-right (optionalUpTo 255 (field 3 fs)) _ y) in
-      line 5 (variant (sizeOf fs)) (missing (field 3 fs)) (and-left (eqb (length fs) 5) _ e)
+      line 5 (item (variant (sizeOf fs))) (record { missing = missing (field 3 fs); enum = false }) (and-left (eqb (length fs) 5) _ e)
       (λ n. rw (one .0, two .0, three .is, four, ← letter-field fs 82 k (omega arith)) (all-fields 5 0 fs n))
       (one .1, two .1, three .most) (three .zero)
 
-  array-reads : kindOf fs ≡ 65 → arrayForm fs ≡ true → Reads rules writing fs (array (value (field 1 fs)) (asciiOf (field 2 fs)))
+  array-reads : kindOf fs ≡ 65 → arrayForm fs ≡ true → Reads rules writing fs (item (array (value (field 1 fs)) (asciiOf (field 2 fs))))
   array-reads k e =
       let w : (upTo 255 (field 1 fs) && upTo 1 (field 2 fs)) ≡ true = and-right (eqb (length fs) 3) _ e in
       let one : (shown (value (field 1 fs)) ≡ field 1 fs) × (value (field 1 fs) ≤ 255) =
@@ -148,46 +150,29 @@ module _ (fs : List (List ℕ)) where
       up-to-back 255 (field 1 fs) (and-left (upTo 255 (field 1 fs)) _ w) in
       record { number = one .0; most = one .1; named = and-right (upTo 255 (field 1 fs)) _ w }
 
-  flag-reads : kindOf fs ≡ 84 → namedForm fs ≡ true → Reads rules writing fs (bitFlag (value (field 1 fs)) (field 2 fs))
+  flag-reads : kindOf fs ≡ 84 → namedForm fs ≡ true → Reads rules writing fs (item (bitFlag (value (field 1 fs)) (field 2 fs)))
   flag-reads k e =
       plain-line 3 _ (and-left (eqb (length fs) 3) _ e)
       (λ n. rw (named e .number, ← letter-field fs 84 k (omega arith)) (all-fields 3 0 fs n)) (named e .most, named e .named)
 
-  const-reads : kindOf fs ≡ 75 → namedForm fs ≡ true → Reads rules writing fs (const (value (field 1 fs)) (field 2 fs))
+  const-reads : kindOf fs ≡ 75 → namedForm fs ≡ true → Reads rules writing fs (item (const (value (field 1 fs)) (field 2 fs)))
   const-reads k e =
       plain-line 3 _ (and-left (eqb (length fs) 3) _ e)
       (λ n. rw (named e .number, ← letter-field fs 75 k (omega arith)) (all-fields 3 0 fs n)) (named e .most, named e .named)
 
-  -- an S or a U
-  record Bitten : Type 0 where
-    pub mask : shown (value (field 1 fs)) ≡ field 1 fs
-    pub shift : ShiftReads (field 2 fs)
-    pub fits : BitsFit (bitsOf fs)
-
-  bitten : bitsForm fs ≡ true → Bitten
-  bitten e =
+  -- an S, or a U
+  bits-reads : (u : Bool) (k : ℕ) → cond u 85 83 ≡ k → 1 ≤ k → kindOf fs ≡ k → bitsForm fs ≡ true → Reads rules writing fs (item (bitField (bitsOf fs)))
+  bits-reads u k is some-k kind e =
       let w : bitsFields fs ≡ true = and-right (eqb (length fs) 4) _ e in
       let x : (optionalUpTo 255 (field 2 fs) && name (field 3 fs)) ≡ true = and-right (upTo 255 (field 1 fs)) _ w in
       let one : (shown (value (field 1 fs)) ≡ field 1 fs) × (value (field 1 fs) ≤ 255) =
       up-to-back 255 (field 1 fs) (and-left (upTo 255 (field 1 fs)) _ w) in
       let two : ShiftReads (field 2 fs) = shift-reads (field 2 fs) (and-left (optionalUpTo 255 (field 2 fs)) _ x) in
-      record {
-        mask = one .0;
-        shift = two;
-        fits = record { mask = one .1; shift = two .most; named = and-right (optionalUpTo 255 (field 2 fs)) _ x };
-      }
+      line 4 (item (bitField (bitsOf fs))) (record { missing = missing (field 2 fs); enum = u }) (and-left (eqb (length fs) 4) _ e)
+      (λ n. rw (is, one .0, two .is, ← letter-field fs k kind some-k) (all-fields 4 0 fs n))
+      (one .1, two .most, and-right (optionalUpTo 255 (field 2 fs)) _ x) (two .zero)
 
-  field-reads : kindOf fs ≡ 83 → bitsForm fs ≡ true → Reads rules writing fs (bitField (bitsOf fs))
-  field-reads k e =
-      line 4 (bitField (bitsOf fs)) (missing (field 2 fs)) (and-left (eqb (length fs) 4) _ e)
-      (λ n. rw (bitten e .mask, bitten e .shift .is, ← letter-field fs 83 k (omega arith)) (all-fields 4 0 fs n)) (bitten e .fits) (bitten e .shift .zero)
-
-  enum-reads : kindOf fs ≡ 85 → bitsForm fs ≡ true → Reads rules writing fs (fieldEnum (bitsOf fs))
-  enum-reads k e =
-      line 4 (fieldEnum (bitsOf fs)) (missing (field 2 fs)) (and-left (eqb (length fs) 4) _ e)
-      (λ n. rw (bitten e .mask, bitten e .shift .is, ← letter-field fs 85 k (omega arith)) (all-fields 4 0 fs n)) (bitten e .fits) (bitten e .shift .zero)
-
-  bitmask-reads : kindOf fs ≡ 77 → bitmaskForm fs ≡ true → Reads rules writing fs (bitmask (given (field 1 fs)))
+  bitmask-reads : kindOf fs ≡ 77 → bitmaskForm fs ≡ true → Reads rules writing fs (item (bitmask (given (field 1 fs))))
   bitmask-reads k e =
       let one : (orDash shown (given (field 1 fs)) ≡ field 1 fs) × Optionally (λ n. n ≤ 255) (given (field 1 fs)) =
       optional-reads (field 1 fs) (and-right (eqb (length fs) 2) _ e) in
@@ -217,13 +202,13 @@ module _ (fs : List (List ℕ)) where
             → eqb (kindOf fs) 83 ≡ s → eqb (kindOf fs) 85 ≡ u → eqb (kindOf fs) 75 ≡ k → eqb (kindOf fs) 77 ≡ m
             → cond q (paramSaid fs)
             (cond g (said (groupForm fs) (some (group (groupOf fs))))
-            (cond r (said (variantForm fs) (some (variant (sizeOf fs))))
-            (cond a (said (arrayForm fs) (some (array (value (field 1 fs)) (asciiOf (field 2 fs)))))
-            (cond t (said (namedForm fs) (some (bitFlag (value (field 1 fs)) (field 2 fs))))
-            (cond s (said (bitsForm fs) (some (bitField (bitsOf fs))))
-            (cond u (said (bitsForm fs) (some (fieldEnum (bitsOf fs))))
-            (cond k (said (namedForm fs) (some (const (value (field 1 fs)) (field 2 fs))))
-            (cond m (said (bitmaskForm fs) (some (bitmask (given (field 1 fs))))) none)))))))) ≡ some x
+            (cond r (said (variantForm fs) (some (item (variant (sizeOf fs)))))
+            (cond a (said (arrayForm fs) (some (item (array (value (field 1 fs)) (asciiOf (field 2 fs))))))
+            (cond t (said (namedForm fs) (some (item (bitFlag (value (field 1 fs)) (field 2 fs)))))
+            (cond s (said (bitsForm fs) (some (item (bitField (bitsOf fs)))))
+            (cond u (said (bitsForm fs) (some (item (bitField (bitsOf fs)))))
+            (cond k (said (namedForm fs) (some (item (const (value (field 1 fs)) (field 2 fs)))))
+            (cond m (said (bitmaskForm fs) (some (item (bitmask (given (field 1 fs)))))) none)))))))) ≡ some x
             → Reads rules writing fs x
         by-kind true g r a t s u k m eq eg er ea et es eu ek em e =
             one-param (paramForm fs) (typeOf (field 2 fs)) refl refl (λ type. param-reads type (eqb-true _ _ eq)) e
@@ -231,8 +216,8 @@ module _ (fs : List (List ℕ)) where
         by-kind false false true a t s u k m eq eg er ea et es eu ek em e = one (variantForm fs) _ (variant-reads (eqb-true _ _ er)) e
         by-kind false false false true t s u k m eq eg er ea et es eu ek em e = one (arrayForm fs) _ (array-reads (eqb-true _ _ ea)) e
         by-kind false false false false true s u k m eq eg er ea et es eu ek em e = one (namedForm fs) _ (flag-reads (eqb-true _ _ et)) e
-        by-kind false false false false false true u k m eq eg er ea et es eu ek em e = one (bitsForm fs) _ (field-reads (eqb-true _ _ es)) e
-        by-kind false false false false false false true k m eq eg er ea et es eu ek em e = one (bitsForm fs) _ (enum-reads (eqb-true _ _ eu)) e
+        by-kind false false false false false true u k m eq eg er ea et es eu ek em e = one (bitsForm fs) _ (bits-reads false 83 refl (omega arith) (eqb-true _ _ es)) e
+        by-kind false false false false false false true k m eq eg er ea et es eu ek em e = one (bitsForm fs) _ (bits-reads true 85 refl (omega arith) (eqb-true _ _ eu)) e
         by-kind false false false false false false false true m eq eg er ea et es eu ek em e = one (namedForm fs) _ (const-reads (eqb-true _ _ ek)) e
         by-kind false false false false false false false false true eq eg er ea et es eu ek em e =
             one (bitmaskForm fs) _ (bitmask-reads (eqb-true _ _ em)) e
@@ -240,21 +225,27 @@ module _ (fs : List (List ℕ)) where
             absurd (let z : _≡_ {A = ℕ} 0 1 = cc in omega arith)
 
     -- the kind of a line whose record this is
-    pub kind-letter : form fs ≡ some x → kindOf fs ≡ letter x
+    pub kind-letter : form fs ≡ some x → readAs (kindOf fs) ≡ letter x
     kind-letter e =
         let w : Reads rules writing fs x = reads e in
-        ap kindOf (sym (w .print-is)) ∙ by-record (w .line .missing) (w .line .says) ∙ ap letter (w .says-it)
+        ap (λ (gs : List (List ℕ)). readAs (kindOf gs)) (sym (w .print-is)) ∙ by-record (w .line .spelling) (w .line .says) ∙ ap letter (w .says-it)
       where
-        by-record : (m : Bool) (x : Record) → kindOf (print m x) ≡ letter x
-        by-record m (param q) = refl
-        by-record m (group g) = refl
-        by-record m (variant s) = refl
-        by-record m (array n ascii) = refl
-        by-record m (bitFlag mask n) = refl
-        by-record m (bitField b) = refl
-        by-record m (fieldEnum b) = refl
-        by-record m (const v n) = refl
-        by-record m (bitmask n) = refl
+        by-enum : (u : Bool) → readAs (cond u 85 83) ≡ 83
+        by-enum true = refl
+        by-enum false = refl
+
+        by-item : (w : Spelling) (d : Detail) → readAs (kindOf (printItem w d)) ≡ letterOf d
+        by-item w (variant s) = refl
+        by-item w (array n ascii) = refl
+        by-item w (bitFlag mask n) = refl
+        by-item w (bitField b) = by-enum (w .enum)
+        by-item w (const v n) = refl
+        by-item w (bitmask n) = refl
+
+        by-record : (w : Spelling) (x : Record) → readAs (kindOf (print w x)) ≡ letter x
+        by-record w (param q) = refl
+        by-record w (group g) = refl
+        by-record w (item d) = by-item w d
 
     said-fits : form fs ≡ some x → Fits x
     said-fits e = let w : Reads rules writing fs x = reads e in rw (← w .says-it) (w .fits .fits)

@@ -2,11 +2,12 @@
 use Prim.Native.Nat.{ℕ, suc}
 use mathlib.Core.Bool.{Bool, true, false, cond}
 use mathlib.Core.List.{List, [], _∷_}
+use mathlib.Core.Option.{Option, none, some}
 use lib.Dec.{eqb}
 use Rattle.text.specs.Text.{lines}
 use Rattle.text.specs.Records.{records}
 use Rattle.text.specs.Listing.{listed}
-use Rattle.command_text.specs.Form.{Param, Group, Record, param, group, variant, array, bitFlag, bitField, fieldEnum, const, bitmask, form}
+use Rattle.command_text.specs.Form.{Param, Group, Record, param, group, item, Detail, variant, array, bitFlag, bitField, const, bitmask, form}
 use Rattle.command_text.specs.Rules.{begins}
 
 -- a line: its number in the text, from 1, and what it says
@@ -43,13 +44,7 @@ abbrev pub membersAt : ℕ → List Record → List Parameter
 membersAt n [] = []
 membersAt n (param q ∷ rs) = cond (eqb (q .level) 1) (record { line = n; says = q; items = under (numbered (suc n) rs) } ∷ membersAt (suc n) rs) []
 membersAt n (group g ∷ rs) = []
-membersAt n (variant s ∷ rs) = membersAt (suc n) rs
-membersAt n (array length ascii ∷ rs) = membersAt (suc n) rs
-membersAt n (bitFlag mask name ∷ rs) = membersAt (suc n) rs
-membersAt n (bitField b ∷ rs) = membersAt (suc n) rs
-membersAt n (fieldEnum b ∷ rs) = membersAt (suc n) rs
-membersAt n (const value name ∷ rs) = membersAt (suc n) rs
-membersAt n (bitmask length ∷ rs) = membersAt (suc n) rs
+membersAt n (item d ∷ rs) = membersAt (suc n) rs
 
 -- a Q of level 0 stands by itself, one of level 1 in its group
 abbrev pub entriesAt : ℕ → List Record → List Entry
@@ -57,13 +52,7 @@ entriesAt n [] = []
 entriesAt n (param q ∷ rs) =
     cond (eqb (q .level) 0) (single (record { line = n; says = q; items = under (numbered (suc n) rs) }) ∷ entriesAt (suc n) rs) (entriesAt (suc n) rs)
 entriesAt n (group g ∷ rs) = repeated n g (membersAt (suc n) rs) ∷ entriesAt (suc n) rs
-entriesAt n (variant s ∷ rs) = entriesAt (suc n) rs
-entriesAt n (array length ascii ∷ rs) = entriesAt (suc n) rs
-entriesAt n (bitFlag mask name ∷ rs) = entriesAt (suc n) rs
-entriesAt n (bitField b ∷ rs) = entriesAt (suc n) rs
-entriesAt n (fieldEnum b ∷ rs) = entriesAt (suc n) rs
-entriesAt n (const value name ∷ rs) = entriesAt (suc n) rs
-entriesAt n (bitmask length ∷ rs) = entriesAt (suc n) rs
+entriesAt n (item d ∷ rs) = entriesAt (suc n) rs
 
 -- T32: what a command text defines, its Qs and Gs, in text order
 abbrev pub definition : List ℕ → List Entry
@@ -71,31 +60,45 @@ definition t = entriesAt 1 (records form (lines t))
 
 -- ---- what is looked for
 
--- the letter of a line
+-- the letter of an item
+abbrev pub letterOf : Detail → ℕ
+letterOf (variant s) = 0x52
+letterOf (array length ascii) = 0x41
+letterOf (bitFlag mask name) = 0x54
+letterOf (bitField b) = 0x53
+letterOf (const value name) = 0x4b
+letterOf (bitmask length) = 0x4d
+
+-- the letter of a record
 abbrev pub letter : Record → ℕ
 letter (param q) = 0x51
 letter (group g) = 0x47
-letter (variant s) = 0x52
-letter (array length ascii) = 0x41
-letter (bitFlag mask name) = 0x54
-letter (bitField b) = 0x53
-letter (fieldEnum b) = 0x55
-letter (const value name) = 0x4b
-letter (bitmask length) = 0x4d
+letter (item d) = letterOf d
 
--- is a K of this value
-abbrev pub isConst : ℕ → Record → Bool
-isConst v (param q) = false
-isConst v (group g) = false
-isConst v (variant s) = false
-isConst v (array length ascii) = false
-isConst v (bitFlag mask name) = false
-isConst v (bitField b) = false
-isConst v (fieldEnum b) = false
-isConst v (const value name) = eqb value v
-isConst v (bitmask length) = false
+-- T27: the letter that a line's letter is read as
+abbrev pub readAs : ℕ → ℕ
+readAs kind = cond (eqb kind 0x55) 0x53 kind
+
+-- what f tells of an item
+abbrev pub ofItem : {A : Type 0} → (Detail → Option A) → Record → Option A
+ofItem f (param q) = none
+ofItem f (group g) = none
+ofItem f (item d) = f d
+
+-- the value of a K
+abbrev pub asConst : Detail → Option ℕ
+asConst (variant s) = none
+asConst (array length ascii) = none
+asConst (bitFlag mask name) = none
+asConst (bitField b) = none
+asConst (const value name) = some value
+asConst (bitmask length) = none
+
+abbrev pub isValue : ℕ → Option ℕ → Bool
+isValue v none = false
+isValue v (some value) = eqb value v
 
 -- C12: the line of the first K of this value, or 0
 abbrev pub firstConst : ℕ → List Item → ℕ
 firstConst v [] = 0
-firstConst v (i ∷ is) = cond (isConst v (i .says)) (i .line) (firstConst v is)
+firstConst v (i ∷ is) = cond (isValue v (ofItem asConst (i .says))) (i .line) (firstConst v is)

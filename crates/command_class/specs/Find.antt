@@ -11,7 +11,7 @@ use Rattle.text.specs.declared.Place.{Place}
 use Rattle.text.specs.declared.Line.{Line}
 use Rattle.text.specs.declared.Optional.{Optional}
 use Rattle.text.specs.declared.Optional.the-variants.{Given, Missing, Wrong}
-use Rattle.command_text.specs.Form.{Record, param, group, variant, array, bitFlag, bitField, fieldEnum, const, bitmask, form}
+use Rattle.command_text.specs.Form.{Record, param, group, item, Detail, variant, array, bitFlag, bitField, const, bitmask, form}
 use Rattle.command_text.specs.Rules.{rules}
 use Rattle.command_class.specs.Definition.{Item, numbered, letter}
 use Rattle.command_class.specs.declared.Row.{Row}
@@ -42,17 +42,20 @@ optionalOr (Given n) = n
 optionalOr Missing = 256
 optionalOr Wrong = 256
 
+-- the numbers of a row are what an item says
+abbrev pub SaysItem : Detail → Row → Type 0
+SaysItem (variant s) r = (r .offset ≡ s .offset) × (r .mask ≡ s .mask) × (r .shift ≡ s .shift) × (r .ascii ≡ s .ascii)
+SaysItem (array length ascii) r = (r .value ≡ length) × (r .ascii ≡ ascii)
+SaysItem (bitFlag mask name) r = r .mask ≡ mask
+SaysItem (bitField b) r = (r .mask ≡ b .mask) × (r .shift ≡ b .shift)
+SaysItem (const value name) r = r .value ≡ value
+SaysItem (bitmask length) r = r .value ≡ orMissing length
+
 -- the numbers of a row are what the line says
 abbrev pub Says : Record → Row → Type 0
 Says (param q) r = (r .level ≡ q .level) × (r .typed ≡ q .type) × (r .offset ≡ orMissing (q .offset)) × (r .mask ≡ orMissing (q .mask))
 Says (group g) r = (r .offset ≡ g .offset) × (r .mask ≡ g .mask) × (r .shift ≡ g .shift)
-Says (variant s) r = (r .offset ≡ s .offset) × (r .mask ≡ s .mask) × (r .shift ≡ s .shift) × (r .ascii ≡ s .ascii)
-Says (array length ascii) r = (r .value ≡ length) × (r .ascii ≡ ascii)
-Says (bitFlag mask name) r = r .mask ≡ mask
-Says (bitField b) r = (r .mask ≡ b .mask) × (r .shift ≡ b .shift)
-Says (fieldEnum b) r = (r .mask ≡ b .mask) × (r .shift ≡ b .shift)
-Says (const value name) r = r .value ≡ value
-Says (bitmask length) r = r .value ≡ orMissing length
+Says (item d) r = SaysItem d r
 
 -- a row tells what a line says
 pub record Tells (t : List ℕ) (l : Line) (r : Row) : Type 0 where
@@ -71,7 +74,7 @@ pub record IsRead (t : List ℕ) (p : Place) (r : Read) : Type 0 where
   pub count : r .next .line ≡ p .line + 1
   pub on : p .at < r .next .at
 
--- a line of the kind k begins at the place p
+-- a line that is read as one of the kind k begins at the place p
 pub record Begins (t : List ℕ) (p : Place) (k : ℕ) : Type 0 where
   pub said : Record
   pub others : List Item

@@ -5,7 +5,7 @@ use mathlib.Core.Path.{_≡_}
 use mathlib.Core.List.{List, [], _∷_}
 use Rattle.text.specs.Text.{name}
 use Rattle.text.specs.Print.{shown, orDash, Optionally, Writing, IsText}
-use Rattle.command_text.specs.Form.{Param, Bits, Record, param, group, variant, array, bitFlag, bitField, fieldEnum, const, bitmask, typeName}
+use Rattle.command_text.specs.Form.{Param, Record, param, group, item, Detail, variant, array, bitFlag, bitField, const, bitmask, typeName}
 use Rattle.command_text.specs.Rules.{shift, rules}
 
 -- ascii, as 0 or 1
@@ -16,17 +16,25 @@ digit b = cond b (0x31 ∷ []) (0x30 ∷ [])
 abbrev pub shiftShown : Bool → ℕ → List ℕ
 shiftShown missing shift = cond missing (0x2d ∷ []) (shown shift)
 
--- the fields of the line of a record; a shift of R, S and U may be missing
-abbrev pub print : Bool → Record → List (List ℕ)
-print m (param q) = (0x51 ∷ []) ∷ shown (q .level) ∷ typeName (q .type) ∷ q .name ∷ orDash shown (q .offset) ∷ orDash shown (q .mask) ∷ []
-print m (group g) = (0x47 ∷ []) ∷ g .name ∷ shown (g .offset) ∷ shown (g .mask) ∷ shown (g .shift) ∷ []
-print m (variant s) = (0x52 ∷ []) ∷ shown (s .offset) ∷ shown (s .mask) ∷ shiftShown m (s .shift) ∷ digit (s .ascii) ∷ []
-print m (array length ascii) = (0x41 ∷ []) ∷ shown length ∷ digit ascii ∷ []
-print m (bitFlag mask n) = (0x54 ∷ []) ∷ shown mask ∷ n ∷ []
-print m (bitField b) = (0x53 ∷ []) ∷ shown (b .mask) ∷ shiftShown m (b .shift) ∷ b .name ∷ []
-print m (fieldEnum b) = (0x55 ∷ []) ∷ shown (b .mask) ∷ shiftShown m (b .shift) ∷ b .name ∷ []
-print m (const value n) = (0x4b ∷ []) ∷ shown value ∷ n ∷ []
-print m (bitmask length) = (0x4d ∷ []) ∷ orDash shown length ∷ []
+-- how a line is written: is a shift of R and S left out, is an S written as a U
+pub record Spelling : Type 0 where
+  pub missing : Bool
+  pub enum : Bool
+
+-- the fields of an item's line
+abbrev pub printItem : Spelling → Detail → List (List ℕ)
+printItem w (variant s) = (0x52 ∷ []) ∷ shown (s .offset) ∷ shown (s .mask) ∷ shiftShown (w .missing) (s .shift) ∷ digit (s .ascii) ∷ []
+printItem w (array length ascii) = (0x41 ∷ []) ∷ shown length ∷ digit ascii ∷ []
+printItem w (bitFlag mask n) = (0x54 ∷ []) ∷ shown mask ∷ n ∷ []
+printItem w (bitField b) = (cond (w .enum) 0x55 0x53 ∷ []) ∷ shown (b .mask) ∷ shiftShown (w .missing) (b .shift) ∷ b .name ∷ []
+printItem w (const value n) = (0x4b ∷ []) ∷ shown value ∷ n ∷ []
+printItem w (bitmask length) = (0x4d ∷ []) ∷ orDash shown length ∷ []
+
+-- the fields of a record's line
+abbrev pub print : Spelling → Record → List (List ℕ)
+print w (param q) = (0x51 ∷ []) ∷ shown (q .level) ∷ typeName (q .type) ∷ q .name ∷ orDash shown (q .offset) ∷ orDash shown (q .mask) ∷ []
+print w (group g) = (0x47 ∷ []) ∷ g .name ∷ shown (g .offset) ∷ shown (g .mask) ∷ shown (g .shift) ∷ []
+print w (item d) = printItem w d
 
 -- what a Q can say
 pub record ParamFits (q : Param) : Type 0 where
@@ -35,38 +43,35 @@ pub record ParamFits (q : Param) : Type 0 where
   pub offset : Optionally (λ n. n ≤ 255) (q .offset)
   pub mask : Optionally (λ n. n ≤ 255) (q .mask)
 
--- what an S or U can say
-pub record BitsFit (b : Bits) : Type 0 where
-  pub mask : b .mask ≤ 255
-  pub shift : b .shift ≤ 255
-  pub named : name (b .name) ≡ true
+-- what an item can say
+abbrev pub ItemFits : Detail → Type 0
+ItemFits (variant s) = (s .offset ≤ 255) × (s .mask ≤ 255) × (s .shift ≤ 255)
+ItemFits (array length ascii) = length ≤ 255
+ItemFits (bitFlag mask n) = (mask ≤ 255) × (name n ≡ true)
+ItemFits (bitField b) = (b .mask ≤ 255) × (b .shift ≤ 255) × (name (b .name) ≡ true)
+ItemFits (const value n) = (value ≤ 255) × (name n ≡ true)
+ItemFits (bitmask length) = Optionally (λ n. n ≤ 255) length
 
 -- what a line can say
 abbrev pub Fits : Record → Type 0
 Fits (param q) = ParamFits q
 Fits (group g) = (name (g .name) ≡ true) × (g .offset ≤ 255) × (g .mask ≤ 255) × (g .shift ≤ 255)
-Fits (variant s) = (s .offset ≤ 255) × (s .mask ≤ 255) × (s .shift ≤ 255)
-Fits (array length ascii) = length ≤ 255
-Fits (bitFlag mask n) = (mask ≤ 255) × (name n ≡ true)
-Fits (bitField b) = BitsFit b
-Fits (fieldEnum b) = BitsFit b
-Fits (const value n) = (value ≤ 255) × (name n ≡ true)
-Fits (bitmask length) = Optionally (λ n. n ≤ 255) length
+Fits (item d) = ItemFits d
 
--- a line: what it says, and whether its shift is missing
+-- a line: what it says, and how it is written
 pub record Written : Type 0 where
   pub says : Record
-  pub missing : Bool
+  pub spelling : Spelling
 
--- a shift that is missing says 0
+-- a shift that is left out is 0
 pub record LineFits (w : Written) : Type 0 where
   pub fits : Fits (w .says)
-  pub zero : w .missing ≡ true → shift (w .says) ≡ 0
+  pub zero : w .spelling .missing ≡ true → shift (w .says) ≡ 0
 
 abbrev pub writing : Writing Record Written
-writing = record { says = λ w. w .says; print = λ w. print (w .missing) (w .says); Fits = LineFits }
+writing = record { says = λ w. w .says; print = λ w. print (w .spelling) (w .says); Fits = LineFits }
 
 -- R1, R2, R3: is it the text of records that fit their forms, keep the limits and have their owners, within 60,000 bytes;
--- a shift of 0 may be written as a missing one
+-- a shift of 0 may be left out, and an S be written as a U
 abbrev pub IsCommandText : List ℕ → Type 0
 IsCommandText t = IsText rules writing t

@@ -13,7 +13,7 @@ ghost use Rattle.text.specs.Place.{cells, Has};
 ghost use Rattle.text.specs.Records.{Readable};
 ghost use Rattle.command_text.specs.Form.{typeOf};
 ghost use Rattle.command_text.specs.Rules.{rules};
-ghost use Rattle.command_class.specs.Definition.{under, firstConst};
+ghost use Rattle.command_class.specs.Definition.{under, readAs, firstConst};
 ghost use Rattle.command_class.specs.Find.{from, Good, among, optionalOr, Tells, IsRead, Begins, Follows};
 
 // What a line says, as numbers; 256 for a missing offset, mask or length, 0 where the line has no such number.
@@ -152,30 +152,13 @@ fn read_bit_flag(text: &[u8], line: Line) -> Row
     }
 }
 
-// What an S line says.
+// What an S line says, and a U line, which is read as one.
 fn read_bit_field(text: &[u8], line: Line) -> Row
-    requires { ⌜ (Good (now text) line) × (line .kind ≡ 83) ⌝ }
+    requires { ⌜ (Good (now text) line) × (readAs (line .kind) ≡ 83) ⌝ }
     ensures { λ r. ⌜ Tells (now (text .entry)) line r ⌝ }
 {
     Row {
         kind: b'S',
-        level: 0,
-        typed: ParamType::Byte,
-        offset: 0,
-        mask: line.value(text, 1, 255),
-        shift: line.optional_value(text, 2, 255),
-        value: 0,
-        ascii: false,
-    }
-}
-
-// What a U line says.
-fn read_field_enum(text: &[u8], line: Line) -> Row
-    requires { ⌜ (Good (now text) line) × (line .kind ≡ 85) ⌝ }
-    ensures { λ r. ⌜ Tells (now (text .entry)) line r ⌝ }
-{
-    Row {
-        kind: b'U',
         level: 0,
         typed: ParamType::Byte,
         offset: 0,
@@ -233,7 +216,7 @@ fn read_row(text: &[u8], line: Line) -> Row
         b'A' => read_array(text, line),
         b'T' => read_bit_flag(text, line),
         b'S' => read_bit_field(text, line),
-        b'U' => read_field_enum(text, line),
+        b'U' => read_bit_field(text, line),
         b'K' => read_const(text, line),
         _ => read_bitmask(text, line),
     }
@@ -252,13 +235,17 @@ pub fn read_at(text: &[u8], place: Place) -> Read
     }
 }
 
-// The kind of the line at a place: its first byte.
+// The kind of the line at a place: its first byte, where a U is read as an S.
 pub fn kind_at(text: &[u8], place: Place) -> u8
     requires { ⌜ (Readable rules (now text) place) × (place .at < length (now text)) ⌝ }
     ensures { λ r. ⌜ Begins (now (text .entry)) place r ⌝ }
 {
     let at = place.at;
-    text[at]
+    let kind = text[at];
+    if kind == b'U' {
+        return b'S';
+    }
+    kind
 }
 
 // The place after the line at a place, of which only its end is looked for.

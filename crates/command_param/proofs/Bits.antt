@@ -13,9 +13,9 @@ use borrow.Author.Tests.{eq-eqb, ne-eqb}
 use Rattle.text.specs.Records.{Readable}
 use Rattle.text.specs.declared.Place.{Place}
 use Rattle.text.proofs.Reading.{rest-end}
-use Rattle.command_text.specs.Form.{Record, param, group, variant, array, bitFlag, bitField, fieldEnum, const, bitmask}
+use Rattle.command_text.specs.Form.{Record, param, group, item, variant, array, bitFlag, bitField, const, bitmask}
 use Rattle.command_text.specs.Rules.{begins, rules}
-use Rattle.command_class.specs.Definition.{Item, numbered, under, letter}
+use Rattle.command_class.specs.Definition.{Item, numbered, under, letter, ofItem}
 use Rattle.command_class.specs.Find.{from, among, Says, IsRead}
 use Rattle.command_class.specs.declared.Row.{Row as Line}
 use Rattle.command_class.specs.declared.Read.{Read}
@@ -61,28 +61,26 @@ bit-row-is b number parent start v l e = rw e refl
 pub ruleset line-laws = (bit-other, bit-clear, bit-set, bit-row-is, among-laws)
 
 -- what a line says, by its numbers
-bit-said : (b : ℕ) (x : Record) (l : Line) → l .kind ≡ letter x → Says x l → among 84 83 85 (l .kind) ≡ true
-    → bitValue b x ≡ some (bitNumber b l)
+bit-said : (b : ℕ) (x : Record) (l : Line) → l .kind ≡ letter x → Says x l → among 84 83 83 (l .kind) ≡ true
+    → ofItem (bitValue b) x ≡ some (bitNumber b l)
 bit-said b (param q) l k s h = absurd (let z : _≡_ {A = Bool} false true = rw k at h in let w : _≡_ {A = ℕ} 0 1 = cc in omega arith)
 bit-said b (group g) l k s h = absurd (let z : _≡_ {A = Bool} false true = rw k at h in let w : _≡_ {A = ℕ} 0 1 = cc in omega arith)
-bit-said b (variant v) l k s h = absurd (let z : _≡_ {A = Bool} false true = rw k at h in let w : _≡_ {A = ℕ} 0 1 = cc in omega arith)
-bit-said b (array n a) l k s h = absurd (let z : _≡_ {A = Bool} false true = rw k at h in let w : _≡_ {A = ℕ} 0 1 = cc in omega arith)
-bit-said b (bitFlag m n) l k s h = rw (k, s) refl
-bit-said b (bitField f) l k s h = rw (k, s .0, s .1) refl
-bit-said b (fieldEnum f) l k s h = rw (k, s .0, s .1) refl
-bit-said b (const v n) l k s h = absurd (let z : _≡_ {A = Bool} false true = rw k at h in let w : _≡_ {A = ℕ} 0 1 = cc in omega arith)
-bit-said b (bitmask n) l k s h = absurd (let z : _≡_ {A = Bool} false true = rw k at h in let w : _≡_ {A = ℕ} 0 1 = cc in omega arith)
+bit-said b (item (variant v)) l k s h = absurd (let z : _≡_ {A = Bool} false true = rw k at h in let w : _≡_ {A = ℕ} 0 1 = cc in omega arith)
+bit-said b (item (array n a)) l k s h = absurd (let z : _≡_ {A = Bool} false true = rw k at h in let w : _≡_ {A = ℕ} 0 1 = cc in omega arith)
+bit-said b (item (bitFlag m n)) l k s h = rw (k, s) refl
+bit-said b (item (bitField f)) l k s h = rw (k, s .0, s .1) refl
+bit-said b (item (const v n)) l k s h = absurd (let z : _≡_ {A = Bool} false true = rw k at h in let w : _≡_ {A = ℕ} 0 1 = cc in omega arith)
+bit-said b (item (bitmask n)) l k s h = absurd (let z : _≡_ {A = Bool} false true = rw k at h in let w : _≡_ {A = ℕ} 0 1 = cc in omega arith)
 
-no-bit-said : (b : ℕ) (x : Record) (l : Line) → l .kind ≡ letter x → among 84 83 85 (l .kind) ≡ false → bitValue b x ≡ none
+no-bit-said : (b : ℕ) (x : Record) (l : Line) → l .kind ≡ letter x → among 84 83 83 (l .kind) ≡ false → ofItem (bitValue b) x ≡ none
 no-bit-said b (param q) l k h = refl
 no-bit-said b (group g) l k h = refl
-no-bit-said b (variant v) l k h = refl
-no-bit-said b (array n a) l k h = refl
-no-bit-said b (bitFlag m n) l k h = absurd (let z : _≡_ {A = Bool} true false = rw k at h in let w : _≡_ {A = ℕ} 0 1 = cc in omega arith)
-no-bit-said b (bitField f) l k h = absurd (let z : _≡_ {A = Bool} true false = rw k at h in let w : _≡_ {A = ℕ} 0 1 = cc in omega arith)
-no-bit-said b (fieldEnum f) l k h = absurd (let z : _≡_ {A = Bool} true false = rw k at h in let w : _≡_ {A = ℕ} 0 1 = cc in omega arith)
-no-bit-said b (const v n) l k h = refl
-no-bit-said b (bitmask n) l k h = refl
+no-bit-said b (item (variant v)) l k h = refl
+no-bit-said b (item (array n a)) l k h = refl
+no-bit-said b (item (bitFlag m n)) l k h = absurd (let z : _≡_ {A = Bool} true false = rw k at h in let w : _≡_ {A = ℕ} 0 1 = cc in omega arith)
+no-bit-said b (item (bitField f)) l k h = absurd (let z : _≡_ {A = Bool} true false = rw k at h in let w : _≡_ {A = ℕ} 0 1 = cc in omega arith)
+no-bit-said b (item (const v n)) l k h = refl
+no-bit-said b (item (bitmask n)) l k h = refl
 
 none-of : (rs : List Row) → length rs ≡ 0 → rs ≡ []
 none-of [] h = refl
@@ -151,7 +149,7 @@ module _ (t : List ℕ) (p₀ : Place) (b parent start total : ℕ) (d₀ d : Li
       pub children-less : length t - read .next .at < length t - p .at
       children-less = let a = is-read .on in let c = is-read .next .inn .at-in in omega arith
 
-      module _ (x : Bool) (is-x : x ≡ among 84 83 85 (read .row .kind)) where
+      module _ (x : Bool) (is-x : x ≡ among 84 83 83 (read .row .kind)) where
         -- another line
         pub children-pass : x ≡ false → Children t p₀ b parent start total d₀ d (read .next) k
         unfolding bitRows
@@ -168,7 +166,7 @@ module _ (t : List ℕ) (p₀ : Place) (b parent start total : ℕ) (d₀ d : Li
                   g .same;
             }
 
-        -- a T, S or U
+        -- a T or S
         module _ (row : Row) (d′ : List ℕ) (is-row : row ≡ bitRow (p .line) parent start (bitNumber b (read .row)))
             (wrote : d′ ≡ written d k (row ∷ [])) where
           pub children-more : x ≡ true → Children t p₀ b parent start total d₀ d′ (read .next) (k + 1)

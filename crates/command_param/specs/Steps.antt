@@ -20,7 +20,7 @@ use Rattle.command_param.specs.declared.Wrote.{Wrote}
 use Rattle.command_param.specs.declared.Param.{Param}
 use Rattle.command_param.specs.declared.Param.the-variants.{Read, Absent}
 
--- the value of a T, S or U line, by the numbers of the line
+-- the value of a T or S line, by the numbers of the line
 abbrev pub bitNumber : ℕ → Line → ℕ
 bitNumber b l = cond (eqb (l .kind) 0x54) (cond (eqb (bitAnd b (l .mask)) 0) 0 1) (masked b (l .mask) (record { 0 = l .shift }))
 

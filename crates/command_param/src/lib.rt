@@ -163,7 +163,7 @@ fn param_row(
     }
 }
 
-// The value of a T, S or U line of the byte b.
+// The value of a T or S line of the byte b.
 fn bit_value(line: Line, b: u16) -> u64
     ensures { λ r. ⌜ r ≡ bitNumber b line ⌝ }
 {
@@ -176,7 +176,7 @@ fn bit_value(line: Line, b: u16) -> u64
     1
 }
 
-// The row of a T, S or U line, with its number in the text.
+// The row of a T or S line, with its number in the text.
 fn bit_row(line: Line, number: usize, b: u16, start: PayloadOffset, parent: u64) -> Row
     requires { ⌜ start .0 < 2 ^ 62 ⌝ }
     ensures { λ r. ⌜ r ≡ bitRow number parent (start .0) (bitNumber b line) ⌝ }
@@ -196,15 +196,12 @@ fn bit_row(line: Line, number: usize, b: u16, start: PayloadOffset, parent: u64)
 }
 
 fn is_bits(kind: u8) -> bool
-    ensures { λ r. ⌜ r ≡ among 84 83 85 kind ⌝ }
+    ensures { λ r. ⌜ r ≡ among 84 83 83 kind ⌝ }
 {
     if kind == b'T' {
         return true;
     }
-    if kind == b'S' {
-        return true;
-    }
-    kind == b'U'
+    kind == b'S'
 }
 
 // The bit children of the byte b, which stands at `start`. `rows` is the table from their first row on.

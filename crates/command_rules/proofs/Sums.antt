@@ -10,7 +10,7 @@ use lib.Dec.{eqb, ltb}
 use lib.ListN.{length, getD, drop, replicate, length-append, length-drop}
 use lib.Seq.{length-take-le}
 use borrow.Author.Tests.{eqb-true, eq-eqb, ne-eqb, ltb-true}
-use Rattle.command_class.specs.Definition.{Item, Parameter, Entry, single, repeated}
+use Rattle.command_class.specs.Definition.{Item, Parameter, Entry, single, repeated, ofItem}
 use Rattle.command_rules.specs.Lengths.{repeats}
 use Rattle.command_rules.specs.declared.Earlier.{Earlier}
 use Rattle.command_rules.specs.declared.Earlier.the-variants.{NoValue}
@@ -64,7 +64,7 @@ Leaves p s (r ∷ rs) = (r .kind ≡ 1) × (r .parent ≡ p) × (r .start ≡ s)
 bits-leaves : (b p s : ℕ) (is : List Item) → Leaves p s (bitRows b p s is)
 unfolding Leaves bitRows
 bits-leaves b p s [] = tt
-bits-leaves b p s (i ∷ is) = go (bitValue b (i .says)) (bits-leaves b p s is)
+bits-leaves b p s (i ∷ is) = go (ofItem (bitValue b) (i .says)) (bits-leaves b p s is)
   where
     go : (v : Option ℕ) → Leaves p s (bitRows b p s is) → Leaves p s (bitOnto (i .line) p s v (bitRows b p s is))
     go none ih = ih
@@ -415,7 +415,7 @@ cut-none size = tt
 cut-bits : (size b p s : ℕ) (is : List Item) → CutAtEnd size (bitRows b p s is)
 unfolding CutAtEnd bitRows
 cut-bits size b p s [] = tt
-cut-bits size b p s (i ∷ is) = go (bitValue b (i .says)) (cut-bits size b p s is)
+cut-bits size b p s (i ∷ is) = go (ofItem (bitValue b) (i .says)) (cut-bits size b p s is)
   where
     go : (v : Option ℕ) → CutAtEnd size (bitRows b p s is) → CutAtEnd size (bitOnto (i .line) p s v (bitRows b p s is))
     go none ih = ih

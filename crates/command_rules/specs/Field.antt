@@ -4,10 +4,10 @@ use mathlib.Core.Bool.{Bool, true, false, cond, not, _&&_, _||_}
 use mathlib.Core.List.{List, [], _∷_}
 use mathlib.Core.Option.{Option, none, some}
 use lib.Dec.{eqb}
-use Rattle.command_text.specs.Form.{Record, Size, param, group, variant, array, bitFlag, bitField, fieldEnum, const, bitmask}
+use Rattle.command_text.specs.Form.{Size, Detail, variant, array, bitFlag, bitField, const, bitmask}
 use Rattle.command_text.specs.declared.ParamType.{ParamType}
 use Rattle.command_text.specs.declared.ParamType.the-variants.{Byte, StructByte, Const, Marker, Word, Bit24, Dword, Array, Variant, Bitmask, MultiArray}
-use Rattle.command_class.specs.Definition.{Item, Parameter}
+use Rattle.command_class.specs.Definition.{Item, Parameter, ofItem}
 use Rattle.command_rules.specs.declared.Rule.{Rule}
 use Rattle.command_rules.specs.declared.Rule.the-variants.{Fixed, Open, Counted}
 
@@ -18,43 +18,34 @@ orElse none b = b
 orElse (some a) b = some a
 
 -- what the first of these lines tells, of those of which f tells something
-abbrev pub first : {A : Type 0} → (Record → Option A) → List Item → Option A
+abbrev pub first : {A : Type 0} → (Detail → Option A) → List Item → Option A
 first f [] = none
-first f (i ∷ is) = orElse (f (i .says)) (first f is)
+first f (i ∷ is) = orElse (ofItem f (i .says)) (first f is)
 
 -- what an R says
-abbrev pub asVariant : Record → Option Size
-asVariant (param q) = none
-asVariant (group g) = none
+abbrev pub asVariant : Detail → Option Size
 asVariant (variant s) = some s
 asVariant (array length ascii) = none
 asVariant (bitFlag mask name) = none
 asVariant (bitField b) = none
-asVariant (fieldEnum b) = none
 asVariant (const value name) = none
 asVariant (bitmask length) = none
 
 -- an A's length, and whether it is ascii
-abbrev pub asArray : Record → Option (ℕ × Bool)
-asArray (param q) = none
-asArray (group g) = none
+abbrev pub asArray : Detail → Option (ℕ × Bool)
 asArray (variant s) = none
 asArray (array length ascii) = some (length, ascii)
 asArray (bitFlag mask name) = none
 asArray (bitField b) = none
-asArray (fieldEnum b) = none
 asArray (const value name) = none
 asArray (bitmask length) = none
 
 -- an M's length, if it says one
-abbrev pub asBitmask : Record → Option (Option ℕ)
-asBitmask (param q) = none
-asBitmask (group g) = none
+abbrev pub asBitmask : Detail → Option (Option ℕ)
 asBitmask (variant s) = none
 asBitmask (array length ascii) = none
 asBitmask (bitFlag mask name) = none
 asBitmask (bitField b) = none
-asBitmask (fieldEnum b) = none
 asBitmask (const value name) = none
 asBitmask (bitmask length) = some length
 

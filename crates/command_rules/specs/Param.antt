@@ -6,8 +6,8 @@ use Prim.Native.Nat.{ℕ, _+_, _-_, _*_, _%_}
 use lib.Bits.{bitAnd}
 use lib.Dec.{eqb, leb}
 use lib.ListN.{length, getD, take, drop}
-use Rattle.command_text.specs.Form.{Record, param, group, variant, array, bitFlag, bitField, fieldEnum, const, bitmask}
-use Rattle.command_class.specs.Definition.{Item, firstConst}
+use Rattle.command_text.specs.Form.{Detail, variant, array, bitFlag, bitField, const, bitmask}
+use Rattle.command_class.specs.Definition.{Item, ofItem, firstConst}
 use Rattle.command_rules.specs.Lengths.{masked, sizeOf}
 use Rattle.command_rules.specs.declared.Earlier.{Earlier}
 use Rattle.command_rules.specs.declared.Earlier.the-variants.{Value, NoValue}
@@ -54,15 +54,12 @@ entryOf Not = NoValue
 
 -- ---- bit children
 
--- C11: the value of a T, S or U line on the byte b
-abbrev pub bitValue : ℕ → Record → Option ℕ
-bitValue b (param q) = none
-bitValue b (group g) = none
+-- C11: the value of a T or S line on the byte b
+abbrev pub bitValue : ℕ → Detail → Option ℕ
 bitValue b (variant s) = none
 bitValue b (array length ascii) = none
 bitValue b (bitFlag mask name) = some (cond (eqb (bitAnd b mask) 0) 0 1)
 bitValue b (bitField f) = some (masked b (f .mask) (record { 0 = f .shift }))
-bitValue b (fieldEnum f) = some (masked b (f .mask) (record { 0 = f .shift }))
 bitValue b (const value name) = none
 bitValue b (bitmask length) = none
 
@@ -79,7 +76,7 @@ bitOnto line parent start (some v) rs = bitRow line parent start v ∷ rs
 -- C11: the rows of the byte b, which stands at `start`
 unfoldable pub bitRows : ℕ → ℕ → ℕ → List Item → List Row
 bitRows b parent start [] = []
-bitRows b parent start (i ∷ is) = bitOnto (i .line) parent start (bitValue b (i .says)) (bitRows b parent start is)
+bitRows b parent start (i ∷ is) = bitOnto (i .line) parent start (ofItem (bitValue b) (i .says)) (bitRows b parent start is)
 
 -- C11: the bit children of a Q that takes the bytes bs
 abbrev pub childRows : Field → ℕ → ℕ → List ℕ → List Row

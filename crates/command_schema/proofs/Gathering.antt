@@ -9,7 +9,7 @@ use lib.ListN.{length}
 use Rattle.text.specs.Records.{Readable}
 use Rattle.text.specs.declared.Place.{Place}
 use Rattle.text.proofs.Reading.{rest-end}
-use Rattle.command_text.specs.Form.{Record, param, group, variant, array, bitFlag, bitField, fieldEnum, const, bitmask}
+use Rattle.command_text.specs.Form.{Record, param, group, item, variant, array, bitFlag, bitField, const, bitmask}
 use Rattle.command_text.specs.Rules.{begins, rules}
 use Rattle.command_class.specs.Definition.{Item, numbered, under, letter}
 use Rattle.command_class.specs.Find.{from, among, Says, IsRead, Begins, Follows}
@@ -24,13 +24,12 @@ use Rattle.command_schema.specs.declared.items.Gathered.{Gathered}
 noted-row : (g : Gathered) (x : Record) (r : Row) → r .kind ≡ letter x → Says x r → notedRow g r ≡ noted g x
 noted-row g (param q) r k s = rw k refl
 noted-row g (group q) r k s = rw k refl
-noted-row g (variant v) r k s = rw (k, s .0, s .1, s .2, s .3) refl
-noted-row g (array n a) r k s = rw (k, s .0, s .1) refl
-noted-row g (bitFlag m n) r k s = rw k refl
-noted-row g (bitField b) r k s = rw k refl
-noted-row g (fieldEnum b) r k s = rw k refl
-noted-row g (const v n) r k s = rw k refl
-noted-row g (bitmask n) r k s = rw (k, s) refl
+noted-row g (item (variant v)) r k s = rw (k, s .0, s .1, s .2, s .3) refl
+noted-row g (item (array n a)) r k s = rw (k, s .0, s .1) refl
+noted-row g (item (bitFlag m n)) r k s = rw k refl
+noted-row g (item (bitField b)) r k s = rw k refl
+noted-row g (item (const v n)) r k s = rw k refl
+noted-row g (item (bitmask n)) r k s = rw (k, s) refl
 
 -- one line counts at most once
 either : (b : Bool) (x y : Gathered) (n : ℕ) → x .bits ≤ n → y .bits ≤ n → cond b x y .bits ≤ n
@@ -40,13 +39,12 @@ either false x y n h k = k
 few-bits : (g : Gathered) (x : Record) → noted g x .bits ≤ g .bits + 1
 few-bits g (param q) = omega arith
 few-bits g (group q) = omega arith
-few-bits g (variant v) = either (eqb (g .variant .paramoffs) 256) _ g (g .bits + 1) (omega arith) (omega arith)
-few-bits g (array n a) = either (eqb (g .array .len) 256) _ g (g .bits + 1) (omega arith) (omega arith)
-few-bits g (bitFlag m n) = omega arith
-few-bits g (bitField b) = omega arith
-few-bits g (fieldEnum b) = omega arith
-few-bits g (const v n) = omega arith
-few-bits g (bitmask n) = either (eqb (g .bitmask) 257) _ g (g .bits + 1) (omega arith) (omega arith)
+few-bits g (item (variant v)) = either (eqb (g .variant .paramoffs) 256) _ g (g .bits + 1) (omega arith) (omega arith)
+few-bits g (item (array n a)) = either (eqb (g .array .len) 256) _ g (g .bits + 1) (omega arith) (omega arith)
+few-bits g (item (bitFlag m n)) = omega arith
+few-bits g (item (bitField b)) = omega arith
+few-bits g (item (const v n)) = omega arith
+few-bits g (item (bitmask n)) = either (eqb (g .bitmask) 257) _ g (g .bits + 1) (omega arith) (omega arith)
 
 -- what is gathered so far, and what is left at the place p
 pub record Gathering (t : List ℕ) (p₀ : Place) (g : Gathered) (p : Place) : Type 0 where
@@ -95,24 +93,17 @@ module _ (t : List ℕ) (p₀ : Place) (g : Gathered) (p : Place) (k : Gathering
             → gathered g (under (record { line = p .line; says = r } ∷ is)) ≡ gathered g (under is)
         by-record (param y) e is = absurd (omega arith)
         by-record (group y) e is = absurd (omega arith)
-        by-record (variant y) e is = absurd (omega arith)
-        by-record (array n a) e is = absurd (omega arith)
-        by-record (bitFlag m n) e is = absurd (omega arith)
-        by-record (bitField b) e is = absurd (omega arith)
-        by-record (fieldEnum b) e is = absurd (omega arith)
-        by-record (const v n) e is = refl
-        by-record (bitmask n) e is = absurd (omega arith)
+        by-record (item (variant y)) e is = absurd (omega arith)
+        by-record (item (array n a)) e is = absurd (omega arith)
+        by-record (item (bitFlag m n)) e is = absurd (omega arith)
+        by-record (item (bitField b)) e is = absurd (omega arith)
+        by-record (item (const v n)) e is = refl
+        by-record (item (bitmask n)) e is = absurd (omega arith)
 
         no-heads : (r : Record) → letter r ≡ 75 → (is : List Item) → heads (record { line = p .line; says = r } ∷ is) ≡ heads is
         no-heads (param y) e is = absurd (omega arith)
         no-heads (group y) e is = absurd (omega arith)
-        no-heads (variant y) e is = absurd (omega arith)
-        no-heads (array n a) e is = absurd (omega arith)
-        no-heads (bitFlag m n) e is = absurd (omega arith)
-        no-heads (bitField b) e is = absurd (omega arith)
-        no-heads (fieldEnum b) e is = absurd (omega arith)
-        no-heads (const v n) e is = refl
-        no-heads (bitmask n) e is = absurd (omega arith)
+        no-heads (item d) e is = refl
 
     module _ (read : Read) (is-read : IsRead t p read) (other : x ≡ false) where
       same : begin .said ≡ is-read .said
@@ -121,26 +112,20 @@ module _ (t : List ℕ) (p₀ : Place) (g : Gathered) (p : Place) (k : Gathering
           let y : _≡_ {A = Item} (record { line = p .line; says = begin .said }) (record { line = p .line; says = is-read .said }) = cc in
           ap (λ (i : Item). i .says) y
 
-      item : begins (is-read .said) ≡ false
-      item = ap begins (sym same) ∙ sym ending ∙ other
+      not-head : begins (is-read .said) ≡ false
+      not-head = ap begins (sym same) ∙ sym ending ∙ other
 
       no-head : (y : Record) → begins y ≡ false → (n : ℕ) (is : List Item) (hs : List Head) → onto n y is hs ≡ hs
       no-head (param q) e n is hs = absurd (let z : _≡_ {A = ℕ} 0 1 = cc in omega arith)
       no-head (group q) e n is hs = absurd (let z : _≡_ {A = ℕ} 0 1 = cc in omega arith)
-      no-head (variant v) e n is hs = refl
-      no-head (array l a) e n is hs = refl
-      no-head (bitFlag m l) e n is hs = refl
-      no-head (bitField b) e n is hs = refl
-      no-head (fieldEnum b) e n is hs = refl
-      no-head (const v l) e n is hs = refl
-      no-head (bitmask l) e n is hs = refl
+      no-head (item d) e n is hs = refl
 
       under-is : under (from t p) ≡ record { line = p .line; says = is-read .said } ∷ under (from t (read .next))
-      under-is = rw (is-read .lines, item) refl
+      under-is = rw (is-read .lines, not-head) refl
 
       heads-is : heads (from t p) ≡ heads (from t (read .next))
       unfolding heads
-      heads-is = rw (is-read .lines, no-head (is-read .said) item (p .line) (from t (read .next)) (heads (from t (read .next)))) refl
+      heads-is = rw (is-read .lines, no-head (is-read .said) not-head (p .line) (from t (read .next)) (heads (from t (read .next)))) refl
 
       pub gathering-few : length t ≤ 60000 → p .at < length t → g .bits < 65535
       gathering-few short inside = let f = k .few in omega arith

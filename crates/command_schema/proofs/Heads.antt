@@ -8,7 +8,7 @@ use lib.Dec.{eqb}
 use lib.ListN.{length}
 use Rattle.text.specs.Text.{lines}
 use Rattle.text.specs.Records.{records}
-use Rattle.command_text.specs.Form.{Record, param, group, variant, array, bitFlag, bitField, fieldEnum, const, bitmask, form}
+use Rattle.command_text.specs.Form.{Record, param, group, item, variant, array, bitFlag, bitField, const, bitmask, form}
 use Rattle.command_text.specs.Rules.{count, items}
 use Rattle.command_class.specs.Definition.{Parameter, Entry, single, numbered, under, membersAt, entriesAt, definition}
 use Rattle.command_class.specs.Limits.{FewUnderEach}
@@ -22,13 +22,7 @@ heads-members n [] = refl
 heads-members n (param q ∷ rs) = ap (λ (ps : List Parameter). cond (eqb (q .level) 1)
     (record { line = n; says = q; items = under (numbered (suc n) rs) } ∷ ps) []) (heads-members (suc n) rs)
 heads-members n (group g ∷ rs) = refl
-heads-members n (variant s ∷ rs) = heads-members (suc n) rs
-heads-members n (array l a ∷ rs) = heads-members (suc n) rs
-heads-members n (bitFlag m l ∷ rs) = heads-members (suc n) rs
-heads-members n (bitField b ∷ rs) = heads-members (suc n) rs
-heads-members n (fieldEnum b ∷ rs) = heads-members (suc n) rs
-heads-members n (const v l ∷ rs) = heads-members (suc n) rs
-heads-members n (bitmask l ∷ rs) = heads-members (suc n) rs
+heads-members n (item d ∷ rs) = heads-members (suc n) rs
 
 heads-entries : (n : ℕ) (rs : List Record) → entriesAt n rs ≡ entriesOf (heads (numbered n rs))
 unfolding heads entriesOf
@@ -40,13 +34,7 @@ heads-entries n (group g ∷ rs) =
     let ms = heads-members (suc n) rs in
     let ds = heads-entries (suc n) rs in
     rw (ms, ds) refl
-heads-entries n (variant s ∷ rs) = heads-entries (suc n) rs
-heads-entries n (array l a ∷ rs) = heads-entries (suc n) rs
-heads-entries n (bitFlag m l ∷ rs) = heads-entries (suc n) rs
-heads-entries n (bitField b ∷ rs) = heads-entries (suc n) rs
-heads-entries n (fieldEnum b ∷ rs) = heads-entries (suc n) rs
-heads-entries n (const v l ∷ rs) = heads-entries (suc n) rs
-heads-entries n (bitmask l ∷ rs) = heads-entries (suc n) rs
+heads-entries n (item d ∷ rs) = heads-entries (suc n) rs
 
 -- the definition of a text
 pub definition-heads : (t : List ℕ) → definition t ≡ entriesOf (headsOf t)
@@ -58,36 +46,23 @@ unfolding heads
 heads-count n [] = refl
 heads-count n (param q ∷ rs) = ap suc (heads-count (suc n) rs)
 heads-count n (group g ∷ rs) = ap suc (heads-count (suc n) rs)
-heads-count n (variant s ∷ rs) = heads-count (suc n) rs
-heads-count n (array l a ∷ rs) = heads-count (suc n) rs
-heads-count n (bitFlag m l ∷ rs) = heads-count (suc n) rs
-heads-count n (bitField b ∷ rs) = heads-count (suc n) rs
-heads-count n (fieldEnum b ∷ rs) = heads-count (suc n) rs
-heads-count n (const v l ∷ rs) = heads-count (suc n) rs
-heads-count n (bitmask l ∷ rs) = heads-count (suc n) rs
+heads-count n (item d ∷ rs) = heads-count (suc n) rs
 
--- how many T, S and U lines stand under each
+-- how many T and S lines stand under each
 bits-under : (n : ℕ) (rs : List Record) → countBits (under (numbered n rs)) ≤ items rs
 bits-under n [] = omega arith
 bits-under n (param q ∷ rs) = omega arith
 bits-under n (group g ∷ rs) = omega arith
-bits-under n (variant s ∷ rs) = let h = bits-under (suc n) rs in omega arith
-bits-under n (array l a ∷ rs) = let h = bits-under (suc n) rs in omega arith
-bits-under n (bitFlag m l ∷ rs) = let h = bits-under (suc n) rs in omega arith
-bits-under n (bitField b ∷ rs) = let h = bits-under (suc n) rs in omega arith
-bits-under n (fieldEnum b ∷ rs) = let h = bits-under (suc n) rs in omega arith
-bits-under n (const v l ∷ rs) = let h = bits-under (suc n) rs in omega arith
-bits-under n (bitmask l ∷ rs) = let h = bits-under (suc n) rs in omega arith
+bits-under n (item (variant s) ∷ rs) = let h = bits-under (suc n) rs in omega arith
+bits-under n (item (array l a) ∷ rs) = let h = bits-under (suc n) rs in omega arith
+bits-under n (item (bitFlag m l) ∷ rs) = let h = bits-under (suc n) rs in omega arith
+bits-under n (item (bitField b) ∷ rs) = let h = bits-under (suc n) rs in omega arith
+bits-under n (item (const v l) ∷ rs) = let h = bits-under (suc n) rs in omega arith
+bits-under n (item (bitmask l) ∷ rs) = let h = bits-under (suc n) rs in omega arith
 
 pub heads-small : (n : ℕ) (rs : List Record) → FewUnderEach rs → SmallHeads (heads (numbered n rs))
 unfolding heads SmallHeads
 heads-small n [] few = tt
 heads-small n (param q ∷ rs) few = (let h = bits-under (suc n) rs in let f = few .0 refl in omega arith, heads-small (suc n) rs (few .1))
 heads-small n (group g ∷ rs) few = (tt, heads-small (suc n) rs (few .1))
-heads-small n (variant s ∷ rs) few = heads-small (suc n) rs (few .1)
-heads-small n (array l a ∷ rs) few = heads-small (suc n) rs (few .1)
-heads-small n (bitFlag m l ∷ rs) few = heads-small (suc n) rs (few .1)
-heads-small n (bitField b ∷ rs) few = heads-small (suc n) rs (few .1)
-heads-small n (fieldEnum b ∷ rs) few = heads-small (suc n) rs (few .1)
-heads-small n (const v l ∷ rs) few = heads-small (suc n) rs (few .1)
-heads-small n (bitmask l ∷ rs) few = heads-small (suc n) rs (few .1)
+heads-small n (item d ∷ rs) few = heads-small (suc n) rs (few .1)

@@ -105,19 +105,14 @@ module _ (g : Gathered) (row : Row) where
     pub note-field : x ≡ withBits g → row .kind ≡ 83 → x ≡ notedRow g row
     note-field e h = rw h e
 
-    pub note-enum : x ≡ withBits g → row .kind ≡ 85 → x ≡ notedRow g row
-    note-enum e h = rw h e
-
   pub note-other : (row .kind ≡ 82 → ⊥) → (row .kind ≡ 65 → ⊥) → (row .kind ≡ 77 → ⊥) → (row .kind ≡ 84 → ⊥)
-      → (row .kind ≡ 83 → ⊥) → (row .kind ≡ 85 → ⊥) → g ≡ notedRow g row
-  note-other r a m t s u = rw (
+      → (row .kind ≡ 83 → ⊥) → g ≡ notedRow g row
+  note-other r a m t s = rw (
     ne-eqb (row .kind) 82 r,
     ne-eqb (row .kind) 65 a,
     ne-eqb (row .kind) 77 m,
     ne-eqb (row .kind) 84 t,
-    ne-eqb
-        (row .kind) 83 s,
-    ne-eqb (row .kind) 85 u,
+    ne-eqb (row .kind) 83 s,
   )
 
 -- ---- the first M, A and R
@@ -259,7 +254,6 @@ pub ruleset laws = (
   note-bitmask,
   note-flag,
   note-field,
-  note-enum,
   note-other,
   variant-none,
   variant-255,

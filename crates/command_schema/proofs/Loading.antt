@@ -16,7 +16,7 @@ use Rattle.text.specs.Records.{records, Readable}
 use Rattle.text.specs.declared.Place.{Place}
 use Rattle.text.specs.declared.Verdict.the-variants.{Accepted}
 use Rattle.text.proofs.Reading.{readable-start, rest-end}
-use Rattle.command_text.specs.Form.{Param, Group, Record, param, group, variant, array, bitFlag, bitField, fieldEnum, const, bitmask, form}
+use Rattle.command_text.specs.Form.{Param, Group, Record, param, group, item, variant, array, bitFlag, bitField, const, bitmask, form}
 use Rattle.command_text.specs.Rules.{rules, verdict}
 use Rattle.command_class.specs.Definition.{Item, numbered, under, letter}
 use Rattle.command_class.specs.Find.{from, Says, IsRead}
@@ -114,35 +114,27 @@ told-more t d d′ i (x ∷ xs) h told same new =
 q-said : (x : Record) → letter x ≡ 81 → (q : Param) × (x ≡ param q)
 q-said (param q) e = (q, refl)
 q-said (group g) e = absurd (let z : _≡_ {A = ℕ} 71 81 = e in omega arith)
-q-said (variant v) e = absurd (let z : _≡_ {A = ℕ} 82 81 = e in omega arith)
-q-said (array n a) e = absurd (let z : _≡_ {A = ℕ} 65 81 = e in omega arith)
-q-said (bitFlag m n) e = absurd (let z : _≡_ {A = ℕ} 84 81 = e in omega arith)
-q-said (bitField b) e = absurd (let z : _≡_ {A = ℕ} 83 81 = e in omega arith)
-q-said (fieldEnum b) e = absurd (let z : _≡_ {A = ℕ} 85 81 = e in omega arith)
-q-said (const v n) e = absurd (let z : _≡_ {A = ℕ} 75 81 = e in omega arith)
-q-said (bitmask l) e = absurd (let z : _≡_ {A = ℕ} 77 81 = e in omega arith)
+q-said (item (variant v)) e = absurd (let z : _≡_ {A = ℕ} 82 81 = e in omega arith)
+q-said (item (array n a)) e = absurd (let z : _≡_ {A = ℕ} 65 81 = e in omega arith)
+q-said (item (bitFlag m n)) e = absurd (let z : _≡_ {A = ℕ} 84 81 = e in omega arith)
+q-said (item (bitField b)) e = absurd (let z : _≡_ {A = ℕ} 83 81 = e in omega arith)
+q-said (item (const v n)) e = absurd (let z : _≡_ {A = ℕ} 75 81 = e in omega arith)
+q-said (item (bitmask l)) e = absurd (let z : _≡_ {A = ℕ} 77 81 = e in omega arith)
 
 g-said : (x : Record) → letter x ≡ 71 → (g : Group) × (x ≡ group g)
 g-said (param q) e = absurd (let z : _≡_ {A = ℕ} 81 71 = e in omega arith)
 g-said (group g) e = (g, refl)
-g-said (variant v) e = absurd (let z : _≡_ {A = ℕ} 82 71 = e in omega arith)
-g-said (array n a) e = absurd (let z : _≡_ {A = ℕ} 65 71 = e in omega arith)
-g-said (bitFlag m n) e = absurd (let z : _≡_ {A = ℕ} 84 71 = e in omega arith)
-g-said (bitField b) e = absurd (let z : _≡_ {A = ℕ} 83 71 = e in omega arith)
-g-said (fieldEnum b) e = absurd (let z : _≡_ {A = ℕ} 85 71 = e in omega arith)
-g-said (const v n) e = absurd (let z : _≡_ {A = ℕ} 75 71 = e in omega arith)
-g-said (bitmask l) e = absurd (let z : _≡_ {A = ℕ} 77 71 = e in omega arith)
+g-said (item (variant v)) e = absurd (let z : _≡_ {A = ℕ} 82 71 = e in omega arith)
+g-said (item (array n a)) e = absurd (let z : _≡_ {A = ℕ} 65 71 = e in omega arith)
+g-said (item (bitFlag m n)) e = absurd (let z : _≡_ {A = ℕ} 84 71 = e in omega arith)
+g-said (item (bitField b)) e = absurd (let z : _≡_ {A = ℕ} 83 71 = e in omega arith)
+g-said (item (const v n)) e = absurd (let z : _≡_ {A = ℕ} 75 71 = e in omega arith)
+g-said (item (bitmask l)) e = absurd (let z : _≡_ {A = ℕ} 77 71 = e in omega arith)
 
 no-head : (x : Record) → (letter x ≡ 81 → ⊥) → (letter x ≡ 71 → ⊥) → (n : ℕ) (is : List Item) (hs : List Head) → onto n x is hs ≡ hs
 no-head (param q) a b n is hs = absurd (a refl)
 no-head (group g) a b n is hs = absurd (b refl)
-no-head (variant v) a b n is hs = refl
-no-head (array l x) a b n is hs = refl
-no-head (bitFlag m l) a b n is hs = refl
-no-head (bitField x) a b n is hs = refl
-no-head (fieldEnum x) a b n is hs = refl
-no-head (const v l) a b n is hs = refl
-no-head (bitmask l) a b n is hs = refl
+no-head (item d) a b n is hs = refl
 
 named-back : (b : Bool) → eqb (cond b 1 0) 1 ≡ b
 named-back true = refl

@@ -13,10 +13,10 @@ use Rattle.text.specs.Text.{lines}
 use Rattle.text.specs.Place.{left}
 use Rattle.text.specs.Records.{records}
 use Rattle.text.specs.declared.Place.{Place}
-use Rattle.command_text.specs.Form.{Record, Size, param, group, variant, array, bitFlag, bitField, fieldEnum, const, bitmask, form}
+use Rattle.command_text.specs.Form.{Record, Size, param, group, item, Detail, variant, array, bitFlag, bitField, const, bitmask, form}
 use Rattle.command_text.specs.declared.ParamType.{ParamType}
 use Rattle.command_text.specs.declared.ParamType.the-variants.{Byte, StructByte, Const, Marker, Word, Bit24, Dword, Array, Variant, Bitmask, MultiArray}
-use Rattle.command_class.specs.Definition.{Item, numbered, ends, under}
+use Rattle.command_class.specs.Definition.{Item, numbered, ends, under, ofItem}
 use Rattle.command_class.specs.Find.{from, orMissing}
 use Rattle.command_class.specs.Print.{Fits}
 use Rattle.command_class.proofs.Saying.{records-fit}
@@ -66,14 +66,14 @@ alike f true x y e = e
 alike f false x y e = refl
 
 -- what f tells of what is gathered, step by step, is what it tells of the first line of which a tells something
-by-steps : {A : Type 0} (f : Gathered → Option A) (a : Record → Option A)
-    → ((g : Gathered) (r : Record) → Fits r → f (noted g r) ≡ orElse (f g) (a r))
+by-steps : {A : Type 0} (f : Gathered → Option A) (a : Detail → Option A)
+    → ((g : Gathered) (r : Record) → Fits r → f (noted g r) ≡ orElse (f g) (ofItem a r))
     → (g : Gathered) (is : List Item) → AllFit is → f (gathered g is) ≡ orElse (f g) (first a is)
 unfolding gathered
 by-steps f a step g [] fit = sym (or-none (f g))
 by-steps f a step g (i ∷ is) fit =
     by-steps f a step (noted g (i .says)) is (fit .1) ∙ ap (λ x. orElse x (first a is)) (step g (i .says) (fit .0))
-    ∙ or-assoc (f g) (a (i .says)) (first a is)
+    ∙ or-assoc (f g) (ofItem a (i .says)) (first a is)
 
 -- the first M
 pub given-back : (l : Option ℕ) → Optionally (λ n. n ≤ 255) l → given (orMissing l) ≡ l
@@ -84,16 +84,15 @@ said-at-all : (l : Option ℕ) → Optionally (λ n. n ≤ 255) l → eqb (orMis
 said-at-all none h = refl
 said-at-all (some n) h = ne-eqb n 257 (λ e. omega arith)
 
-bitmask-step : (g : Gathered) (r : Record) → Fits r → bitmaskIn (noted g r) ≡ orElse (bitmaskIn g) (asBitmask r)
+bitmask-step : (g : Gathered) (r : Record) → Fits r → bitmaskIn (noted g r) ≡ orElse (bitmaskIn g) (ofItem asBitmask r)
 bitmask-step g (param q) fit = sym (or-none (bitmaskIn g))
 bitmask-step g (group q) fit = sym (or-none (bitmaskIn g))
-bitmask-step g (variant v) fit = alike bitmaskIn (eqb (g .variant .paramoffs) 256) _ g refl ∙ sym (or-none (bitmaskIn g))
-bitmask-step g (array n a) fit = alike bitmaskIn (eqb (g .array .len) 256) _ g refl ∙ sym (or-none (bitmaskIn g))
-bitmask-step g (bitFlag m n) fit = sym (or-none (bitmaskIn g))
-bitmask-step g (bitField b) fit = sym (or-none (bitmaskIn g))
-bitmask-step g (fieldEnum b) fit = sym (or-none (bitmaskIn g))
-bitmask-step g (const v n) fit = sym (or-none (bitmaskIn g))
-bitmask-step g (bitmask l) fit = go (eqb (g .bitmask) 257) refl
+bitmask-step g (item (variant v)) fit = alike bitmaskIn (eqb (g .variant .paramoffs) 256) _ g refl ∙ sym (or-none (bitmaskIn g))
+bitmask-step g (item (array n a)) fit = alike bitmaskIn (eqb (g .array .len) 256) _ g refl ∙ sym (or-none (bitmaskIn g))
+bitmask-step g (item (bitFlag m n)) fit = sym (or-none (bitmaskIn g))
+bitmask-step g (item (bitField b)) fit = sym (or-none (bitmaskIn g))
+bitmask-step g (item (const v n)) fit = sym (or-none (bitmaskIn g))
+bitmask-step g (item (bitmask l)) fit = go (eqb (g .bitmask) 257) refl
   where
     go : (b : Bool) → eqb (g .bitmask) 257 ≡ b
         → bitmaskIn (cond b (record { bitmask = orMissing l; array = g .array; variant = g .variant; bits = g .bits }) g)
@@ -105,31 +104,30 @@ pub gathered-bitmask : (g : Gathered) (is : List Item) → AllFit is → bitmask
 gathered-bitmask = by-steps bitmaskIn asBitmask bitmask-step
 
 -- the first A
-array-step : (g : Gathered) (r : Record) → Fits r → arrayIn (noted g r) ≡ orElse (arrayIn g) (asArray r)
+array-step : (g : Gathered) (r : Record) → Fits r → arrayIn (noted g r) ≡ orElse (arrayIn g) (ofItem asArray r)
 array-step g (param q) fit = sym (or-none (arrayIn g))
 array-step g (group q) fit = sym (or-none (arrayIn g))
-array-step g (variant v) fit = alike arrayIn (eqb (g .variant .paramoffs) 256) _ g refl ∙ sym (or-none (arrayIn g))
-array-step g (array n a) fit = go (eqb (g .array .len) 256) refl
+array-step g (item (variant v)) fit = alike arrayIn (eqb (g .variant .paramoffs) 256) _ g refl ∙ sym (or-none (arrayIn g))
+array-step g (item (array n a)) fit = go (eqb (g .array .len) 256) refl
   where
     go : (b : Bool) → eqb (g .array .len) 256 ≡ b
         → arrayIn (cond b (record { bitmask = g .bitmask; array = record { len = n; ascii = a }; variant = g .variant; bits = g .bits }) g)
         ≡ orElse (cond b none (some (g .array .len, g .array .ascii))) (some (n, a))
     go true e = rw (ne-eqb n 256 (λ z. omega arith)) refl
     go false e = rw e refl
-array-step g (bitFlag m n) fit = sym (or-none (arrayIn g))
-array-step g (bitField b) fit = sym (or-none (arrayIn g))
-array-step g (fieldEnum b) fit = sym (or-none (arrayIn g))
-array-step g (const v n) fit = sym (or-none (arrayIn g))
-array-step g (bitmask l) fit = alike arrayIn (eqb (g .bitmask) 257) _ g refl ∙ sym (or-none (arrayIn g))
+array-step g (item (bitFlag m n)) fit = sym (or-none (arrayIn g))
+array-step g (item (bitField b)) fit = sym (or-none (arrayIn g))
+array-step g (item (const v n)) fit = sym (or-none (arrayIn g))
+array-step g (item (bitmask l)) fit = alike arrayIn (eqb (g .bitmask) 257) _ g refl ∙ sym (or-none (arrayIn g))
 
 pub gathered-array : (g : Gathered) (is : List Item) → AllFit is → arrayIn (gathered g is) ≡ orElse (arrayIn g) (first asArray is)
 gathered-array = by-steps arrayIn asArray array-step
 
 -- the first R
-variant-step : (g : Gathered) (r : Record) → Fits r → variantIn (noted g r) ≡ orElse (variantIn g) (asVariant r)
+variant-step : (g : Gathered) (r : Record) → Fits r → variantIn (noted g r) ≡ orElse (variantIn g) (ofItem asVariant r)
 variant-step g (param q) fit = sym (or-none (variantIn g))
 variant-step g (group q) fit = sym (or-none (variantIn g))
-variant-step g (variant v) fit = go (eqb (g .variant .paramoffs) 256) refl
+variant-step g (item (variant v)) fit = go (eqb (g .variant .paramoffs) 256) refl
   where
     go : (b : Bool) → eqb (g .variant .paramoffs) 256 ≡ b
         → variantIn (cond b (record {
@@ -148,27 +146,25 @@ variant-step g (variant v) fit = go (eqb (g .variant .paramoffs) 256) refl
         }))) (some v)
     go true e = let h : v .offset ≤ 255 = fit .0 in rw (ne-eqb (v .offset) 256 (λ z. omega arith)) refl
     go false e = rw e refl
-variant-step g (array n a) fit = alike variantIn (eqb (g .array .len) 256) _ g refl ∙ sym (or-none (variantIn g))
-variant-step g (bitFlag m n) fit = sym (or-none (variantIn g))
-variant-step g (bitField b) fit = sym (or-none (variantIn g))
-variant-step g (fieldEnum b) fit = sym (or-none (variantIn g))
-variant-step g (const v n) fit = sym (or-none (variantIn g))
-variant-step g (bitmask l) fit = alike variantIn (eqb (g .bitmask) 257) _ g refl ∙ sym (or-none (variantIn g))
+variant-step g (item (array n a)) fit = alike variantIn (eqb (g .array .len) 256) _ g refl ∙ sym (or-none (variantIn g))
+variant-step g (item (bitFlag m n)) fit = sym (or-none (variantIn g))
+variant-step g (item (bitField b)) fit = sym (or-none (variantIn g))
+variant-step g (item (const v n)) fit = sym (or-none (variantIn g))
+variant-step g (item (bitmask l)) fit = alike variantIn (eqb (g .bitmask) 257) _ g refl ∙ sym (or-none (variantIn g))
 
 pub gathered-variant : (g : Gathered) (is : List Item) → AllFit is → variantIn (gathered g is) ≡ orElse (variantIn g) (first asVariant is)
 gathered-variant = by-steps variantIn asVariant variant-step
 
--- the T, S and U
+-- the T and S
 bits-step : (g : Gathered) (r : Record) → noted g r .bits ≡ g .bits + cond (isBits r) 1 0
 bits-step g (param q) = omega arith
 bits-step g (group q) = omega arith
-bits-step g (variant v) = alike (λ (x : Gathered). x .bits) (eqb (g .variant .paramoffs) 256) _ g refl ∙ sym (add-zero (g .bits))
-bits-step g (array n a) = alike (λ (x : Gathered). x .bits) (eqb (g .array .len) 256) _ g refl ∙ sym (add-zero (g .bits))
-bits-step g (bitFlag m n) = refl
-bits-step g (bitField b) = refl
-bits-step g (fieldEnum b) = refl
-bits-step g (const v n) = omega arith
-bits-step g (bitmask l) = alike (λ (x : Gathered). x .bits) (eqb (g .bitmask) 257) _ g refl ∙ sym (add-zero (g .bits))
+bits-step g (item (variant v)) = alike (λ (x : Gathered). x .bits) (eqb (g .variant .paramoffs) 256) _ g refl ∙ sym (add-zero (g .bits))
+bits-step g (item (array n a)) = alike (λ (x : Gathered). x .bits) (eqb (g .array .len) 256) _ g refl ∙ sym (add-zero (g .bits))
+bits-step g (item (bitFlag m n)) = refl
+bits-step g (item (bitField b)) = refl
+bits-step g (item (const v n)) = omega arith
+bits-step g (item (bitmask l)) = alike (λ (x : Gathered). x .bits) (eqb (g .bitmask) 257) _ g refl ∙ sym (add-zero (g .bits))
 
 count-more : (i : Item) (is : List Item) → countBits (i ∷ is) ≡ cond (isBits (i .says)) 1 0 + countBits is
 count-more i is = go (isBits (i .says))
@@ -238,32 +234,30 @@ bitmask-small [] fit = tt
 bitmask-small (i ∷ is) fit = go (i .says) (fit .0) (bitmask-small is (fit .1))
   where
     go : (r : Record) → Fits r → Optionally (Optionally (λ n. n ≤ 255)) (first asBitmask is)
-        → Optionally (Optionally (λ n. n ≤ 255)) (orElse (asBitmask r) (first asBitmask is))
+        → Optionally (Optionally (λ n. n ≤ 255)) (orElse (ofItem asBitmask r) (first asBitmask is))
     go (param q) f h = h
     go (group q) f h = h
-    go (variant v) f h = h
-    go (array n a) f h = h
-    go (bitFlag m n) f h = h
-    go (bitField b) f h = h
-    go (fieldEnum b) f h = h
-    go (const v n) f h = h
-    go (bitmask l) f h = f
+    go (item (variant v)) f h = h
+    go (item (array n a)) f h = h
+    go (item (bitFlag m n)) f h = h
+    go (item (bitField b)) f h = h
+    go (item (const v n)) f h = h
+    go (item (bitmask l)) f h = f
 
 pub array-small : (is : List Item) → AllFit is → Optionally (λ a. a .0 ≤ 255) (first asArray is)
 array-small [] fit = tt
 array-small (i ∷ is) fit = go (i .says) (fit .0) (array-small is (fit .1))
   where
     go : (r : Record) → Fits r → Optionally (λ a. a .0 ≤ 255) (first asArray is)
-        → Optionally (λ a. a .0 ≤ 255) (orElse (asArray r) (first asArray is))
+        → Optionally (λ a. a .0 ≤ 255) (orElse (ofItem asArray r) (first asArray is))
     go (param q) f h = h
     go (group q) f h = h
-    go (variant v) f h = h
-    go (array n a) f h = f
-    go (bitFlag m n) f h = h
-    go (bitField b) f h = h
-    go (fieldEnum b) f h = h
-    go (const v n) f h = h
-    go (bitmask l) f h = h
+    go (item (variant v)) f h = h
+    go (item (array n a)) f h = f
+    go (item (bitFlag m n)) f h = h
+    go (item (bitField b)) f h = h
+    go (item (const v n)) f h = h
+    go (item (bitmask l)) f h = h
 
 -- what is gathered agrees with its own first R
 pub variant-agrees : (g : Gathered) → Agrees (variantIn g) (g .variant .paramoffs) (g .variant .sizemask) (g .variant .sizeoffs)

@@ -12,7 +12,7 @@ use Rattle.text.specs.Text.{split, lines, fields, field}
 use Rattle.text.specs.Text as text
 use Rattle.text.specs.Records.{records, onto}
 use Rattle.text.specs.Place.{kindOf}
-use Rattle.command_text.specs.Form.{Record, group, variant, array, bitFlag, bitField, fieldEnum, const, bitmask, typeOf, paramFields, groupFields, groupForm}
+use Rattle.command_text.specs.Form.{Record, group, item, Detail, variant, array, bitFlag, bitField, const, bitmask, typeOf, paramFields, groupFields, groupForm}
 use Rattle.command_text.specs.Form.{variantForm, arrayForm, namedForm, bitsForm, bitmaskForm, ofType, said, paramSaid, form}
 use Rattle.command_text.specs.Form as form
 use Rattle.command_text.specs.Rules.{begins, count}
@@ -54,9 +54,9 @@ module _ (fs : List (List ℕ)) where
       go true e = enough (omega (arith, eqb-true (length fs) n e)) (said others x)
       go false e = tt
 
-  item : (b : Bool) (r : Record) → begins r ≡ false → Long fs (said b (some r))
-  item true r f = λ e. absurd (let z : _≡_ {A = ℕ} 0 1 = cc in omega arith)
-  item false r f = tt
+  short : (b : Bool) (d : Detail) → Long fs (said b (some (item d)))
+  short true d = λ e. absurd (let z : _≡_ {A = ℕ} 0 1 = cc in omega arith)
+  short false d = tt
 
   form-long : Long fs (form fs)
   form-long =
@@ -67,22 +67,22 @@ module _ (fs : List (List ℕ)) where
           → Long fs
           (cond q (paramSaid fs)
           (cond g (said (groupForm fs) (some (group (form.groupOf fs))))
-          (cond r (said (variantForm fs) (some (variant (form.sizeOf fs))))
-          (cond a (said (arrayForm fs) (some (array (form.value (field 1 fs)) (form.asciiOf (field 2 fs)))))
-          (cond t (said (namedForm fs) (some (bitFlag (form.value (field 1 fs)) (field 2 fs))))
-          (cond s (said (bitsForm fs) (some (bitField (form.bitsOf fs))))
-          (cond u (said (bitsForm fs) (some (fieldEnum (form.bitsOf fs))))
-          (cond k (said (namedForm fs) (some (const (form.value (field 1 fs)) (field 2 fs))))
-          (cond m (said (bitmaskForm fs) (some (bitmask (form.given (field 1 fs))))) none)))))))))
+          (cond r (said (variantForm fs) (some (item (variant (form.sizeOf fs)))))
+          (cond a (said (arrayForm fs) (some (item (array (form.value (field 1 fs)) (form.asciiOf (field 2 fs))))))
+          (cond t (said (namedForm fs) (some (item (bitFlag (form.value (field 1 fs)) (field 2 fs)))))
+          (cond s (said (bitsForm fs) (some (item (bitField (form.bitsOf fs)))))
+          (cond u (said (bitsForm fs) (some (item (bitField (form.bitsOf fs)))))
+          (cond k (said (namedForm fs) (some (item (const (form.value (field 1 fs)) (field 2 fs)))))
+          (cond m (said (bitmaskForm fs) (some (item (bitmask (form.given (field 1 fs)))))) none)))))))))
       by-kind true g r a t s u k m = counted 6 (paramFields fs) (ofType fs (typeOf (field 2 fs))) (omega arith)
       by-kind false true r a t s u k m = counted 5 (groupFields fs) (some (group (form.groupOf fs))) (omega arith)
-      by-kind false false true a t s u k m = item (variantForm fs) (variant (form.sizeOf fs)) refl
-      by-kind false false false true t s u k m = item (arrayForm fs) (array (form.value (field 1 fs)) (form.asciiOf (field 2 fs))) refl
-      by-kind false false false false true s u k m = item (namedForm fs) (bitFlag (form.value (field 1 fs)) (field 2 fs)) refl
-      by-kind false false false false false true u k m = item (bitsForm fs) (bitField (form.bitsOf fs)) refl
-      by-kind false false false false false false true k m = item (bitsForm fs) (fieldEnum (form.bitsOf fs)) refl
-      by-kind false false false false false false false true m = item (namedForm fs) (const (form.value (field 1 fs)) (field 2 fs)) refl
-      by-kind false false false false false false false false true = item (bitmaskForm fs) (bitmask (form.given (field 1 fs))) refl
+      by-kind false false true a t s u k m = short (variantForm fs) _
+      by-kind false false false true t s u k m = short (arrayForm fs) _
+      by-kind false false false false true s u k m = short (namedForm fs) _
+      by-kind false false false false false true u k m = short (bitsForm fs) _
+      by-kind false false false false false false true k m = short (bitsForm fs) _
+      by-kind false false false false false false false true m = short (namedForm fs) _
+      by-kind false false false false false false false false true = short (bitmaskForm fs) _
       by-kind false false false false false false false false false = tt
 
 lines-long : (ls : List (List ℕ)) → count (records form ls) * 5 ≤ total ls

@@ -1,4 +1,4 @@
--- What is gathered of the lines under a Q: its first M, A and R, and how many T, S and U lines there are.
+-- What is gathered of the lines under a Q: its first M, A and R, and how many T and S lines there are.
 use Prim.Native.Nat.{ℕ, _+_, _≤_}
 use mathlib.Core.Bool.{Bool, false, cond}
 use mathlib.Core.Path.{_≡_}
@@ -7,7 +7,7 @@ use mathlib.Core.Option.{Option, none, some}
 use lib.Dec.{eqb}
 use Rattle.text.specs.Records.{Readable}
 use Rattle.text.specs.declared.Place.{Place}
-use Rattle.command_text.specs.Form.{Record, Size, param, group, variant, array, bitFlag, bitField, fieldEnum, const, bitmask}
+use Rattle.command_text.specs.Form.{Record, Size, param, group, item, Detail, variant, array, bitFlag, bitField, const, bitmask}
 use Rattle.command_text.specs.Rules.{rules}
 use Rattle.command_class.specs.Definition.{Item, under}
 use Rattle.command_class.specs.Find.{from, among, orMissing}
@@ -21,7 +21,7 @@ use Rattle.command_schema.specs.declared.items.Variant.{Variant}
 use Rattle.command_schema.specs.declared.items.Under.{Under}
 use Rattle.command_schema.specs.Heads.{heads}
 
--- no M, no A, no R, no T, S or U
+-- no M, no A, no R, no T or S
 abbrev pub gatheredNone : Gathered
 gatheredNone =
     record {
@@ -31,7 +31,7 @@ gatheredNone =
       bits = 0;
     }
 
--- with an R, an A, an M, a T, S or U
+-- with an R, an A, an M, a T or S
 abbrev pub withVariant : Gathered → ℕ → ℕ → ℕ → Bool → Gathered
 withVariant g offset mask shift ascii =
     cond (eqb (g .variant .paramoffs) 256)
@@ -57,17 +57,20 @@ withBitmask g length =
 abbrev pub withBits : Gathered → Gathered
 withBits g = record { bitmask = g .bitmask; array = g .array; variant = g .variant; bits = g .bits + 1 }
 
+-- with one item more
+abbrev pub notedItem : Gathered → Detail → Gathered
+notedItem g (variant s) = withVariant g (s .offset) (s .mask) (s .shift) (s .ascii)
+notedItem g (array length ascii) = withArray g length ascii
+notedItem g (bitFlag mask name) = withBits g
+notedItem g (bitField b) = withBits g
+notedItem g (const value name) = g
+notedItem g (bitmask length) = withBitmask g (orMissing length)
+
 -- with one line more
 abbrev pub noted : Gathered → Record → Gathered
 noted g (param q) = g
 noted g (group q) = g
-noted g (variant s) = withVariant g (s .offset) (s .mask) (s .shift) (s .ascii)
-noted g (array length ascii) = withArray g length ascii
-noted g (bitFlag mask name) = withBits g
-noted g (bitField b) = withBits g
-noted g (fieldEnum b) = withBits g
-noted g (const value name) = g
-noted g (bitmask length) = withBitmask g (orMissing length)
+noted g (item d) = notedItem g d
 
 -- the same, by the numbers of a line
 abbrev pub notedRow : Gathered → Row → Gathered
@@ -75,7 +78,7 @@ notedRow g r =
     cond (eqb (r .kind) 0x52) (withVariant g (r .offset) (r .mask) (r .shift) (r .ascii))
     (cond (eqb (r .kind) 0x41) (withArray g (r .value) (r .ascii))
     (cond (eqb (r .kind) 0x4d) (withBitmask g (r .value))
-    (cond (among 0x54 0x53 0x55 (r .kind)) (withBits g) g)))
+    (cond (among 0x54 0x53 0x53 (r .kind)) (withBits g) g)))
 
 -- with these lines more
 unfoldable pub gathered : Gathered → List Item → Gathered

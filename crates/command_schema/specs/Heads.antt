@@ -5,7 +5,7 @@ use mathlib.Core.List.{List, [], _∷_}
 use lib.Dec.{eqb}
 use Rattle.text.specs.Text.{lines}
 use Rattle.text.specs.Records.{records}
-use Rattle.command_text.specs.Form.{Group, Record, param, group, variant, array, bitFlag, bitField, fieldEnum, const, bitmask, form}
+use Rattle.command_text.specs.Form.{Group, Record, param, group, item, form}
 use Rattle.command_class.specs.Definition.{Item, Parameter, Entry, single, repeated, numbered, under}
 
 -- a Q with the lines under it, or a G with its line
@@ -17,13 +17,7 @@ pub data Head : Type 0 where
 abbrev pub onto : ℕ → Record → List Item → List Head → List Head
 onto n (param q) is hs = isQ (record { line = n; says = q; items = under is }) ∷ hs
 onto n (group g) is hs = isG n g ∷ hs
-onto n (variant s) is hs = hs
-onto n (array length ascii) is hs = hs
-onto n (bitFlag mask name) is hs = hs
-onto n (bitField b) is hs = hs
-onto n (fieldEnum b) is hs = hs
-onto n (const value name) is hs = hs
-onto n (bitmask length) is hs = hs
+onto n (item d) is hs = hs
 
 unfoldable pub heads : List Item → List Head
 heads [] = []

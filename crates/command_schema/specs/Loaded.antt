@@ -24,7 +24,7 @@ use Rattle.command_rules.specs.Field.{Field, fieldOf, ruleOf, isNamed}
 use Rattle.command_schema.specs.Heads.{Head, isQ, isG, headsOf}
 use Rattle.command_schema.specs.Gathered.{Gathers, bitmaskIn, arrayIn, variantIn, lengthNumber}
 
--- ---- at most 32 T, S and U lines under each Q
+-- ---- at most 32 T and S lines under each Q
 
 abbrev pub SmallHead : Head → Type 0
 SmallHead (isQ q) = Small q
@@ -91,7 +91,7 @@ fieldIn t l =
       items = under (from t (after l));
     }
 
--- the lines under it can be read, and it says how many of them are T, S and U lines
+-- the lines under it can be read, and it says how many of them are T and S lines
 pub record Stands (t : List ℕ) (l : Loaded) : Type 0 where
   pub readable : Readable rules t (after l)
   pub bits : l .bits ≡ countBits (under (from t (after l)))

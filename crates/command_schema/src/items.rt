@@ -1,4 +1,4 @@
-// What the lines under a Q say of it: its first M, A and R, how many T, S and U lines there are, and so its length and whether a K names its value.
+// What the lines under a Q say of it: its first M, A and R, how many T and S lines there are, and so its length and whether a K names its value.
 use command_class::Row;
 use command_text::ParamType;
 use text::Place;
@@ -27,7 +27,7 @@ pub struct Variant {
 }
 
 // What is gathered of the lines under a Q: the first M's length (256 where it is missing, 257 where there is no M), the first A, the first R, and how
-// many T, S and U lines there are.
+// many T and S lines there are.
 pub struct Gathered {
     pub bitmask: u16,
     pub array: ArrayAttrib,
@@ -118,7 +118,7 @@ impl Gathered {
         }
     }
 
-    // With a T, S or U.
+    // With a T or S.
     fn with_bits(self) -> Gathered
         requires { ⌜ self .bits < 65535 ⌝ }
         ensures { λ r. ⌜ r ≡ withBits self ⌝ }
@@ -145,7 +145,6 @@ impl Gathered {
             b'M' => self.with_bitmask(row),
             b'T' => self.with_bits(),
             b'S' => self.with_bits(),
-            b'U' => self.with_bits(),
             _ => self,
         }
     }

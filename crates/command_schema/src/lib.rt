@@ -1,5 +1,5 @@
 // The definition of a command, loaded from an accepted text: one row of numbers for each Q or G, with a Q's first M, A and R resolved.
-// Counterpart of `Cmd`, `Param` and `VariantGroup` of command_class/schema.rs. T, S, U and K lines stay in the text.
+// Counterpart of `Cmd`, `Param` and `VariantGroup` of command_class/schema.rs. T, S and K lines stay in the text.
 mod items;
 
 use crate::items::Gathered;
@@ -41,7 +41,7 @@ pub struct Loaded {
     pub paramoffs: u16,
     pub sizemask: u16,
     pub sizeoffs: u16,
-    // How many T, S and U lines stand under a Q.
+    // How many T and S lines stand under a Q.
     pub bits: u16,
     // 1 for a CONST whose first A and first R are not ascii.
     pub named: u16,

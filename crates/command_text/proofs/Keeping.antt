@@ -23,8 +23,8 @@ use Rattle.command_kept.specs.declared.Form.{Form}
 use Rattle.command_kept.specs.declared.Kept.{Kept}
 use Rattle.command_kept.specs.declared.Judged.{Judged}
 use Rattle.command_kept.specs.declared.Judged.the-variants.{On, Passed, Lost, Wrong}
-use Rattle.command_text.specs.Form.{Record, Param, Group, param, group, variant, array, bitFlag, bitField, fieldEnum, const, bitmask, form}
-use Rattle.command_text.specs.Rules.{begins, count, items, owned, grouped, shift, rules}
+use Rattle.command_text.specs.Form.{Param, Group, Detail, Record, param, group, item, form}
+use Rattle.command_text.specs.Rules.{begins, count, items, owned, grouped, shiftIn, rules}
 use Rattle.command_text.specs.Shape.{shape}
 
 -- ---- what is kept
@@ -43,33 +43,22 @@ outcome Passed = passed
 outcome Lost = astray
 outcome Wrong = wrong
 
--- an item line leaves the owner and the group as they are
-pub record IsItem (r : Record) : Type 0 where
-  pub item : begins r ≡ false
-  pub owner-stays : (before : List Record) → owned (r ∷ before) ≡ owned before
-  pub group-stays : (before : List Record) → grouped (r ∷ before) ≡ grouped before
-
 module _ (before : List Record) (k : Kept) (tells : Tells before k) where
-  meets-item : (r : Record) → IsItem r → Meets rules Tells before (some r) (outcome (judgedItem k (shift r)))
-  meets-item r is = go (k .owned) (leb 32 (k .items)) (ltb 7 (shift r)) refl (sym (tells .owns)) (rw (tells .holds)) refl
+  meets-item : (d : Detail) → Meets rules Tells before (some (item d)) (outcome (judged k (shape (some (item d)))))
+  meets-item d = go (k .owned) (leb 32 (k .items)) (ltb 7 (shiftIn d)) refl (sym (tells .owns)) (rw (tells .holds)) refl
     where
-      go : (a b c : Bool) → k .owned ≡ a → owned before ≡ a → leb 32 (items before) ≡ b → ltb 7 (shift r) ≡ c
-          → Meets rules Tells before (some r) (outcome (cond a (cond b Passed (cond c Lost
+      go : (a b c : Bool) → k .owned ≡ a → owned before ≡ a → leb 32 (items before) ≡ b → ltb 7 (shiftIn d) ≡ c
+          → Meets rules Tells before (some (item d)) (outcome (cond a (cond b Passed (cond c Lost
           (On (record { count = k .count; owned = k .owned; grouped = k .grouped; items = k .items + 1 })))) Lost))
-      go false b c o p q s = (r, refl, rw (is .item, p), rw (is .item, p))
-      go true true c o p q s = (r, refl, rw (is .item, p, q))
-      go true false true o p q s = (r, refl, rw (is .item, p, q), rw (is .item, p, s))
+      go false b c o p q s = (item d, refl, rw p, rw p)
+      go true true c o p q s = (item d, refl, rw (p, q))
+      go true false true o p q s = (item d, refl, rw (p, q), rw (p, s))
       go true false false o p q s = (
-        r,
+        item d,
         refl,
-        rw (is .item, p, q),
-        rw (is .item, p, s),
-        record {
-          counted = rw (is .item) (tells .counted);
-          owns = tells .owns ∙ sym (is .owner-stays before);
-          groups = tells .groups ∙ sym (is .group-stays before);
-          holds = rw (is .item) (omega (arith, tells .holds));
-        },
+        rw (p, q),
+        rw (p, s),
+        record { counted = tells .counted; owns = tells .owns; groups = tells .groups; holds = omega (arith, tells .holds) },
       )
 
   meets-group : (g : Group) → Meets rules Tells before (some (group g)) (outcome (judged k (shape (some (group g)))))
@@ -102,13 +91,7 @@ module _ (before : List Record) (k : Kept) (tells : Tells before k) where
   meets none = refl
   meets (some (param q)) = meets-param q
   meets (some (group g)) = meets-group g
-  meets (some (variant s)) = meets-item (variant s) (record { item = refl; owner-stays = λ before. refl; group-stays = λ before. refl })
-  meets (some (array n ascii)) = meets-item (array n ascii) (record { item = refl; owner-stays = λ before. refl; group-stays = λ before. refl })
-  meets (some (bitFlag mask name)) = meets-item (bitFlag mask name) (record { item = refl; owner-stays = λ before. refl; group-stays = λ before. refl })
-  meets (some (bitField b)) = meets-item (bitField b) (record { item = refl; owner-stays = λ before. refl; group-stays = λ before. refl })
-  meets (some (fieldEnum b)) = meets-item (fieldEnum b) (record { item = refl; owner-stays = λ before. refl; group-stays = λ before. refl })
-  meets (some (const value name)) = meets-item (const value name) (record { item = refl; owner-stays = λ before. refl; group-stays = λ before. refl })
-  meets (some (bitmask n)) = meets-item (bitmask n) (record { item = refl; owner-stays = λ before. refl; group-stays = λ before. refl })
+  meets (some (item d)) = meets-item d
 
 -- ---- no form has more than nine fields
 pub brief : Brief rules

@@ -17,7 +17,7 @@ use Rattle.text.proofs.Laws.{cells-length}
 use Rattle.text.proofs.Tests.{and-left, and-right, count-of, value-of, optional-value-of}
 use Rattle.command_kept.specs.declared.Form.{Form}
 use Rattle.command_kept.specs.declared.Form.the-variants.{Param, Group, Item, Bad}
-use Rattle.command_text.specs.Form.{Record, group, variant, bitField, fieldEnum, typeName, types, typeAmong, typeOf, known, paramWords, paramCondition, paramFields}
+use Rattle.command_text.specs.Form.{Record, group, item, variant, bitField, typeName, types, typeAmong, typeOf, known, paramWords, paramCondition, paramFields}
 use Rattle.command_text.specs.Form.{groupFields, groupForm, variantFields, variantForm, arrayForm, namedForm, bitsFields, bitsForm, bitmaskForm}
 use Rattle.command_text.specs.Form.{groupOf, sizeOf, bitsOf, ofType, said, paramSaid, form}
 use Rattle.command_text.specs.Shape.{tagged, shape}
@@ -112,17 +112,17 @@ module _ (t : List ℕ) (l : Line) (b : Bool) (v : ℕ) where
       (ap Group (at-v ∙ value-of 255 (field 4 (cells t l)) u))
 
   pub variant-is : b ≡ variantFields (cells t l) → l .fields ≡ 5 → b ≡ true → v ≡ optionalValue 255 (field 3 (cells t l))
-      → Item v ≡ shape (said (variantForm (cells t l)) (some (variant (sizeOf (cells t l)))))
+      → Item v ≡ shape (said (variantForm (cells t l)) (some (item (variant (sizeOf (cells t l))))))
   variant-is good h e at-v =
       let u : optionalUpTo 255 (field 3 (cells t l)) ≡ true = variant-shift (cells t l) (sym good ∙ e) in
-      fields-good t l 5 (variantFields (cells t l)) (some (variant (sizeOf (cells t l)))) b good h e (Item v)
+      fields-good t l 5 (variantFields (cells t l)) (some (item (variant (sizeOf (cells t l))))) b good h e (Item v)
       (ap Item (at-v ∙ optional-value-of 255 (field 3 (cells t l)) u))
 
   pub bits-is : b ≡ bitsFields (cells t l) → l .fields ≡ 4 → b ≡ true → v ≡ optionalValue 255 (field 2 (cells t l))
-      → Item v ≡ shape (said (bitsForm (cells t l)) (some (bitField (bitsOf (cells t l)))))
+      → Item v ≡ shape (said (bitsForm (cells t l)) (some (item (bitField (bitsOf (cells t l))))))
   bits-is good h e at-v =
       let u : optionalUpTo 255 (field 2 (cells t l)) ≡ true = bits-shift (cells t l) (sym good ∙ e) in
-      fields-good t l 4 (bitsFields (cells t l)) (some (bitField (bitsOf (cells t l)))) b good h e (Item v)
+      fields-good t l 4 (bitsFields (cells t l)) (some (item (bitField (bitsOf (cells t l))))) b good h e (Item v)
       (ap Item (at-v ∙ optional-value-of 255 (field 2 (cells t l)) u))
 
   pub param-is : b ≡ paramFields (cells t l) → l .fields ≡ 6 → b ≡ true → v ≡ text.value 1 (field 1 (cells t l))
@@ -145,10 +145,6 @@ module _ (fs : List (List ℕ)) (k : ℕ) (kind : k ≡ kindOf fs) where
   item-shape true r x z e = e ∙ z
   item-shape false r x z e = e
 
-  enum-shape : (b : Bool) → shape (said b (some (bitField (bitsOf fs)))) ≡ shape (said b (some (fieldEnum (bitsOf fs))))
-  enum-shape true = refl
-  enum-shape false = refl
-
   module _ (r : Form) where
     pub kind-param : k ≡ 81 → r ≡ shape (paramSaid fs) → r ≡ shape (form fs)
     kind-param q h = rw (← kind, q) h
@@ -156,27 +152,27 @@ module _ (fs : List (List ℕ)) (k : ℕ) (kind : k ≡ kindOf fs) where
     pub kind-group : k ≡ 71 → r ≡ shape (said (groupForm fs) (some (group (groupOf fs)))) → r ≡ shape (form fs)
     kind-group q h = rw (← kind, q) h
 
-    pub kind-variant : k ≡ 82 → r ≡ shape (said (variantForm fs) (some (variant (sizeOf fs)))) → r ≡ shape (form fs)
+    pub kind-variant : k ≡ 82 → r ≡ shape (said (variantForm fs) (some (item (variant (sizeOf fs))))) → r ≡ shape (form fs)
     kind-variant q h = rw (← kind, q) h
 
-    pub kind-bit-field : k ≡ 83 → r ≡ shape (said (bitsForm fs) (some (bitField (bitsOf fs)))) → r ≡ shape (form fs)
+    pub kind-bit-field : k ≡ 83 → r ≡ shape (said (bitsForm fs) (some (item (bitField (bitsOf fs))))) → r ≡ shape (form fs)
     kind-bit-field q h = rw (← kind, q) h
 
-    pub kind-field-enum : k ≡ 85 → r ≡ shape (said (bitsForm fs) (some (bitField (bitsOf fs)))) → r ≡ shape (form fs)
-    kind-field-enum q h = rw (← kind, q) (h ∙ enum-shape (bitsForm fs))
+    pub kind-field-enum : k ≡ 85 → r ≡ shape (said (bitsForm fs) (some (item (bitField (bitsOf fs))))) → r ≡ shape (form fs)
+    kind-field-enum q h = rw (← kind, q) h
 
-    module _ (b : Bool) (item : r ≡ tagged b (Item 0)) where
+    module _ (b : Bool) (is : r ≡ tagged b (Item 0)) where
       pub kind-array : k ≡ 65 → b ≡ arrayForm fs → r ≡ shape (form fs)
-      kind-array q e = rw (← kind, q, ← e) (item-shape b r _ refl item)
+      kind-array q e = rw (← kind, q, ← e) (item-shape b r _ refl is)
 
       pub kind-bit-flag : k ≡ 84 → b ≡ namedForm fs → r ≡ shape (form fs)
-      kind-bit-flag q e = rw (← kind, q, ← e) (item-shape b r _ refl item)
+      kind-bit-flag q e = rw (← kind, q, ← e) (item-shape b r _ refl is)
 
       pub kind-const : k ≡ 75 → b ≡ namedForm fs → r ≡ shape (form fs)
-      kind-const q e = rw (← kind, q, ← e) (item-shape b r _ refl item)
+      kind-const q e = rw (← kind, q, ← e) (item-shape b r _ refl is)
 
       pub kind-bitmask : k ≡ 77 → b ≡ bitmaskForm fs → r ≡ shape (form fs)
-      kind-bitmask q e = rw (← kind, q, ← e) (item-shape b r _ refl item)
+      kind-bitmask q e = rw (← kind, q, ← e) (item-shape b r _ refl is)
 
   pub kind-none : (k ≡ 81 → ⊥) → (k ≡ 71 → ⊥) → (k ≡ 82 → ⊥) → (k ≡ 65 → ⊥) → (k ≡ 84 → ⊥) → (k ≡ 83 → ⊥)
       → (k ≡ 85 → ⊥) → (k ≡ 75 → ⊥) → (k ≡ 77 → ⊥) → Bad ≡ shape (form fs)

@@ -34,23 +34,26 @@ pub record Size : Type 0 where
   pub shift : ℕ
   pub ascii : Bool
 
--- what an S or U line says
+-- what an S line says
 pub record Bits : Type 0 where
   pub mask : ℕ
   pub shift : ℕ
   pub name : List ℕ
 
--- what a line says: Q, G, R, A, T, S, U, K, M
+-- what an item says: R, A, T, S, K, M
+pub data Detail : Type 0 where
+  variant : Size → Detail
+  array : ℕ → Bool → Detail
+  bitFlag : ℕ → List ℕ → Detail
+  bitField : Bits → Detail
+  const : ℕ → List ℕ → Detail
+  bitmask : Option ℕ → Detail
+
+-- what a line says: a Q, a G or an item
 pub data Record : Type 0 where
   param : Param → Record
   group : Group → Record
-  variant : Size → Record
-  array : ℕ → Bool → Record
-  bitFlag : ℕ → List ℕ → Record
-  bitField : Bits → Record
-  fieldEnum : Bits → Record
-  const : ℕ → List ℕ → Record
-  bitmask : Option ℕ → Record
+  item : Detail → Record
 
 -- the number that a field says
 abbrev pub value : List ℕ → ℕ
@@ -177,15 +180,15 @@ said b r = cond b r none
 abbrev pub paramSaid : List (List ℕ) → Option Record
 paramSaid fs = said (paramForm fs) (ofType fs (typeOf (field 2 fs)))
 
--- the record that the fields of a line say, if the line is one of the forms
+-- the record that the fields of a line say, if the line is one of the forms. T27: a U is read as an S
 abbrev pub form : List (List ℕ) → Option Record
 form fs =
     cond (eqb (kindOf fs) 0x51) (paramSaid fs)
     (cond (eqb (kindOf fs) 0x47) (said (groupForm fs) (some (group (groupOf fs))))
-    (cond (eqb (kindOf fs) 0x52) (said (variantForm fs) (some (variant (sizeOf fs))))
-    (cond (eqb (kindOf fs) 0x41) (said (arrayForm fs) (some (array (value (field 1 fs)) (asciiOf (field 2 fs)))))
-    (cond (eqb (kindOf fs) 0x54) (said (namedForm fs) (some (bitFlag (value (field 1 fs)) (field 2 fs))))
-    (cond (eqb (kindOf fs) 0x53) (said (bitsForm fs) (some (bitField (bitsOf fs))))
-    (cond (eqb (kindOf fs) 0x55) (said (bitsForm fs) (some (fieldEnum (bitsOf fs))))
-    (cond (eqb (kindOf fs) 0x4b) (said (namedForm fs) (some (const (value (field 1 fs)) (field 2 fs))))
-    (cond (eqb (kindOf fs) 0x4d) (said (bitmaskForm fs) (some (bitmask (given (field 1 fs))))) none))))))))
+    (cond (eqb (kindOf fs) 0x52) (said (variantForm fs) (some (item (variant (sizeOf fs)))))
+    (cond (eqb (kindOf fs) 0x41) (said (arrayForm fs) (some (item (array (value (field 1 fs)) (asciiOf (field 2 fs))))))
+    (cond (eqb (kindOf fs) 0x54) (said (namedForm fs) (some (item (bitFlag (value (field 1 fs)) (field 2 fs)))))
+    (cond (eqb (kindOf fs) 0x53) (said (bitsForm fs) (some (item (bitField (bitsOf fs)))))
+    (cond (eqb (kindOf fs) 0x55) (said (bitsForm fs) (some (item (bitField (bitsOf fs)))))
+    (cond (eqb (kindOf fs) 0x4b) (said (namedForm fs) (some (item (const (value (field 1 fs)) (field 2 fs)))))
+    (cond (eqb (kindOf fs) 0x4d) (said (bitmaskForm fs) (some (item (bitmask (given (field 1 fs)))))) none))))))))

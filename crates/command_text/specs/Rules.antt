@@ -7,19 +7,13 @@ use lib.Dec.{leb, ltb, eqb}
 use Rattle.text.specs.Judge.{Rules}
 use Rattle.text.specs.Judge as text
 use Rattle.text.specs.declared.Verdict.{Verdict}
-use Rattle.command_text.specs.Form.{Record, param, group, variant, array, bitFlag, bitField, fieldEnum, const, bitmask, form}
+use Rattle.command_text.specs.Form.{Record, param, group, item, Detail, variant, array, bitFlag, bitField, const, bitmask, form}
 
 -- a Q or G line begins what stands under it
 abbrev pub begins : Record → Bool
 begins (param q) = true
 begins (group g) = true
-begins (variant s) = false
-begins (array length ascii) = false
-begins (bitFlag mask name) = false
-begins (bitField b) = false
-begins (fieldEnum b) = false
-begins (const value name) = false
-begins (bitmask length) = false
+begins (item d) = false
 
 -- how many Q and G lines there are
 abbrev pub count : List Record → ℕ
@@ -36,50 +30,35 @@ abbrev pub owned : List Record → Bool
 owned [] = false
 owned (param q ∷ rs) = true
 owned (group g ∷ rs) = false
-owned (variant s ∷ rs) = owned rs
-owned (array length ascii ∷ rs) = owned rs
-owned (bitFlag mask name ∷ rs) = owned rs
-owned (bitField b ∷ rs) = owned rs
-owned (fieldEnum b ∷ rs) = owned rs
-owned (const value name ∷ rs) = owned rs
-owned (bitmask length ∷ rs) = owned rs
+owned (item d ∷ rs) = owned rs
 
 -- T32: is there a G that a level 1 Q would be a member of
 abbrev pub grouped : List Record → Bool
 grouped [] = false
 grouped (param q ∷ rs) = cond (eqb (q .level) 1) (grouped rs) false
 grouped (group g ∷ rs) = true
-grouped (variant s ∷ rs) = grouped rs
-grouped (array length ascii ∷ rs) = grouped rs
-grouped (bitFlag mask name ∷ rs) = grouped rs
-grouped (bitField b ∷ rs) = grouped rs
-grouped (fieldEnum b ∷ rs) = grouped rs
-grouped (const value name ∷ rs) = grouped rs
-grouped (bitmask length ∷ rs) = grouped rs
+grouped (item d ∷ rs) = grouped rs
+
+-- the shift that an item says, or 0
+abbrev pub shiftIn : Detail → ℕ
+shiftIn (variant s) = s .shift
+shiftIn (array length ascii) = 0
+shiftIn (bitFlag mask name) = 0
+shiftIn (bitField b) = b .shift
+shiftIn (const value name) = 0
+shiftIn (bitmask length) = 0
 
 -- the shift that a record says, or 0
 abbrev pub shift : Record → ℕ
 shift (param q) = 0
 shift (group g) = g .shift
-shift (variant s) = s .shift
-shift (array length ascii) = 0
-shift (bitFlag mask name) = 0
-shift (bitField b) = b .shift
-shift (fieldEnum b) = b .shift
-shift (const value name) = 0
-shift (bitmask length) = 0
+shift (item d) = shiftIn d
 
 -- is a record a level 1 Q
 abbrev pub member : Record → Bool
 member (param q) = eqb (q .level) 1
 member (group g) = false
-member (variant s) = false
-member (array length ascii) = false
-member (bitFlag mask name) = false
-member (bitField b) = false
-member (fieldEnum b) = false
-member (const value name) = false
-member (bitmask length) = false
+member (item d) = false
 
 -- T33: is a limit passed by this record. An item without owner is under nothing
 abbrev pub over : List Record → Record → Bool

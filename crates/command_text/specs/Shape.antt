@@ -3,7 +3,8 @@ use mathlib.Core.Bool.{Bool, cond}
 use mathlib.Core.Option.{Option, none, some}
 use Rattle.command_kept.specs.declared.Form.{Form}
 use Rattle.command_kept.specs.declared.Form.the-variants.{Param, Group, Item, Bad}
-use Rattle.command_text.specs.Form.{Record, param, group, variant, array, bitFlag, bitField, fieldEnum, const, bitmask}
+use Rattle.command_text.specs.Form.{Record, param, group, item}
+use Rattle.command_text.specs.Rules.{shiftIn}
 
 -- the form if the line has it
 abbrev pub tagged : Bool → Form → Form
@@ -14,10 +15,4 @@ abbrev pub shape : Option Record → Form
 shape none = Bad
 shape (some (param q)) = Param (q .level)
 shape (some (group g)) = Group (g .shift)
-shape (some (variant s)) = Item (s .shift)
-shape (some (array length ascii)) = Item 0
-shape (some (bitFlag mask name)) = Item 0
-shape (some (bitField b)) = Item (b .shift)
-shape (some (fieldEnum b)) = Item (b .shift)
-shape (some (const value name)) = Item 0
-shape (some (bitmask length)) = Item 0
+shape (some (item d)) = Item (shiftIn d)

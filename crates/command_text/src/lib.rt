@@ -1,5 +1,5 @@
 // The command text: which texts are accepted, and which line of any other is refused by which number.
-// The forms are those of command_class/schema.rs, a line each.
+// The forms are those of command_class/schema.rs, a line each; a field enum is read as a bit field.
 use command_kept::Form;
 use command_kept::Judged;
 use refusal::Refusal;
@@ -12,7 +12,7 @@ ghost use Rattle.text.specs.Judge.{Checks};
 ghost use Rattle.text.specs.Place.{kindOf, cells, Marked, Has};
 ghost use Rattle.command_text.specs.Form.{typeOf, known, paramWords, paramCondition, paramFields, groupFields};
 ghost use Rattle.command_text.specs.Form.{variantFields, bitsFields, groupForm, variantForm, arrayForm, namedForm, bitsForm, bitmaskForm, paramSaid};
-ghost use Rattle.command_text.specs.Form.{said, form, group, variant, groupOf, sizeOf, bitField, bitsOf};
+ghost use Rattle.command_text.specs.Form.{said, form, group, item, variant, groupOf, sizeOf, bitField, bitsOf};
 ghost use Rattle.command_text.specs.Rules.{rules};
 ghost use Rattle.command_text.specs.Shape.{tagged, shape};
 ghost use mathlib.Core.Option.{some};
@@ -189,7 +189,7 @@ fn read_group(text: &[u8], line: Line) -> Form
 
 fn read_variant(text: &[u8], line: Line) -> Form
     requires { ⌜ Marked (now text) (line .marks) (line .fields) ⌝ }
-    ensures { λ r. ⌜ r ≡ shape (said (variantForm (cells (now (text .entry)) line)) (some (variant (sizeOf (cells (now (text .entry)) line))))) ⌝ }
+    ensures { λ r. ⌜ r ≡ shape (said (variantForm (cells (now (text .entry)) line)) (some (item (variant (sizeOf (cells (now (text .entry)) line)))))) ⌝ }
 {
     if line.fields != 5 {
         return Form::Bad;
@@ -204,7 +204,7 @@ fn read_variant(text: &[u8], line: Line) -> Form
 
 fn read_bits(text: &[u8], line: Line) -> Form
     requires { ⌜ Marked (now text) (line .marks) (line .fields) ⌝ }
-    ensures { λ r. ⌜ r ≡ shape (said (bitsForm (cells (now (text .entry)) line)) (some (bitField (bitsOf (cells (now (text .entry)) line))))) ⌝ }
+    ensures { λ r. ⌜ r ≡ shape (said (bitsForm (cells (now (text .entry)) line)) (some (item (bitField (bitsOf (cells (now (text .entry)) line)))))) ⌝ }
 {
     if line.fields != 4 {
         return Form::Bad;

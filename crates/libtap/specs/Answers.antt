@@ -9,6 +9,9 @@ use Rattle.frame.specs.declared.Parsed.the-variants.{Frame, Refused as NoFrame}
 use Rattle.frame.specs.Frame.{said}
 use Rattle.pti.specs.Payload.{framesOf, saidOf, tableAfter}
 use Rattle.text.specs.Judge as text
+use Rattle.tidy.specs.declared.Tidied.{Tidied}
+use Rattle.tidy.specs.declared.Tidied.the-variants.{Length, Refused as Untidied}
+use Rattle.tidy.specs.Tidy.{Tidies}
 use Rattle.text.specs.declared.Verdict.{Verdict}
 use Rattle.libtap.specs.declared.TapAnswer.{TapAnswer}
 use Rattle.libtap.specs.declared.frames.TapFrame.{TapFrame}
@@ -58,6 +61,17 @@ toldFrame (NoFrame x) =
 -- a verdict's number and its line
 abbrev pub judged : Verdict → TapAnswer
 judged v = record { refusal = text.numberOf v; value = text.lineOf v }
+
+-- the length of a tidied text, or the refusal's number and what it carries
+abbrev pub toldTidied : Tidied → TapAnswer
+toldTidied (Length n) = record { refusal = 0; value = n }
+toldTidied (Untidied x) = record { refusal = numberOf x; value = carriedBy x }
+
+-- what `tap_tidy_command_text` answers and leaves: what `tidy_command_text` does, told so
+pub record ToldTidied (text buffer : List ℕ) (r : TapAnswer) (buffer′ : List ℕ) : Type 0 where
+  pub answer : Tidied
+  pub tidies : Tidies text buffer answer buffer′
+  pub told-so : r ≡ toldTidied answer
 
 -- what `tap_parse_payload` answers and leaves, for a payload s and a table t
 pub record Told (firmware : ℕ) (s t : List ℕ) (r : TapAnswer) (t′ : List ℕ) : Type 0 where

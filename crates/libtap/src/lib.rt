@@ -4,7 +4,7 @@ mod frames;
 mod headers;
 mod texts;
 
-// An answer as C has it: `refusal` is 0 and `value` the number that the call answers, or `refusal` is one of R1 to R9 (docs/RULES.md) and `value`
+// An answer as C has it: `refusal` is 0 and `value` the number that the call answers, or `refusal` is one of R1 to R9 and U5 (docs/RULES.md) and `value`
 // what it carries.
 #[repr(C)]
 pub struct TapAnswer {

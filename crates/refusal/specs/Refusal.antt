@@ -1,9 +1,9 @@
--- R1 to R9 and FV2 (docs/RULES.md): the number of each refusal, and what it carries.
+-- R1 to R9, U5 and FV2 (docs/RULES.md): the number of each refusal, and what it carries.
 use Prim.Native.Nat.{ℕ}
 use Rattle.refusal.specs.declared.Refusal.{Refusal}
-use Rattle.refusal.specs.declared.Refusal.the-variants.{Form, Limit, Owner, TooLong, TooShort, NoBase, NoCandidate, MoreRows, NotAFrame, Firmware}
+use Rattle.refusal.specs.declared.Refusal.the-variants.{Form, Limit, Owner, TooLong, TooShort, NoBase, NoCandidate, MoreRows, NotAFrame, MoreBytes, Firmware}
 
--- R1 to R9, FV2: the case of refusal n has the number n
+-- R1 to R9, U5, FV2: the case of refusal n has the number n
 abbrev pub numberOf : Refusal → ℕ
 numberOf (Form line) = 1
 numberOf (Limit line) = 2
@@ -14,9 +14,10 @@ numberOf (NoBase key) = 6
 numberOf NoCandidate = 7
 numberOf (MoreRows rows) = 8
 numberOf NotAFrame = 9
+numberOf (MoreBytes length) = 12
 numberOf (Firmware number) = 13
 
--- R1 to R9, FV2: a line, a length, a key, a count of rows, a firmware's number, or 0
+-- R1 to R9, U5, FV2: a line, a length, a key, a count of rows, a firmware's number, or 0
 abbrev pub carriedBy : Refusal → ℕ
 carriedBy (Form line) = line
 carriedBy (Limit line) = line
@@ -27,4 +28,5 @@ carriedBy (NoBase key) = key
 carriedBy NoCandidate = 0
 carriedBy (MoreRows rows) = rows
 carriedBy NotAFrame = 0
+carriedBy (MoreBytes length) = length
 carriedBy (Firmware number) = number

@@ -1,6 +1,7 @@
 // Requests in, answers out, to the end of the input.
 use crate::definitions::commandtext;
 use crate::definitions::frametext;
+use crate::definitions::tidy;
 use crate::frames::frames;
 use crate::frames::frametable;
 use crate::input::Filled;
@@ -61,6 +62,7 @@ fn answer(line: &[u8], bytes: &mut [u8], rows: &mut [u64], out: &mut Buffer, use
         Word::Command => command(words, bytes, rows, out, used),
         Word::Bits => bits(words, bytes, out, used),
         Word::Checksum => checksum(words, bytes, out, used),
+        Word::Tidy => tidy(words, bytes, out, used),
         Word::Unknown => Answer::Bad,
     }
 }

@@ -22,6 +22,7 @@ pub enum Word {
     Command,
     Bits,
     Checksum,
+    Tidy,
     Unknown,
 }
 
@@ -65,7 +66,7 @@ pub fn find(s: &[u8], b: u8) -> usize
 
 pub fn word_of(word: &[u8]) -> Word {
     let words: &[u8] =
-        b"rate\tcount\tbody\trecord\tframes\tframetable\tframetext\tcommandtext\theader\tcommand\tbits\tchecksum\trecordby\tframesby\tframetableby";
+        b"rate\tcount\tbody\trecord\tframes\tframetable\tframetext\tcommandtext\theader\tcommand\tbits\tchecksum\trecordby\tframesby\tframetableby\ttidy";
     match find_field(words, word) {
         0 => Word::Rate,
         1 => Word::Count,
@@ -82,6 +83,7 @@ pub fn word_of(word: &[u8]) -> Word {
         12 => Word::Recordby,
         13 => Word::Framesby,
         14 => Word::Frametableby,
+        15 => Word::Tidy,
         _ => Word::Unknown,
     }
 }

@@ -13,6 +13,7 @@ fn help_all() {
   tap frames FILE    the frames of a capture as a table
   tap show FILE N    frame N of a capture whole
   tap check FILE     is a definition text accepted, and if not, what is wrong with it
+  tap tidy FILE      a command text with S for U
   tap help           this page
   tap help WORD      what a word does, and what its FILE is
 
@@ -86,7 +87,7 @@ with it, and what would be right.
 
 Without these the first line that begins with a letter and a tab decides: F, B, H, P, V, D and E
 are the letters of frame texts, and Q, G, R, A, T, S, U, K and M those of command texts. An empty
-text is that of a command without parameters.
+text is that of a command without parameters. U is the old letter of an S: see 'tap help tidy'.
 
 The number says why the line is refused, and after it the last line of the output has the line's:
   refused 1 L    line L is none of the forms
@@ -98,13 +99,29 @@ docs/AUTHORS.md has the forms and the limits.
     succeed();
 }
 
+fn help_tidy() {
+    say(
+        b"tap tidy FILE: a command text with the letter of each U line an S. A U line is read as an S line, and
+new texts use S. Nothing else of the text is moved: its length, its line numbers and what every
+command is decoded to stay as they are. FILE itself is not written to. bin/tap puts the text on
+standard output and the last line on standard error, so the text can go into a file:
+
+  bin/tap tidy old.txt >new.txt
+
+A text that is refused, as tap check says it, gives no text: the last line is 'refused N V' then.
+",
+    );
+    succeed();
+}
+
 // The page of a word.
 fn help_word(word: &[u8]) {
-    match find_field(b"frames\tshow\tcheck\thelp", word) {
+    match find_field(b"frames\tshow\tcheck\ttidy\thelp", word) {
         0 => help_frames(),
         1 => help_show(),
         2 => help_check(),
-        3 => help_all(),
+        3 => help_tidy(),
+        4 => help_all(),
         _ => fail_word(word),
     }
 }

@@ -10,14 +10,16 @@ use output::outcome::fail;
 use output::outcome::fail_word;
 use readers::line_fields::find_field;
 use show_word::show_file::show_frame;
+use tidy_word::tidy_file::tidy_definition;
 
 // Does what a word asks for.
 fn obey(word: &[u8]) {
-    match find_field(b"frames\tshow\tcheck\thelp", word) {
+    match find_field(b"frames\tshow\tcheck\ttidy\thelp", word) {
         0 => show_frames(),
         1 => show_frame(),
         2 => check_definition(),
-        3 => help(),
+        3 => tidy_definition(),
+        4 => help(),
         _ => fail_word(word),
     }
 }

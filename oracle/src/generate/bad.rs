@@ -45,7 +45,8 @@ fn bad_number(random: &mut Random) -> Vec<u8> {
     ];
     const CAPS: &[&str] = &["16385", "16386", "65536", "4294967296", "18446744073709551615"];
     let number = random.pick(NUMBERS);
-    match random.below(11) {
+    const BUFFERS: &[&str] = &["196609", "4294967296", "18446744073709551615"];
+    match random.below(13) {
         0 => format!("rate {number} 1"),
         1 => format!("rate 1 {number}"),
         2 => format!("body {number} 5b02005d00"),
@@ -56,6 +57,8 @@ fn bad_number(random: &mut Random) -> Vec<u8> {
         7 => format!("header 4 0 {number} - 0000"),
         8 => format!("command {number} - 0000"),
         9 => format!("{} {} - -", random.pick(&["header", "command"]), random.pick(CAPS)),
+        10 => format!("tidy {number} -"),
+        11 => format!("tidy {} -", random.pick(BUFFERS)),
         _ => format!("{} {} -", random.pick(&["frames", "frametable"]), random.pick(CAPS)),
     }
     .into_bytes()
@@ -96,6 +99,7 @@ fn bad_bytes(random: &mut Random) -> Vec<u8> {
         "commandtext",
         "header 4 0 0 -",
         "command 4 -",
+        "tidy 100",
     ];
     const WALKS: &[&str] = &["header 4 0 0", "command 4"];
     match random.below(8) {

@@ -39,12 +39,13 @@ pub const KINDS: &[Kind] = &[
     Kind { name: "command", weight: 30, draw: command::command },
     Kind { name: "bits", weight: 15, draw: bits::bits },
     Kind { name: "checksum", weight: 15, draw: bits::checksum },
+    Kind { name: "tidy", weight: 20, draw: texts::tidy },
     Kind { name: "bad", weight: 5, draw: bad::line },
 ];
 
 /// What `today` stands for: what the replay program answers so far.
 pub const TODAY: &str =
-    "rate,count,body,record,frames,frametable,recordby,framesby,frametableby,frametext,commandtext,header,command,bits,checksum,bad";
+    "rate,count,body,record,frames,frametable,recordby,framesby,frametableby,frametext,commandtext,header,command,bits,checksum,tidy,bad";
 
 /// Draws requests of some kinds under a seed.
 #[derive(Clone)]

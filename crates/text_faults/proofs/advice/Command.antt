@@ -12,7 +12,7 @@ use Rattle.text.specs.Text.{fields, field, upTo, optionalUpTo, name}
 use Rattle.text.specs.Place.{kindOf}
 use Rattle.text.specs.Records.{isSome}
 use Rattle.text.proofs.Judging.{split-some}
-use Rattle.command_text.specs.Form.{Record, group, variant, array, bitFlag, bitField, fieldEnum, const, bitmask, value, given, asciiOf, typeOf, known}
+use Rattle.command_text.specs.Form.{Record, group, item, variant, array, bitFlag, bitField, const, bitmask, value, given, asciiOf, typeOf, known}
 use Rattle.command_text.specs.Form.{paramForm, paramCondition, groupForm, variantForm, arrayForm, namedForm, bitsForm, bitmaskForm, groupOf, sizeOf, bitsOf}
 use Rattle.command_text.specs.Form.{ofType, said, paramSaid, form}
 use Rattle.command_text.specs.declared.Typed.{Typed}
@@ -42,13 +42,13 @@ abbrev formAt : ℕ → List (List ℕ) → Option Record
 formAt c fs =
     cond (eqb c 0x51) (paramSaid fs)
     (cond (eqb c 0x47) (said (groupForm fs) (some (group (groupOf fs))))
-    (cond (eqb c 0x52) (said (variantForm fs) (some (variant (sizeOf fs))))
-    (cond (eqb c 0x41) (said (arrayForm fs) (some (array (value (field 1 fs)) (asciiOf (field 2 fs)))))
-    (cond (eqb c 0x54) (said (namedForm fs) (some (bitFlag (value (field 1 fs)) (field 2 fs))))
-    (cond (eqb c 0x53) (said (bitsForm fs) (some (bitField (bitsOf fs))))
-    (cond (eqb c 0x55) (said (bitsForm fs) (some (fieldEnum (bitsOf fs))))
-    (cond (eqb c 0x4b) (said (namedForm fs) (some (const (value (field 1 fs)) (field 2 fs))))
-    (cond (eqb c 0x4d) (said (bitmaskForm fs) (some (bitmask (given (field 1 fs))))) none))))))))
+    (cond (eqb c 0x52) (said (variantForm fs) (some (item (variant (sizeOf fs)))))
+    (cond (eqb c 0x41) (said (arrayForm fs) (some (item (array (value (field 1 fs)) (asciiOf (field 2 fs))))))
+    (cond (eqb c 0x54) (said (namedForm fs) (some (item (bitFlag (value (field 1 fs)) (field 2 fs)))))
+    (cond (eqb c 0x53) (said (bitsForm fs) (some (item (bitField (bitsOf fs)))))
+    (cond (eqb c 0x55) (said (bitsForm fs) (some (item (bitField (bitsOf fs)))))
+    (cond (eqb c 0x4b) (said (namedForm fs) (some (item (const (value (field 1 fs)) (field 2 fs)))))
+    (cond (eqb c 0x4d) (said (bitmaskForm fs) (some (item (bitmask (given (field 1 fs)))))) none))))))))
 
 module _ (f : List ℕ) (fs : List (List ℕ)) where
   -- a field after the letter, from 0

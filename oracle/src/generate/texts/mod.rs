@@ -19,6 +19,22 @@ pub fn commandtext(random: &mut Random) -> Vec<u8> {
     Request::Commandtext { text: text(random, &command::COMMAND) }.line()
 }
 
+/// A command text, and a buffer that mostly has room for it.
+pub fn tidy(random: &mut Random) -> Vec<u8> {
+    let text = text(random, &command::COMMAND);
+    let length = text.len();
+    let cap = match random.below(100) {
+        0..=59 => length,
+        60..=69 => length + 1,
+        70..=79 => length + random.below(100),
+        80..=89 => length.saturating_sub(1),
+        90..=94 => random.below(length + 1),
+        95..=98 => 0,
+        _ => limits::BUFFER as usize,
+    };
+    Request::Tidy { cap: limits::BUFFER.min(cap as u64), text }.line()
+}
+
 /// A frame text without damage.
 pub fn good_frame_text(random: &mut Random) -> Vec<u8> {
     bytes_of(&lines(random, &frame::FRAME, 0))

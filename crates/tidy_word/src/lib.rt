@@ -1,0 +1,2 @@
+// The word `tidy` of tap.
+pub mod tidy_file;
