@@ -12,16 +12,18 @@ use header_candidates::read_base;
 use header_fields::LINE_WIDTH;
 use header_paths::BitOffset;
 use header_paths::SCRATCH_WIDTH;
+use header_walk::Walked;
 use header_walk::walk_from;
 use text::Place;
 use text::Verdict;
 ghost use mathlib.Core.Path.{_≡_};
-ghost use Prim.Native.Nat.{_+_, _-_, _*_, _≤_};
+ghost use Prim.Native.Nat.{_+_, _-_, _*_, _/_, _≤_};
 ghost use lib.ListN.{length};
 ghost use Rattle.text.specs.declared.Verdict.the-variants.{Accepted};
 ghost use Rattle.frame_text.specs.Rules.{verdict};
 ghost use Rattle.frame_definition.specs.Find.{FindsBase};
 ghost use Rattle.frame_definition.specs.declared.Found.the-variants.{At};
+ghost use Rattle.header_fields.specs.Fields.{lineWidth};
 ghost use Rattle.header_paths.specs.Scratch.{scratchWidth};
 ghost use Rattle.header_walk.specs.Walk.{Shaped};
 ghost use Rattle.header.specs.Decode.{decoded};
@@ -195,22 +197,21 @@ fn walk_often(
     text: &[u8],
     mpdu: &[u8],
     fields: &[u64],
-    count: usize,
     first: usize,
-    start: u64,
+    from: Walked,
     scratch: &mut [u64],
-    n: usize,
     times: u64,
 ) -> BenchWalked
-    requires { ⌜ Shaped (now mpdu) (now fields) count ⌝ }
-    requires { ⌜ (first ≤ count) × (start ≤ length (now mpdu) * 8) × ((n + (count - first)) * scratchWidth ≤ length (now scratch)) ⌝ }
+    requires { ⌜ Shaped (now mpdu) (now fields) (length (now fields) / lineWidth) ⌝ }
+    requires { ⌜ (first ≤ length (now fields) / lineWidth) × (from .bit .0 ≤ length (now mpdu) * 8)
+        × ((from .rows + (length (now fields) / lineWidth - first)) * scratchWidth ≤ length (now scratch)) ⌝ }
 {
-    let mut bit = start;
-    let mut rows = n;
+    let count = fields.len() / LINE_WIDTH;
+    let mut bit = from.bit.0;
+    let mut rows = from.rows;
     let mut k: u64 = 0;
     while k < times {
-        let at = BitOffset(start);
-        let walked = walk_from(mpdu, text, fields, count, first, at, scratch, n);
+        let walked = walk_from(mpdu, text, fields, count, first, from, scratch);
         let end = walked.bit;
         bit = end.0;
         rows = walked.rows;
@@ -254,5 +255,9 @@ pub extern "C" fn bench_walk(
     if scratch.len() < (n + (count - first)) * SCRATCH_WIDTH {
         return none;
     }
-    walk_often(text, mpdu, fields, count, first, start, scratch, n, times)
+    let from = Walked {
+        bit: BitOffset(start),
+        rows: n,
+    };
+    walk_often(text, mpdu, fields, first, from, scratch, times)
 }

@@ -7,6 +7,7 @@ use header_fields::load_params;
 use header_paths::BitOffset;
 use header_validations::is_ruled_out;
 use header_validations::meets_all;
+use header_walk::Walked;
 use header_walk::walk_from;
 use text::Place;
 ghost use mathlib.Core.Path.{_≡_};
@@ -52,7 +53,11 @@ pub fn read_base(
         (now (scratch .exit)) r ⌝ }
 {
     let count = load_params(text, start, n, fields, 0);
-    let walked = walk_from(mpdu, text, &fields[..], count, 0, BitOffset(0), scratch, 0);
+    let start = Walked {
+        bit: BitOffset(0),
+        rows: 0,
+    };
+    let walked = walk_from(mpdu, text, &fields[..], count, 0, start, scratch);
     let bit = walked.bit;
     Read {
         count,
@@ -78,18 +83,13 @@ fn read_own(
         (now (scratch .exit)) r ⌝ }
 {
     let first = base.count;
-    let from = base.bit;
+    let bit = base.bit;
+    let from = Walked {
+        bit,
+        rows: base.rows,
+    };
     let count = load_params(text, start, n, fields, first);
-    let walked = walk_from(
-        mpdu,
-        text,
-        &fields[..],
-        count,
-        first,
-        from,
-        scratch,
-        base.rows,
-    );
+    let walked = walk_from(mpdu, text, &fields[..], count, first, from, scratch);
     let bit = walked.bit;
     Read {
         count,

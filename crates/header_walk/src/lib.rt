@@ -49,52 +49,61 @@ pub struct Walked {
     pub rows: usize,
 }
 
-// Is the optional path of the field i missing, or does it find a nonzero value? Paths search the n rows, in the list of the parent.
-fn is_wanted(
-    text: &[u8],
-    fields: &[u64],
-    count: usize,
-    i: usize,
-    rows: &[u64],
-    n: usize,
-    parent: u64,
-) -> bool
-    requires { ⌜ (count * lineWidth ≤ length (now fields)) × (i < count) × (n * scratchWidth ≤ length (now rows)) ⌝ }
-    ensures { λ r. ⌜ r ≡ wanted (fieldsIn (now (text .entry)) (now (fields .entry)) count) i parent (rowsIn (now (rows .entry)) n) ⌝ }
+// Where a field is read: its place among the loaded fields, its bit, the row of the field that it is inside + 1 or 0, how many rows there are
+// before it, and how many levels are left below it.
+pub struct Spot {
+    pub place: usize,
+    pub start: BitOffset,
+    pub parent: u64,
+    pub rows: usize,
+    pub left: u64,
+}
+
+// A field whose inner fields are read: its place among the loaded fields, where it ends, how wide it is, how many rows there are with its own,
+// which is the last of them, and how many levels are left below those inside it.
+pub struct Outer {
+    pub place: usize,
+    pub end: BitOffset,
+    pub width: u64,
+    pub rows: usize,
+    pub left: u64,
+}
+
+// Is the optional path of a field missing, or does it find a nonzero value? Paths search the rows before it, in the list of its parent.
+fn is_wanted(text: &[u8], fields: &[u64], count: usize, spot: Spot, rows: &[u64]) -> bool
+    requires { ⌜ (count * lineWidth ≤ length (now fields)) × (spot .place < count) × (spot .rows * scratchWidth ≤ length (now rows)) ⌝ }
+    ensures { λ r.
+        ⌜ r ≡ wanted (fieldsIn (now (text .entry)) (now (fields .entry)) count) (spot .place) (spot .parent) (rowsIn (now (rows .entry)) (spot .rows)) ⌝ }
 {
-    let at = i * LINE_WIDTH + OPTIONAL;
+    let at = spot.place * LINE_WIDTH + OPTIONAL;
     let len = fields[at + 1];
     if len == 0 {
         return true;
     }
     let path = part_of(text, fields[at], len);
-    let Valued::Value(value) = find_inside(text, fields, count, rows, n, path, parent) else {
+    let Valued::Value(value) = find_inside(text, fields, count, rows, spot.rows, path, spot.parent)
+    else {
         return false;
     };
     0 < value
 }
 
-// The width of the field i, or 0 where it is over `left`.
-fn width_of(
-    text: &[u8],
-    fields: &[u64],
-    count: usize,
-    i: usize,
-    rows: &[u64],
-    n: usize,
-    parent: u64,
-    left: u64,
-) -> u64
-    requires { ⌜ (count * lineWidth ≤ length (now fields)) × (i < count) × (n * scratchWidth ≤ length (now rows)) × (left ≤ 16384) ⌝ }
-    ensures { λ r. ⌜ r ≡ fitting (width (fieldsIn (now (text .entry)) (now (fields .entry)) count) i parent (rowsIn (now (rows .entry)) n)) left ⌝ }
+// The width of a field, or 0 where it is over `left`.
+fn width_of(text: &[u8], fields: &[u64], count: usize, spot: Spot, rows: &[u64], left: u64) -> u64
+    requires { ⌜ (count * lineWidth ≤ length (now fields)) × (spot .place < count) × (spot .rows * scratchWidth ≤ length (now rows)) × (left ≤ 16384) ⌝ }
+    ensures { λ r.
+        ⌜ r ≡ fitting (width (fieldsIn (now (text .entry)) (now (fields .entry)) count) (spot .place) (spot .parent)
+        (rowsIn (now (rows .entry)) (spot .rows))) left ⌝ }
 {
+    let i = spot.place;
     let at = i * LINE_WIDTH + SIZE;
     let len = fields[at + 1];
     if len == 0 {
         return fitting(fields[i * LINE_WIDTH + BITS], left);
     }
     let path = part_of(text, fields[at], len);
-    let Valued::Value(bytes) = find_inside(text, fields, count, rows, n, path, parent) else {
+    let Valued::Value(bytes) = find_inside(text, fields, count, rows, spot.rows, path, spot.parent)
+    else {
         return 0;
     };
     bits_of(bytes, left)
@@ -120,24 +129,24 @@ fn fitting(bits: u64, left: u64) -> u64
     bits
 }
 
-// How wide the field i is, if it exists where `left` bits are left.
+// How wide a field is, if it exists where `left` bits are left.
 fn extent_of(
     text: &[u8],
     fields: &[u64],
     count: usize,
-    i: usize,
+    spot: Spot,
     rows: &[u64],
-    n: usize,
-    parent: u64,
     left: u64,
 ) -> Extent
-    requires { ⌜ (count * lineWidth ≤ length (now fields)) × (i < count) × (n * scratchWidth ≤ length (now rows)) × (left ≤ 16384) ⌝ }
-    ensures { λ r. ⌜ r ≡ extentOf (fieldsIn (now (text .entry)) (now (fields .entry)) count) i parent left (rowsIn (now (rows .entry)) n) ⌝ }
+    requires { ⌜ (count * lineWidth ≤ length (now fields)) × (spot .place < count) × (spot .rows * scratchWidth ≤ length (now rows)) × (left ≤ 16384) ⌝ }
+    ensures { λ r.
+        ⌜ r ≡ extentOf (fieldsIn (now (text .entry)) (now (fields .entry)) count) (spot .place) (spot .parent) left
+        (rowsIn (now (rows .entry)) (spot .rows)) ⌝ }
 {
-    if !is_wanted(text, fields, count, i, rows, n, parent) {
+    if !is_wanted(text, fields, count, spot, rows) {
         return Extent::Missing;
     }
-    let bits = width_of(text, fields, count, i, rows, n, parent, left);
+    let bits = width_of(text, fields, count, spot, rows, left);
     if bits == 0 {
         return Extent::Missing;
     }
@@ -186,109 +195,99 @@ fn write_row(rows: &mut [u64], n: usize, row: Row)
     put_row(rows, n * SCRATCH_WIDTH, &numbers);
 }
 
-// Writes the own row of the field i at a bit as row n, if it exists there. Answers how wide it is.
+// Writes the own row of a field behind the rows before it, if it exists. Answers how wide it is.
 fn lay_row(
     mpdu: &[u8],
     text: &[u8],
     fields: &[u64],
     count: usize,
-    i: usize,
-    start: BitOffset,
-    parent: u64,
+    spot: Spot,
     rows: &mut [u64],
-    n: usize,
 ) -> Extent
     requires { ⌜ Shaped (now mpdu) (now fields) count ⌝ }
-    requires { ⌜ (i < count) × (start .0 ≤ length (now mpdu) * 8) × ((n + 1) * scratchWidth ≤ length (now rows)) ⌝ }
-    ensures { λ r. ⌜ Lays (fieldsIn (now (text .entry)) (now (fields .entry)) count) (now (mpdu .entry)) (now (rows .entry)) (now (rows .exit)) i
-        (start .0) parent n r ⌝ }
+    requires { ⌜ (spot .place < count) × (spot .start .0 ≤ length (now mpdu) * 8) × ((spot .rows + 1) * scratchWidth ≤ length (now rows)) ⌝ }
+    ensures { λ r. ⌜ Lays (fieldsIn (now (text .entry)) (now (fields .entry)) count) (now (mpdu .entry)) (now (rows .entry)) (now (rows .exit)) (spot .place)
+        (spot .start .0) (spot .parent) (spot .rows) r ⌝ }
 {
+    let start = spot.start;
     let left = mpdu.len() as u64 * 8 - start.0;
-    let Extent::Bits(bits) = extent_of(text, fields, count, i, &rows[..], n, parent, left) else {
+    let Extent::Bits(bits) = extent_of(text, fields, count, spot, &rows[..], left) else {
         return Extent::Missing;
     };
-    let row = row_of(mpdu, i as u64, parent, start, bits);
-    write_row(rows, n, row);
+    let row = row_of(mpdu, spot.place as u64, spot.parent, start, bits);
+    write_row(rows, spot.rows, row);
     Extent::Bits(bits)
 }
 
-// Reads the field i at a bit, and the fields inside it: their rows are written from row n on. `left` levels are left below it.
+// Reads a field, and the fields inside it: their rows are written behind the rows before it.
 fn decode_param(
     mpdu: &[u8],
     text: &[u8],
     fields: &[u64],
     count: usize,
-    i: usize,
-    start: BitOffset,
-    parent: u64,
+    spot: Spot,
     rows: &mut [u64],
-    n: usize,
-    left: u64,
 ) -> Field
     requires { ⌜ Shaped (now mpdu) (now fields) count ⌝ }
-    requires { ⌜ (i < count) × (levelIn (now fields) i + left ≡ 7) × (start .0 ≤ length (now mpdu) * 8)
-        × ((n + ext (fieldsIn (now text) (now fields) count) i) * scratchWidth ≤ length (now rows)) ⌝ }
+    requires { ⌜ (spot .place < count) × (levelIn (now fields) (spot .place) + spot .left ≡ 7) × (spot .start .0 ≤ length (now mpdu) * 8)
+        × ((spot .rows + ext (fieldsIn (now text) (now fields) count) (spot .place)) * scratchWidth ≤ length (now rows)) ⌝ }
     ensures { λ r.
         let ps = fieldsIn (now (text .entry)) (now (fields .entry)) count in
         let d = now (mpdu .entry) in
-        let before = rowsIn (now (rows .entry)) n in
-        ⌜ Reads (now (rows .exit)) (fieldRead ps d left i (start .0) parent before) (fieldDone ps d left i (start .0) parent before) r ⌝ }
+        let before = rowsIn (now (rows .entry)) (spot .rows) in
+        ⌜ Reads (now (rows .exit)) (fieldRead ps d (spot .left) (spot .place) (spot .start .0) (spot .parent) before)
+        (fieldDone ps d (spot .left) (spot .place) (spot .start .0) (spot .parent) before) r ⌝ }
 {
-    let Extent::Bits(bits) = lay_row(mpdu, text, fields, count, i, start, parent, rows, n) else {
+    let Extent::Bits(bits) = lay_row(mpdu, text, fields, count, spot, rows) else {
         return Field::Missing;
     };
-    if left == 0 {
-        return Field::Read { rows: n + 1, bits };
+    let own = spot.rows + 1;
+    if spot.left == 0 {
+        return Field::Read { rows: own, bits };
     }
-    let end = BitOffset(start.0 + bits);
-    let after = decode_inner(
-        mpdu,
-        text,
-        fields,
-        count,
-        i,
-        end,
-        bits,
-        rows,
-        n + 1,
-        left - 1,
-    );
+    let outer = Outer {
+        place: spot.place,
+        end: BitOffset(spot.start.0 + bits),
+        width: bits,
+        rows: own,
+        left: spot.left - 1,
+    };
+    let after = decode_inner(mpdu, text, fields, count, outer, rows);
     Field::Read { rows: after, bits }
 }
 
-// Reads the fields inside the field i, which has row n - 1, ends at a bit and is `width` bits wide: from its end downwards, while the declared
-// widths fit. One that is missing keeps its room. Returns how many rows there are then.
+// Reads the fields inside a field: from its end downwards, while the declared widths fit. One that is missing keeps its room. Returns how many rows
+// there are then.
 fn decode_inner(
     mpdu: &[u8],
     text: &[u8],
     fields: &[u64],
     count: usize,
-    i: usize,
-    end: BitOffset,
-    width: u64,
+    outer: Outer,
     rows: &mut [u64],
-    n: usize,
-    left: u64,
 ) -> usize
     requires { ⌜ Shaped (now mpdu) (now fields) count ⌝ }
-    requires { ⌜ (i < count) × (levelIn (now fields) i + left + 1 ≡ 7) × (end .0 ≤ length (now mpdu) * 8) × (width ≤ end .0)
-        × ((n + ext (fieldsIn (now text) (now fields) count) i) * scratchWidth ≤ length (now rows) + scratchWidth) ⌝ }
+    requires { ⌜ (outer .place < count) × (levelIn (now fields) (outer .place) + outer .left + 1 ≡ 7) × (outer .end .0 ≤ length (now mpdu) * 8)
+        × (outer .width ≤ outer .end .0)
+        × ((outer .rows + ext (fieldsIn (now text) (now fields) count) (outer .place)) * scratchWidth ≤ length (now rows) + scratchWidth) ⌝ }
     ensures { λ r.
         let ps = fieldsIn (now (text .entry)) (now (fields .entry)) count in
-        ⌜ Fills (now (rows .exit)) (innerDone ps (now (mpdu .entry)) left i (end .0) width (rowsIn (now (rows .entry)) n)) r ⌝ }
+        ⌜ Fills (now (rows .exit)) (innerDone ps (now (mpdu .entry)) (outer .left) (outer .place) (outer .end .0) (outer .width)
+        (rowsIn (now (rows .entry)) (outer .rows))) r ⌝ }
 {
+    let left = outer.left;
     let level = DEEPEST - left;
     let mut order: u64 = 0;
     let mut place: usize = 0;
-    let mut room = width;
-    let mut bit = end.0;
-    let mut next = n;
+    let mut room = outer.width;
+    let mut bit = outer.end.0;
+    let mut next = outer.rows;
     loop {
         let Next::At {
             place: j,
             order: o,
             bits,
-        } = next_field(fields, count, level, i + 1, order, place)
+        } = next_field(fields, count, level, outer.place + 1, order, place)
         else {
             return next;
         };
@@ -299,11 +298,17 @@ fn decode_inner(
         }
         bit -= bits;
         room -= bits;
-        let at = BitOffset(bit);
+        let spot = Spot {
+            place: j,
+            start: BitOffset(bit),
+            parent: outer.rows as u64,
+            rows: next,
+            left,
+        };
         let Field::Read {
             rows: after,
             bits: _,
-        } = decode_param(mpdu, text, fields, count, j, at, n as u64, rows, next, left)
+        } = decode_param(mpdu, text, fields, count, spot, rows)
         else {
             continue;
         };
@@ -311,28 +316,27 @@ fn decode_inner(
     }
 }
 
-// Reads the outer fields from the place `first` on, one after the other from a bit on, behind the n rows that are there. A missing one ends the walk.
+// Reads the outer fields from the place `first` on, one after the other, from where a walk has come to. A missing one ends the walk.
 pub fn walk_from(
     mpdu: &[u8],
     text: &[u8],
     fields: &[u64],
     count: usize,
     first: usize,
-    start: BitOffset,
+    from: Walked,
     rows: &mut [u64],
-    n: usize,
 ) -> Walked
     requires { ⌜ Shaped (now mpdu) (now fields) count ⌝ }
-    requires { ⌜ (first ≤ count) × (start .0 ≤ length (now mpdu) * 8) × ((n + (count - first)) * scratchWidth ≤ length (now rows)) ⌝ }
+    requires { ⌜ (first ≤ count) × (from .bit .0 ≤ length (now mpdu) * 8) × ((from .rows + (count - first)) * scratchWidth ≤ length (now rows)) ⌝ }
     ensures { λ r.
         let ps = fieldsIn (now (text .entry)) (now (fields .entry)) count in
-        let w = walkedFrom ps (now (mpdu .entry)) first (start .0) (rowsIn (now (rows .entry)) n) in
-        ⌜ Walks (now (mpdu .entry)) (now (rows .entry)) (now (rows .exit)) n (count - first) w r ⌝ }
+        let w = walkedFrom ps (now (mpdu .entry)) first (from .bit .0) (rowsIn (now (rows .entry)) (from .rows)) in
+        ⌜ Walks (now (mpdu .entry)) (now (rows .entry)) (now (rows .exit)) (from .rows) (count - first) w r ⌝ }
 {
     let mut order: u64 = 0;
     let mut place: usize = 0;
-    let mut bit = start.0;
-    let mut next = n;
+    let mut bit = from.bit.0;
+    let mut next = from.rows;
     loop {
         let at = BitOffset(bit);
         let Next::At {
@@ -348,18 +352,15 @@ pub fn walk_from(
         };
         order = o;
         place = j + 1;
-        let Field::Read { rows: after, bits } = decode_param(
-            mpdu,
-            text,
-            fields,
-            count,
-            j,
-            at,
-            0,
-            rows,
-            next,
-            DEEPEST,
-        ) else {
+        let spot = Spot {
+            place: j,
+            start: at,
+            parent: 0,
+            rows: next,
+            left: DEEPEST,
+        };
+        let Field::Read { rows: after, bits } = decode_param(mpdu, text, fields, count, spot, rows)
+        else {
             return Walked {
                 bit: at,
                 rows: next,

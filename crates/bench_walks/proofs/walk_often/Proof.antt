@@ -8,10 +8,10 @@ use Rattle.bench_walks.proofs.walk_often.Statement.{statement}
 use Rattle.bench_walks.proofs.walk_often.Tie as tie
 
 abbrev Inv-loop : tie.InvT-loop
-Inv-loop text mpdu fields count first start scratch₀ n times bit₀ rows₀ k₀ scratch bit rows k = length scratch ≡ length scratch₀
+Inv-loop text mpdu fields first «from» scratch₀ times count bit₀ rows₀ k₀ scratch bit rows k = length scratch ≡ length scratch₀
 
 abbrev μ-loop : tie.MeasureT-loop
-μ-loop text mpdu fields count first start scratch₀ n times bit₀ rows₀ k₀ scratch bit rows k = times - k
+μ-loop text mpdu fields first «from» scratch₀ times count bit₀ rows₀ k₀ scratch bit rows k = times - k
 
 pub walk-often-spec : {M : Type 1} → statement M
 walk-often-spec =

@@ -21,10 +21,10 @@ use Rattle.header_walk.proofs.+decode_inner+decode_param.{statement}
 use Rattle.header_walk.proofs.+decode_inner+decode_param.Tie.{close}
 
 abbrev μ-decode-inner : Measures 4 decode-inner-kinds.ps ℕ
-μ-decode-inner κs a = a .1 .1 .1 .1 .1 .1 .1 .1 .1 .0 * 2 + 1
+μ-decode-inner κs a = a .1 .1 .1 .1 .0 .left * 2 + 1
 
 abbrev μ-decode-param : Measures 4 decode-param-kinds.ps ℕ
-μ-decode-param κs a = a .1 .1 .1 .1 .1 .1 .1 .1 .1 .0 * 2
+μ-decode-param κs a = a .1 .1 .1 .1 .0 .left * 2
 
 abbrev decode-inner-at : ℕ → In 4 decode-inner-kinds.ps
 decode-inner-at t =
@@ -55,12 +55,12 @@ abbrev decode-inner-calls : ℕ → decode-inner-lts.Claims
 decode-inner-calls t = (next-field-reads.Asked, next-field-reads.Learnt, decode-param-below t, decode-param.Post)
 
 abbrev decode-inner-Inv-loop : decode-inner-lts.InvT-loop
-decode-inner-Inv-loop mpdu text fields count i width rows₀ n left level order₀ place₀ room₀ bit₀ next₀ rows order place room bit next =
-    Going text fields mpdu count left i bit₀ width n rows₀ rows level order place room bit next
+decode-inner-Inv-loop mpdu text fields count outer rows₀ left level order₀ place₀ room₀ bit₀ next₀ rows order place room bit next =
+    Going text fields mpdu count left (outer .place) bit₀ (outer .width) (outer .rows) rows₀ rows level order place room bit next
 
 abbrev decode-inner-μ-loop : decode-inner-lts.MeasureT-loop
-decode-inner-μ-loop mpdu text fields count i width rows₀ n left level order₀ place₀ room₀ bit₀ next₀ rows order place room bit next =
-    length (rest text fields count level (i + 1) order place)
+decode-inner-μ-loop mpdu text fields count outer rows₀ left level order₀ place₀ room₀ bit₀ next₀ rows order place room bit next =
+    length (rest text fields count level (outer .place + 1) order place)
 
 decode-inner-sub-level : (t : ℕ) → decode-inner-lts.Need-sub-level (decode-inner-calls t)
     (decode-inner-at t) decode-inner.Post decode-inner-Inv-loop decode-inner-μ-loop
@@ -97,7 +97,7 @@ decode-inner-returns t c = search (needs, inner-laws)
 decode-inner-add-place : (t : ℕ) → decode-inner-lts.Need-add-place (decode-inner-calls t)
     (decode-inner-at t) decode-inner.Post decode-inner-Inv-loop decode-inner-μ-loop
 decode-inner-add-place t c = next-fits _ _ _ _ _ _ _ (c .before .before .before .next-field .ensures) _ _ _ (c .before .j .given .1)
-    (c .before .before .before .before .before .before .before .before .before .pre .1 .0 .few) (omega arith)
+    (c .before .before .before .before .before .before .before .before .before .before .pre .1 .0 .few) (omega arith)
 
 decode-inner-same-length-2 : (t : ℕ) → decode-inner-lts.Need-same-length-2 (decode-inner-calls t)
     (decode-inner-at t) decode-inner.Post decode-inner-Inv-loop decode-inner-μ-loop
@@ -119,11 +119,11 @@ decode-inner-decode-param-requires t c κs = (
     search (needs, inner-laws),
     (
       next-in _ _ _ _ _ _ _ (c .before .before .before .before .before .next-field .ensures) _ _ _
-          (c .before .before .before .j .given .1) (c .before .before .before .before .before .before .before .before .before .before .before .pre .1 .0 .few)
+          (c .before .before .before .j .given .1) (c .before .before .before .before .before .before .before .before .before .before .before .before .pre .1 .0 .few)
           (omega arith),
       next-level _ _ _ _ _ _ _ (c .before .before .before .before .before .next-field .ensures) _ _ _
-          (c .before .before .before .j .given .1) (c .before .before .before .before .before .before .before .before .before .before .before .pre .1 .0 .few)
-          (omega arith) _ (c .before .before .before .before .before .before .loop .inv .level-is),
+          (c .before .before .before .j .given .1) (c .before .before .before .before .before .before .before .before .before .before .before .before .pre .1 .0 .few)
+          (omega arith) _ (c .before .before .before .before .before .before .before .loop .inv .level-is),
       search (needs, inner-laws),
       search (needs, inner-laws),
     ),
@@ -145,7 +145,7 @@ decode-inner-loop-less t c = search (needs, inner-laws)
 decode-inner-loop-again : (t : ℕ) → decode-inner-lts.Need-loop-again (decode-inner-calls t)
     (decode-inner-at t) decode-inner.Post decode-inner-Inv-loop decode-inner-μ-loop
 decode-inner-loop-again t c = inner-skips _ _ _ _ _ _ _ _ _ _ _ _ _ _ _ _ _
-    (c .before .before .before .before .before .before .before .before .before .before .before .loop .inv) _
+    (c .before .before .before .before .before .before .before .before .before .before .before .before .loop .inv) _
     (c .before .before .before .before .before .before .before .before .before .before .next-field .ensures) _ _ _
     (c .before .before .before .before .before .before .before .before .j .given .1) _ _ (c .before .before .before .before .decode-param .ensures)
     (c .enum-told2 .given .1) (search needs) (search needs) (search needs) (search needs)
@@ -157,7 +157,7 @@ decode-inner-loop-less-2 t c = search (needs, inner-laws)
 decode-inner-loop-again-2 : (t : ℕ) → decode-inner-lts.Need-loop-again-2 (decode-inner-calls t)
     (decode-inner-at t) decode-inner.Post decode-inner-Inv-loop decode-inner-μ-loop
 decode-inner-loop-again-2 t c = inner-takes _ _ _ _ _ _ _ _ _ _ _ _ _ _ _ _ _
-    (c .before .before .before .before .before .before .before .before .before .before .before .before .loop .inv) _
+    (c .before .before .before .before .before .before .before .before .before .before .before .before .before .loop .inv) _
     (c .before .before .before .before .before .before .before .before .before .before .before .next-field .ensures) _ _ _
     (c .before .before .before .before .before .before .before .before .before .j .given .1) _ _
     (c .before .before .before .before .before .decode-param .ensures) _ _ (c .before .after .given .1) (search needs) (search needs) (search needs)
@@ -182,8 +182,8 @@ decode-param-same-length t c = search (needs, field-laws)
 decode-param-returns : (t : ℕ) → decode-param-lts.Need-returns (decode-param-calls t) (decode-param-at t) decode-param.Post
 decode-param-returns t c = search (needs, field-laws)
 
-decode-param-add-t18 : (t : ℕ) → decode-param-lts.Need-add-t18 (decode-param-calls t) (decode-param-at t) decode-param.Post
-decode-param-add-t18 t c = search (needs, field-laws)
+decode-param-add-own : (t : ℕ) → decode-param-lts.Need-add-own (decode-param-calls t) (decode-param-at t) decode-param.Post
+decode-param-add-own t c = search (needs, field-laws)
 
 decode-param-same-length-2 : (t : ℕ) → decode-param-lts.Need-same-length-2 (decode-param-calls t) (decode-param-at t) decode-param.Post
 decode-param-same-length-2 t c = search (needs, field-laws)
@@ -191,30 +191,27 @@ decode-param-same-length-2 t c = search (needs, field-laws)
 decode-param-returns-2 : (t : ℕ) → decode-param-lts.Need-returns-2 (decode-param-calls t) (decode-param-at t) decode-param.Post
 decode-param-returns-2 t c = search (needs, field-laws)
 
-decode-param-add-decode-inner : (t : ℕ) → decode-param-lts.Need-add-decode-inner (decode-param-calls t) (decode-param-at t) decode-param.Post
-decode-param-add-decode-inner t c = search (needs, field-laws)
+decode-param-add-t15 : (t : ℕ) → decode-param-lts.Need-add-t15 (decode-param-calls t) (decode-param-at t) decode-param.Post
+decode-param-add-t15 t c = search (needs, field-laws)
 
-decode-param-add-decode-inner-2 : (t : ℕ) → decode-param-lts.Need-add-decode-inner-2 (decode-param-calls t) (decode-param-at t) decode-param.Post
-decode-param-add-decode-inner-2 t c = search (needs, field-laws)
-
-decode-param-sub-decode-inner : (t : ℕ) → decode-param-lts.Need-sub-decode-inner (decode-param-calls t) (decode-param-at t) decode-param.Post
-decode-param-sub-decode-inner t c = search (needs, field-laws)
+decode-param-sub-t17 : (t : ℕ) → decode-param-lts.Need-sub-t17 (decode-param-calls t) (decode-param-at t) decode-param.Post
+decode-param-sub-t17 t c = search (needs, field-laws)
 
 decode-param-decode-inner-requires : (t : ℕ) → decode-param-lts.Need-decode-inner-requires (decode-param-calls t) (decode-param-at t) decode-param.Post
-decode-param-decode-inner-requires t c κs = (
-  search (needs, field-laws),
-  (
-    search (needs, field-laws),
-    (
+decode-param-decode-inner-requires t c κs =
+    let start = c .before .before .before .before .before .before .before .before .before .before .before .before .before .before .before .before .before in (
       search (needs, field-laws),
-      search (needs, field-laws),
-      search (needs, field-laws),
-      search (needs, field-laws),
-      search
-          (needs, field-laws),
-    ),
-  ),
-)
+      (
+        search (needs, field-laws),
+        (
+          start .pre .1 .1 .0,
+          omega (arith, start .pre .1 .1 .1),
+          search (needs, field-laws),
+          search (needs, field-laws),
+          omega (arith, start .pre .1 .1 .3),
+        ),
+      ),
+    )
 
 decode-param-same-length-3 : (t : ℕ) → decode-param-lts.Need-same-length-3 (decode-param-calls t) (decode-param-at t) decode-param.Post
 decode-param-same-length-3 t c = search (needs, field-laws)
@@ -255,12 +252,11 @@ pub +decode-inner+decode-param-spec : {M : Type 1} → statement M
     (decode-param-enum-told t)
     (decode-param-same-length t)
     (decode-param-returns t)
-    (decode-param-add-t18 t)
+    (decode-param-add-own t)
     (decode-param-same-length-2 t)
     (decode-param-returns-2 t)
-    (decode-param-add-decode-inner t)
-    (decode-param-add-decode-inner-2 t)
-    (decode-param-sub-decode-inner t)
+    (decode-param-add-t15 t)
+    (decode-param-sub-t17 t)
     (decode-param-decode-inner-requires t)
     (decode-param-same-length-3 t)
     (decode-param-returns-3 t)

@@ -8,11 +8,11 @@ use Rattle.header_walk.proofs.walk_from.Statement.{statement}
 use Rattle.header_walk.proofs.walk_from.Tie as tie
 
 abbrev Inv-loop : tie.InvT-loop
-Inv-loop mpdu text fields count first rows₀ n order₀ place₀ bit₀ next₀ rows order place bit next =
-    Listing text fields mpdu count first bit₀ n rows₀ rows order place bit next
+Inv-loop mpdu text fields count first rows₀ order₀ place₀ bit₀ next₀ rows order place bit next =
+    Listing text fields mpdu count first bit₀ next₀ rows₀ rows order place bit next
 
 abbrev μ-loop : tie.MeasureT-loop
-μ-loop mpdu text fields count first rows₀ n order₀ place₀ bit₀ next₀ rows order place bit next =
+μ-loop mpdu text fields count first rows₀ order₀ place₀ bit₀ next₀ rows order place bit next =
     length (rest text fields count 0 first order place)
 
 add-place : tie.Need-add-place Inv-loop μ-loop
