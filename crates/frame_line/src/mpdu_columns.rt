@@ -5,6 +5,8 @@ use crate::node_columns::put_nodes;
 use command::Params;
 use command::decode_params;
 use command_part::command_part;
+use command_rows::LACKING;
+use command_rows::ROW_WIDTH;
 use crc::check_crc;
 use files::folder::Loaded;
 use files::folder::find_command;
@@ -15,7 +17,7 @@ use header::decode_accepted;
 use output::paint::Hue;
 use output::paint::put_painted;
 use output::refusals::put_short;
-use readers::cells::is_cut;
+use readers::cells::cell;
 use readers::cells::part;
 use readers::line_fields::field_of;
 use readers::lines::find_line;
@@ -34,8 +36,8 @@ ghost use Rattle.frame_text.specs.Rules.{verdict};
 // How many bytes the column of names has.
 const NAMES: usize = 26;
 
-// The numbers of a command's rows: 1,024 of ten.
-const PARAMS: usize = 10240;
+// The numbers of a command's rows, of which there are 1,024.
+const PARAMS: usize = 1024 * ROW_WIDTH;
 
 // Where and how an MPDU was heard.
 pub struct Radio {
@@ -70,6 +72,18 @@ fn put_command_name(out: &mut Buffer, at: usize, line: &[u8], bytes: &[u8], colo
         return put_hex(out, at, bytes);
     }
     put_painted(out, at, readers::catalog::name(line), 0, Hue::Name, colour)
+}
+
+// Is one of the first n rows cut?
+fn is_cut(rows: &[u64], n: usize) -> bool {
+    let mut i: usize = 0;
+    while i < n {
+        if cell(rows, ROW_WIDTH, i, LACKING) != 0 {
+            return true;
+        }
+        i += 1;
+    }
+    false
 }
 
 // Does a command lack bytes by its text? One that is refused has no rows to tell by.

@@ -1,6 +1,10 @@
 // Who speaks to whom: the columns of home id, source and destination, from a header's rows.
-use readers::cells::find_header_row;
-use readers::cells::header_cell;
+use header_rows::NUMBER;
+use header_rows::ROW_WIDTH;
+use header_rows::VALUE;
+use header_rows::VALUED;
+use readers::cells::cell;
+use readers::cells::first_row;
 use readers::line_fields::field_of;
 use readers::lines::line;
 use readers::lines::next_line;
@@ -23,7 +27,7 @@ fn row_at(text: &[u8], at: usize, rows: &[u64], n: usize, number: u64, name: &[u
         return n;
     }
     if is_same(field_of(line(text, at), 5), name) {
-        return find_header_row(rows, n, number);
+        return first_row(rows, ROW_WIDTH, n, NUMBER, number);
     }
     n
 }
@@ -63,10 +67,10 @@ fn value_named(text: &[u8], rows: &[u64], n: usize, name: &[u8]) -> Value {
     if n <= i {
         return Value::Nothing;
     }
-    if header_cell(rows, i, 4) == 0 {
+    if cell(rows, ROW_WIDTH, i, VALUED) == 0 {
         return Value::Long;
     }
-    Value::Is(header_cell(rows, i, 5))
+    Value::Is(cell(rows, ROW_WIDTH, i, VALUE))
 }
 
 fn put_home(out: &mut Buffer, at: usize, home: Value) -> usize {

@@ -12,45 +12,22 @@ pub fn frame_cell(rows: &[u64], i: usize, k: usize) -> u64 {
     rows[i * 8 + k]
 }
 
-// Number k of header row i: a row has seven.
-pub fn header_cell(rows: &[u64], i: usize, k: usize) -> u64 {
-    if rows.len() / 7 <= i {
+// Number k of row i, of rows so wide.
+pub fn cell(rows: &[u64], width: usize, i: usize, k: usize) -> u64 {
+    if width <= k {
         return 0;
     }
-    if 7 <= k {
+    if rows.len() / width <= i {
         return 0;
     }
-    rows[i * 7 + k]
+    rows[i * width + k]
 }
 
-// Number k of command row i: a row has ten.
-pub fn command_cell(rows: &[u64], i: usize, k: usize) -> u64 {
-    if rows.len() / 10 <= i {
-        return 0;
-    }
-    if 10 <= k {
-        return 0;
-    }
-    rows[i * 10 + k]
-}
-
-// Is one of the first n command rows cut?
-pub fn is_cut(rows: &[u64], n: usize) -> bool {
+// The first of n rows so wide whose number k is a value; n where there is none.
+pub fn first_row(rows: &[u64], width: usize, n: usize, k: usize, value: u64) -> usize {
     let mut i: usize = 0;
     while i < n {
-        if command_cell(rows, i, 9) != 0 {
-            return true;
-        }
-        i += 1;
-    }
-    false
-}
-
-// The first of n header rows whose P line has a number; n where there is none.
-pub fn find_header_row(rows: &[u64], n: usize, number: u64) -> usize {
-    let mut i: usize = 0;
-    while i < n {
-        if header_cell(rows, i, 0) == number {
+        if cell(rows, width, i, k) == value {
             return i;
         }
         i += 1;
@@ -58,31 +35,14 @@ pub fn find_header_row(rows: &[u64], n: usize, number: u64) -> usize {
     n
 }
 
-// How many rows a header row stands inside, one in the other: at most 8 are counted.
-pub fn header_depth(rows: &[u64], i: usize) -> usize
+// How many rows row i stands inside, one in the other, where number k is its parent's row + 1, or 0: at most 8 are counted.
+pub fn depth_of(rows: &[u64], width: usize, i: usize, k: usize) -> usize
     ensures { λ r. ⌜ r ≤ 8 ⌝ }
 {
     let mut row = i;
     let mut depth: usize = 0;
     while depth < 8 {
-        let parent = header_cell(rows, row, 1);
-        if parent == 0 {
-            return depth;
-        }
-        row = (parent - 1) as usize;
-        depth += 1;
-    }
-    depth
-}
-
-// The same of a command row.
-pub fn command_depth(rows: &[u64], i: usize) -> usize
-    ensures { λ r. ⌜ r ≤ 8 ⌝ }
-{
-    let mut row = i;
-    let mut depth: usize = 0;
-    while depth < 8 {
-        let parent = command_cell(rows, row, 2);
+        let parent = cell(rows, width, row, k);
         if parent == 0 {
             return depth;
         }

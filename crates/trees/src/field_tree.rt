@@ -3,8 +3,16 @@ use crate::ruler::letter;
 use frame_text::ParamType;
 use frame_text::Typed;
 use frame_text::read_type;
-use readers::cells::header_cell;
-use readers::cells::header_depth;
+use header_rows::BITS;
+use header_rows::NUMBER;
+use header_rows::PARENT;
+use header_rows::ROW_WIDTH;
+use header_rows::START;
+use header_rows::SYMBOL;
+use header_rows::VALUE;
+use header_rows::VALUED;
+use readers::cells::cell;
+use readers::cells::depth_of;
 use readers::cells::part;
 use readers::line_fields::field_of;
 use readers::lines::find_line;
@@ -92,12 +100,12 @@ fn put_value(
     rows: &[u64],
     i: usize,
 ) -> usize {
-    let bits = header_cell(rows, i, 3);
-    if header_cell(rows, i, 4) == 0 {
-        let start = (header_cell(rows, i, 2) / 8) as usize;
+    let bits = cell(rows, ROW_WIDTH, i, BITS);
+    if cell(rows, ROW_WIDTH, i, VALUED) == 0 {
+        let start = (cell(rows, ROW_WIDTH, i, START) / 8) as usize;
         return put_hex(out, at, part(mpdu, start, (bits / 8) as usize));
     }
-    let value = header_cell(rows, i, 5);
+    let value = cell(rows, ROW_WIDTH, i, VALUE);
     let Typed::Is(known) = read_type(kind) else {
         return put_number(out, at, value);
     };
@@ -128,12 +136,12 @@ fn put_head(
     i: usize,
     picture: bool,
 ) -> usize {
-    let start = header_cell(rows, i, 2);
-    let end = wrapping_add_u64(start, header_cell(rows, i, 3));
+    let start = cell(rows, ROW_WIDTH, i, START);
+    let end = wrapping_add_u64(start, cell(rows, ROW_WIDTH, i, BITS));
     let mut place = put(out, at, b"  ");
     place = put_byte(out, place, mark(i, picture));
     place = put_byte(out, place, b' ');
-    place = put_deep(out, place, header_depth(rows, i), name);
+    place = put_deep(out, place, depth_of(rows, ROW_WIDTH, i, PARENT), name);
     put_range(out, place, start, end)
 }
 
@@ -147,10 +155,16 @@ fn put_field(
     i: usize,
     picture: bool,
 ) -> usize {
-    let line = find_line(text, b'P', header_cell(rows, i, 0) as usize);
+    let line = find_line(text, b'P', cell(rows, ROW_WIDTH, i, NUMBER) as usize);
     let mut place = put_head(out, at, field_of(line, 5), rows, i, picture);
     place = put_value(out, place, field_of(line, 4), mpdu, rows, i);
-    put_symbol(out, place, text, field_of(line, 6), header_cell(rows, i, 6))
+    put_symbol(
+        out,
+        place,
+        text,
+        field_of(line, 6),
+        cell(rows, ROW_WIDTH, i, SYMBOL),
+    )
 }
 
 // The lines of the n rows of a header.

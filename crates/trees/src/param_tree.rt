@@ -1,8 +1,19 @@
 // The parameters of a command as a tree: name, bytes, value and symbol of each.
 use crate::field_tree::put_deep;
 use crate::field_tree::put_range;
-use readers::cells::command_cell;
-use readers::cells::command_depth;
+use command_rows::END;
+use command_rows::KIND;
+use command_rows::LACKING;
+use command_rows::LINE;
+use command_rows::NAMED;
+use command_rows::NUMBER;
+use command_rows::PARENT;
+use command_rows::ROW_WIDTH;
+use command_rows::START;
+use command_rows::VALUE;
+use command_rows::VALUED;
+use readers::cells::cell;
+use readers::cells::depth_of;
 use readers::cells::part;
 use readers::line_fields::field_of;
 use readers::lines::numbered_line;
@@ -38,14 +49,14 @@ fn name_at(text: &[u8], n: u64) -> &[u8] {
 
 // Name and bytes of row i.
 fn put_head(out: &mut Buffer, at: usize, text: &[u8], rows: &[u64], i: usize) -> usize {
-    let name = name_at(text, command_cell(rows, i, 1));
+    let name = name_at(text, cell(rows, ROW_WIDTH, i, LINE));
     let mut place = put(out, at, b"    ");
-    place = put_deep(out, place, command_depth(rows, i), name);
+    place = put_deep(out, place, depth_of(rows, ROW_WIDTH, i, PARENT), name);
     put_range(
         out,
         place,
-        command_cell(rows, i, 3),
-        command_cell(rows, i, 4),
+        cell(rows, ROW_WIDTH, i, START),
+        cell(rows, ROW_WIDTH, i, END),
     )
 }
 
@@ -57,12 +68,15 @@ fn put_repetition(out: &mut Buffer, at: usize, number: u64) -> usize {
 
 // How many bytes row i has.
 fn bytes_of(rows: &[u64], i: usize) -> u64 {
-    wrapping_sub_u64(command_cell(rows, i, 4), command_cell(rows, i, 3))
+    wrapping_sub_u64(
+        cell(rows, ROW_WIDTH, i, END),
+        cell(rows, ROW_WIDTH, i, START),
+    )
 }
 
 // The bytes of row i.
 fn put_bytes(out: &mut Buffer, at: usize, payload: &[u8], rows: &[u64], i: usize) -> usize {
-    let start = command_cell(rows, i, 3);
+    let start = cell(rows, ROW_WIDTH, i, START);
     put_hex(
         out,
         at,
@@ -86,12 +100,12 @@ fn put_symbol(out: &mut Buffer, at: usize, text: &[u8], line: u64) -> usize {
 
 // The value of row i, if it has one, and its symbol.
 fn put_value(out: &mut Buffer, at: usize, text: &[u8], rows: &[u64], i: usize) -> usize {
-    if command_cell(rows, i, 5) == 0 {
+    if cell(rows, ROW_WIDTH, i, VALUED) == 0 {
         return at;
     }
     let mut place = put(out, at, b" = ");
-    place = put_number(out, place, command_cell(rows, i, 6));
-    put_symbol(out, place, text, command_cell(rows, i, 7))
+    place = put_number(out, place, cell(rows, ROW_WIDTH, i, VALUE));
+    put_symbol(out, place, text, cell(rows, ROW_WIDTH, i, NAMED))
 }
 
 // How many bytes a row has of those that it wanted, if some are not there.
@@ -116,16 +130,21 @@ fn put_said(
     rows: &[u64],
     i: usize,
 ) -> usize {
-    let kind = command_cell(rows, i, 0);
+    let kind = cell(rows, ROW_WIDTH, i, KIND);
     if kind == REPETITION {
-        return put_repetition(out, at, command_cell(rows, i, 8));
+        return put_repetition(out, at, cell(rows, ROW_WIDTH, i, NUMBER));
     }
     if kind == BIT {
-        return put_number(out, at, command_cell(rows, i, 6));
+        return put_number(out, at, cell(rows, ROW_WIDTH, i, VALUE));
     }
     let mut place = put_bytes(out, at, payload, rows, i);
     place = put_value(out, place, text, rows, i);
-    put_cut(out, place, bytes_of(rows, i), command_cell(rows, i, 9))
+    put_cut(
+        out,
+        place,
+        bytes_of(rows, i),
+        cell(rows, ROW_WIDTH, i, LACKING),
+    )
 }
 
 fn put_param(

@@ -1,6 +1,9 @@
 // Which bits of a header are which field, as a picture: the bits, 32 on a line, and below each the letter of the innermost
 // field that it belongs to.
-use readers::cells::header_cell;
+use header_rows::BITS;
+use header_rows::ROW_WIDTH;
+use header_rows::START;
+use readers::cells::cell;
 use writer::Buffer;
 use writer::put;
 use writer::put_byte;
@@ -22,11 +25,11 @@ pub fn letter(i: usize) -> u8 {
 }
 
 fn covers(rows: &[u64], i: usize, bit: u64) -> bool {
-    let start = header_cell(rows, i, 2);
+    let start = cell(rows, ROW_WIDTH, i, START);
     if bit < start {
         return false;
     }
-    bit - start < header_cell(rows, i, 3)
+    bit - start < cell(rows, ROW_WIDTH, i, BITS)
 }
 
 // The letter of the last of n rows that cover a bit: a field stands before those inside it. A dot where there is none.

@@ -12,6 +12,7 @@ use Rattle.text.specs.declared.Verdict.the-variants as text
 use Rattle.frame_text.specs.Rules.{verdict}
 use Rattle.frame_definition.specs.Definition.{definition}
 use Rattle.crc.specs.Crc.{right}
+use Rattle.header_rules.specs.Table.{rowWidth}
 use Rattle.header_rules.specs.Told.{Told, no-base, no-candidate, more-rows, header}
 use Rattle.header_rules.specs.Says.{Says}
 use Rattle.header_rules.proofs.Told.{told-says}
@@ -25,9 +26,9 @@ pub header-stands : (t d : List ℕ) (region speed : ℕ) (table : List ℕ) (r 
 header-stands t d region speed table r table′ p same =
     rw (p .answer)
     (go (verdict t) (ltb 2048 (length d)) (ltb (length d) 2) (toldOf t d region speed (length table))
-    (told-says (definition t) d (length table / 7) (keyOf t region speed) (toldOf t d region speed (length table)) refl))
+    (told-says (definition t) d (length table / rowWidth) (keyOf t region speed) (toldOf t d region speed (length table)) refl))
   where
-    go : (v : Verdict) (long short : Bool) (x : Told) → Says (definition t) d (length table / 7) (keyOf t region speed) x
+    go : (v : Verdict) (long short : Bool) (x : Told) → Says (definition t) d (length table / rowWidth) (keyOf t region speed) x
         → StandHeader table′ (judged v (cond long (Refused (TooLong (length d))) (cond short (Refused (TooShort (length d))) (ofTold t (right d speed) x))))
     go (text.Refused y) long short x s = tt
     go text.Accepted true short x s = tt

@@ -12,7 +12,8 @@ use Rattle.records.specs.declared.PayloadOffset.{PayloadOffset}
 use Rattle.header.specs.declared.DecodedHeader.{DecodedHeader}
 use Rattle.header.specs.declared.Decoded.{Decoded}
 use Rattle.header.specs.declared.Decoded.the-variants.{Header}
-use Rattle.command_rules.specs.Rows.{rowWidth}
+use Rattle.header_rules.specs.Table as header
+use Rattle.command_rules.specs.Rows as command
 use Rattle.command.specs.Answer.{told}
 use Rattle.command.specs.declared.Params.{Params}
 use Rattle.command.specs.declared.Params.the-variants.{Rows}
@@ -87,18 +88,18 @@ module _ (held : List ℕ) (r : Asked) (q : Request) (told : Asks held r) (is : 
 
 -- ---- an answer
 -- as many rows as are answered stand in the table
-pub header-inside : (t : List ℕ) (r : Decoded) (h : DecodedHeader) → StandHeader t r → r ≡ Header h → h .rows * 7 ≤ length t
+pub header-inside : (t : List ℕ) (r : Decoded) (h : DecodedHeader) → StandHeader t r → r ≡ Header h → h .rows * header.rowWidth ≤ length t
 header-inside t r h told is = rw is at told
 
-pub params-inside : (t : List ℕ) (r : Params) (n : ℕ) (e : PayloadOffset) → StandParams t (told r) → r ≡ Rows n e → n * rowWidth ≤ length t
+pub params-inside : (t : List ℕ) (r : Params) (n : ℕ) (e : PayloadOffset) → StandParams t (told r) → r ≡ Rows n e → n * command.rowWidth ≤ length t
 unfolding told
 params-inside t r n e stand is = rw is at stand
 
 module _ (t : List ℕ) (room : length t * 8 < 2 ^ 63) where
-  pub header-fits : (r : Decoded) (h : DecodedHeader) → StandHeader t r → r ≡ Header h → Fits w64 (h .rows * 7)
+  pub header-fits : (r : Decoded) (h : DecodedHeader) → StandHeader t r → r ≡ Header h → Fits w64 (h .rows * header.rowWidth)
   header-fits r h told is = omega (arith, room, header-inside t r h told is)
 
-  pub params-fits : (r : Params) (n : ℕ) (e : PayloadOffset) → StandParams t (told r) → r ≡ Rows n e → Fits w64 (n * rowWidth)
+  pub params-fits : (r : Params) (n : ℕ) (e : PayloadOffset) → StandParams t (told r) → r ≡ Rows n e → Fits w64 (n * command.rowWidth)
   params-fits r n e stand is = omega (arith, room, params-inside t r n e stand is)
 
 pub ruleset walk-laws = (

@@ -4,7 +4,8 @@ use mathlib.Core.List.{List}
 use lib.ListN.{length}
 use Rattle.header.specs.declared.Decoded.{Decoded}
 use Rattle.header.specs.declared.Decoded.the-variants.{Header, Refused as NoHeader}
-use Rattle.command_rules.specs.Rows.{rowWidth}
+use Rattle.header_rules.specs.Table as header
+use Rattle.command_rules.specs.Rows as command
 use Rattle.command.specs.Answer.{Told}
 use Rattle.walk_requests.specs.declared.Table.{Table}
 use Rattle.walk_requests.specs.declared.Table.the-variants.{Of, Not as NoTable}
@@ -32,10 +33,10 @@ abbrev pub Asks : List ℕ → Asked → Type 0
 Asks held (asked.Header q) = Inside held (q .numbers) (q .n) (q .end)
 Asks held asked.Not = Unit
 
--- as many rows as are answered stand in the table: of a header seven numbers each, of a command ten
+-- as many rows as are answered stand in the table
 abbrev pub StandHeader : List ℕ → Decoded → Type 0
-StandHeader table (Header h) = h .rows * 7 ≤ length table
+StandHeader table (Header h) = h .rows * header.rowWidth ≤ length table
 StandHeader table (NoHeader x) = Unit
 
 abbrev pub StandParams : List ℕ → Told → Type 0
-StandParams table a = a .rows * rowWidth ≤ length table
+StandParams table a = a .rows * command.rowWidth ≤ length table

@@ -22,14 +22,9 @@ use writer::put_number;
 ghost use Prim.Native.Nat.{_≤_, _*_};
 ghost use lib.ListN.{length};
 ghost use Rattle.answer.specs.Table.{Ample};
+ghost use Rattle.header_rules.specs.Table.{rowWidth};
 ghost use Rattle.command.specs.Answer.{told};
 ghost use Rattle.walk_requests.specs.Walks.{Tables, Tunes, Asks, StandHeader, StandParams};
-
-// The numbers of a header's row.
-const HEADER_WIDTH: usize = 7;
-
-// The numbers of a command's row.
-const COMMAND_WIDTH: usize = 10;
 
 // How many numbers a table has, and where the other words start.
 enum Table {
@@ -88,7 +83,7 @@ fn read_radio(words: &[u8]) -> Radio
 fn read_asked(words: &[u8], bytes: &mut [u8]) -> Asked
     ensures { λ r. ⌜ Asks (now (bytes .exit)) r ⌝ }
 {
-    let Table::Of(numbers, at) = read_table(words, HEADER_WIDTH) else {
+    let Table::Of(numbers, at) = read_table(words, header_rows::ROW_WIDTH) else {
         return Asked::Not;
     };
     let others = &words[at..];
@@ -134,7 +129,7 @@ pub fn command(
 ) -> Answer
     requires { ⌜ Ample (now rows) ⌝ }
 {
-    let Table::Of(numbers, at) = read_table(words, COMMAND_WIDTH) else {
+    let Table::Of(numbers, at) = read_table(words, command_rows::ROW_WIDTH) else {
         return Answer::Bad;
     };
     let Both::Are(n, end) = read_both(&words[at..], bytes) else {
@@ -224,17 +219,17 @@ fn put_params(out: &mut Buffer, used: usize, params: Params, table: &[u64]) -> u
         Params::Rows { count, remainder } => {
             let mut n = put_named(out, used, b"command", count as u64);
             n = put_value(out, n, remainder.0 as u64);
-            put_table(out, n, table, count * COMMAND_WIDTH)
+            put_table(out, n, table, count * command_rows::ROW_WIDTH)
         }
         Params::Refused(refusal) => put_refused(out, used, refusal, table),
     }
 }
 
 fn put_header(out: &mut Buffer, used: usize, header: DecodedHeader, table: &[u64]) -> usize
-    requires { ⌜ header .rows * 7 ≤ length (now table) ⌝ }
+    requires { ⌜ header .rows * rowWidth ≤ length (now table) ⌝ }
 {
     let n = put_heading(out, used, header);
-    put_table(out, n, table, header.rows * HEADER_WIDTH)
+    put_table(out, n, table, header.rows * header_rows::ROW_WIDTH)
 }
 
 fn put_heading(out: &mut Buffer, used: usize, header: DecodedHeader) -> usize {

@@ -1,8 +1,8 @@
--- `readers::cells::is_cut` meets its contract. Assumes nothing.
+-- `frame_line::mpdu_columns::is_cut` meets its contract. Assumes nothing.
 use borrow.Author.Needs.{needs}
 use Prim.Native.Nat.{_-_, _≤_}
-use Rattle.readers.proofs.cells.is_cut.Statement.{statement}
-use Rattle.readers.proofs.cells.is_cut.Tie as tie
+use Rattle.frame_line.proofs.mpdu_columns.is_cut.Statement.{statement}
+use Rattle.frame_line.proofs.mpdu_columns.is_cut.Tie as tie
 
 abbrev Inv-loop : tie.InvT-loop
 Inv-loop rows n i₀ i = i ≤ n
