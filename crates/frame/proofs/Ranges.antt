@@ -111,3 +111,19 @@ small w b narrow all whole =
         go : (t : Bool) → beamsNumber (cond t (Count (beamsOf rate m)) NoBeam) ≤ n
         go true = omega (arith, beams-low rate m .1)
         go false = omega arith
+
+-- a frame's body has a header, a middle byte and a trailer
+pub frame-long : (w : ℕ) (b : List ℕ) → isFrame w b ≡ true → 18 ≤ length b
+frame-long w b whole =
+    let is-between = and-left (between b) _ whole in
+    let room = roomy b is-between in
+    let some = some-header (getD b 0 0) (and-left (not (eqb (header b) 0)) _ is-between) in
+    omega arith
+  where
+    some-header : (version : ℕ) → not (eqb (headerOf version) 0) ≡ true → 12 ≤ headerOf version
+    some-header version = go (eqb version 2) (eqb version 3)
+      where
+        go : (a c : Bool) → not (eqb (cond a 12 (cond c 19 0)) 0) ≡ true → 12 ≤ cond a 12 (cond c 19 0)
+        go true c h = omega arith
+        go false true h = omega arith
+        go false false h = absurd (let z : _≡_ {A = ℕ} 0 1 = cc in omega arith)

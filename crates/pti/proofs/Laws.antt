@@ -2,7 +2,7 @@
 use mathlib.Core.Path.{_≡_, refl, sym, ap, _∙_}
 use mathlib.Core.Bool.{Bool, true, false, cond}
 use mathlib.Core.List.{List, [], _∷_, _++_}
-use Prim.Native.Nat.{ℕ, _+_, _-_, _*_, _/_, _^_, _≤_, _<_}
+use Prim.Native.Nat.{ℕ, zero, suc, _+_, _-_, _*_, _/_, _^_, _≤_, _<_}
 use native.Mathlib.Nat.{add-zero}
 use native.Mathlib.Omega.{arith}
 use mir.Syntax.{w8, w64}
@@ -10,7 +10,7 @@ use mir.Val.{Fits, ofZ, toZ, hbits}
 use mir.Facts.{toZ-ofZ}
 use lib.Signed.{mag}
 use lib.Dec.{eqb, leb}
-use lib.ListN.{length, getD, take, drop}
+use lib.ListN.{length, getD, take, drop, length-take}
 use lib.Seq.{sets, length-sets}
 use borrow.Author.Tests.{le-leb, lt-leb, leb-true, eq-eqb, ne-eqb}
 use Rattle.refusal.specs.declared.Refusal.{Refusal}
@@ -26,13 +26,14 @@ use Rattle.frame.specs.declared.Split.{Split}
 use Rattle.frame.specs.declared.Split.the-variants.{Into, Nothing as NoSplit}
 use Rattle.pti.specs.declared.payload.Frames.{Frames}
 use Rattle.pti.specs.declared.payload.Frames.the-variants.{Rows, Refused}
-use Rattle.records.specs.Records.{bodiesFrom, bodies, bytesOf}
+use Rattle.records.specs.Records.{stands, upTo, bodiesFrom, bodies, bytesOf}
 use Rattle.records.specs.Steps.{Follows}
 use Rattle.frame.specs.Steps.{splitOf, framedBy}
-use Rattle.pti.specs.Steps.{WritesRow, Writes}
+use Rattle.pti.specs.Steps.{Needs, WritesRow, Writes, Lays}
 use Rattle.frame.specs.Frame.{headerOf, regionBits, isFrame, frameOf, directionNumber, beamsNumber}
 use Rattle.pti.specs.Payload.{rowWidth, rowOf, rowsIn, rowsOf, Parses}
-use Rattle.records.proofs.Laws.{led, body-nearer, body-ordered, body-inside, after-fits}
+use Rattle.records.proofs.Laws.{stands-inside, led, body-nearer, body-ordered, body-inside, after-fits}
+use Rattle.frame.proofs.Ranges.{frame-long}
 use Rattle.frame.proofs.Laws.{split-frame, split-none, split-framed, parts-in}
 
 -- ---- one body
@@ -137,20 +138,24 @@ wide w s (b ∷ bs) = go (isFrame w (bytesOf s b)) (wide w s bs)
 
 -- the table with the rows that are left is the table that is asked for
 pub record Writing (w : ℕ) (s t₀ t : List ℕ) (n at : ℕ) : Type 0 where
+  pub sum : n + length (rowsIn w s (bodiesFrom s at)) ≡ length (rowsOf w s)
   pub rest : sets t (n * rowWidth) (flat (rowsIn w s (bodiesFrom s at))) ≡ sets t₀ 0 (flat (rowsOf w s))
   pub room : (n + length (rowsIn w s (bodiesFrom s at))) * rowWidth ≤ length t
   pub same : length t ≡ length t₀
   pub low : 0 < at
 
 pub writing-starts : (w : ℕ) (s t : List ℕ) → length (rowsOf w s) * rowWidth ≤ length t → Writing w s t t 0 1
-writing-starts w s t room = record { rest = refl; room = omega arith; same = refl; low = omega arith }
+writing-starts w s t room = record { sum = omega arith; rest = refl; room = omega arith; same = refl; low = omega arith }
 
 pub written : (w : ℕ) (s t₀ t : List ℕ) (n at : ℕ) (r : Next) → Writing w s t₀ t n at → Follows s at r → r ≡ NoMore
-    → length (rowsOf w s) * rowWidth ≤ length t₀ → t ≡ laid t₀ (rowsOf w s)
+    → length (rowsOf w s) * rowWidth ≤ length t₀ → Lays w s t₀ n t
 unfolding rowsIn
 written w s t₀ t n at r inv follows e room =
     let none : bodiesFrom s at ≡ [] = rw e at follows in
-    (rw none at (inv .rest)) ∙ sets-laid t₀ (rowsOf w s) (omega (arith, wide w s (bodies s)))
+    record {
+      count = omega (arith, inv .sum, ap (λ (l : List (ℕ × ℕ)). length (rowsIn w s l)) none);
+      table = (rw none at (inv .rest)) ∙ sets-laid t₀ (rowsOf w s) (omega (arith, wide w s (bodies s)));
+    }
 
 module _ (w : ℕ) (s t₀ t : List ℕ) (n at : ℕ) (r : Next) (b : Span) (inv : Writing w s t₀ t n at) (follows : Follows s at r) (is-b : r ≡ Body b) where
   pub start-low : length s * 1 < 2 ^ 63 → b .start .0 < 2 ^ 63
@@ -182,10 +187,18 @@ module _ (w : ℕ) (s t₀ t : List ℕ) (n at : ℕ) (r : Next) (b : Span) (inv
           let now-is : now-rows ≡ next-rows = here ∙ rw e refl in
           let same-n : n′ ≡ n = rw (e, add-zero) at (wrote .next) in
           let same-t : t′ ≡ t = rw e at (wrote .table) in
-          rw (same-n, same-t) (record { rest = rw now-is at (inv .rest); room = rw now-is at (inv .room); same = inv .same; low = omega arith })
+          rw (same-n, same-t)
+          (record {
+            sum = rw now-is at (inv .sum);
+            rest = rw now-is at (inv .rest);
+            room = rw now-is at (inv .room);
+            same = inv .same;
+            low = omega arith;
+          })
       go true e =
           let now-is : now-rows ≡ row ∷ next-rows = here ∙ rw e refl in
           let room : (n + length (row ∷ next-rows)) * rowWidth ≤ length t = rw now-is at (inv .room) in
+          let sum : n + length (row ∷ next-rows) ≡ length (rowsOf w s) = rw now-is at (inv .sum) in
           let next-n : n′ ≡ n + 1 = rw e at (wrote .next) in
           let put-t : t′ ≡ sets t (n * rowWidth) row = (rw e at (wrote .table)) ∙ put-room t row (n * rowWidth) (omega arith) in
           let place : n * rowWidth + length row ≡ (n + 1) * rowWidth = omega arith in
@@ -193,6 +206,7 @@ module _ (w : ℕ) (s t₀ t : List ℕ) (n at : ℕ) (r : Next) (b : Span) (inv
           let size : length (sets t (n * rowWidth) row) ≡ length t = length-sets t (n * rowWidth) row in
           rw (next-n, put-t)
           (record {
+            sum = omega arith;
             rest = rw (← place) (sym (sets-append t (n * rowWidth) row (flat next-rows)) ∙ rest);
             room = omega arith;
             same = size ∙ inv .same;
@@ -202,11 +216,44 @@ module _ (w : ℕ) (s t₀ t : List ℕ) (n at : ℕ) (r : Next) (b : Span) (inv
 pub rows-so-far : (w : ℕ) (s t₀ t : List ℕ) (n at : ℕ) → Writing w s t₀ t n at → n * rowWidth ≤ length t
 rows-so-far w s t₀ t n at inv = omega (arith, inv .room)
 
--- ---- the answer
-no-length : (l : List (List ℕ)) → length l ≡ 0 → l ≡ []
-no-length [] h = refl
-no-length (x ∷ xs) h = absurd (omega arith)
+-- ---- how many rows there can be
+module _ (w : ℕ) (s : List ℕ) where
+  -- a body with a frame has 18 bytes or more, its record 4 more
+  long-body : (at n : ℕ) → cond (isFrame w (bytesOf s (at, n))) 1 0 * 22 ≤ n + 4
+  long-body at n = go (isFrame w (bytesOf s (at, n))) (frame-long w (bytesOf s (at, n)))
+    where
+      go : (y : Bool) → (y ≡ true → 18 ≤ length (bytesOf s (at, n))) → cond y 1 0 * 22 ≤ n + 4
+      go true h = omega (arith, h refl, length-take n (drop at s))
+      go false h = omega arith
 
+  -- so the records with a frame that stand from a place on take 22 bytes each behind it
+  few-rows : (m at : ℕ) → 0 < at → length (rowsIn w s (upTo m s at)) * 22 ≤ length s + 1 - at
+  unfolding rowsIn
+  few-rows zero at some = omega arith
+  few-rows (suc m) at some =
+      go (getD s at 0) (stands s at) (leb 2 (getD s at 0)) (upTo m s (at + getD s at 0 + 2)) (stands-inside s at)
+      (leb-true 2 (getD s at 0)) (few-rows m (at + getD s at 0 + 2) (omega arith))
+    where
+      go : (n : ℕ) (a b : Bool) (bs : List (ℕ × ℕ)) → (a ≡ true → at + n < length s) → (b ≡ true → 2 ≤ n)
+          → length (rowsIn w s bs) * 22 ≤ length s + 1 - (at + n + 2)
+          → length (rowsIn w s (cond a (cond b ((at + 2, n - 2) ∷ bs) bs) [])) * 22 ≤ length s + 1 - at
+      go n false b bs inside two rest = omega arith
+      go n true false bs inside two rest = omega (arith, rest)
+      go n true true bs inside two rest =
+          let here = counted-row w s (at + 2, n - 2) bs in
+          omega (arith, rest, inside refl, two refl, long-body (at + 2) (n - 2))
+
+  pub rows-few : length (rowsOf w s) ≤ length s / 22
+  unfolding bodiesFrom
+  rows-few = let few = few-rows (length s) 1 (omega arith) in omega arith
+
+pub needs-most : (w : ℕ) (s : List ℕ) (room : ℕ) → length s / 22 ≤ room → Needs w s room (length s / 22)
+needs-most w s room roomy = record { enough = rows-few w s; exact = λ over. absurd (omega arith) }
+
+pub needs-count : (w : ℕ) (s : List ℕ) (room n : ℕ) → n ≡ length (rowsOf w s) → Needs w s room n
+needs-count w s room n is-n = record { enough = omega arith; exact = λ over. is-n }
+
+-- ---- the answer
 module _ (firmware w : ℕ) (s t : List ℕ) (is-w : w ≡ regionBits firmware) where
   pub parses-unknown : w ≡ 0 → Parses firmware s t (Refused (Firmware firmware)) t
   parses-unknown none = let e = eq-eqb w 0 none in record { answer = rw (← is-w, e) refl; numbers = rw (← is-w, e) refl; table = refl }
@@ -220,34 +267,41 @@ module _ (firmware w : ℕ) (s t : List ℕ) (is-w : w ≡ regionBits firmware) 
         let over = lt-leb (length s) 65535 long in
         record { answer = rw (← is-w, known, over) refl; numbers = rw (← is-w, known, over) refl; table = refl }
 
-    module _ (needed : ℕ) (is-needed : needed ≡ length (rowsOf w s)) (short : length s ≤ 65535) where
+    -- a payload without a body: its rates are not laid out
+    pub parses-none : (r : Next) → length s ≤ 65535 → Follows s 1 r → r ≡ NoMore → Parses firmware s t (Rows 0) t
+    unfolding rowsIn
+    parses-none r short follows e =
+        let none : bodies s ≡ [] = rw e at follows in
+        let within = le-leb (length s) 65535 short in
+        let fits = le-leb 0 (length t / rowWidth) (omega arith) in
+        record {
+          answer = rw (← is-w, known, within, none, fits) refl;
+          numbers = rw (← is-w, known, within, none, fits) refl;
+          table = rw (← is-w, none) refl;
+        }
+
+    module _ (needed : ℕ) (needs : Needs w s (length t / rowWidth) needed) (short : length s ≤ 65535) where
       within : leb (length s) 65535 ≡ true
       within = le-leb (length s) 65535 short
 
       pub parses-more : length t / rowWidth < needed → Parses firmware s t (Refused (MoreRows needed)) t
       parses-more few =
+          let is-needed = needs .exact few in
           let over = lt-leb (length (rowsOf w s)) (length t / rowWidth) (omega arith) in
           rw is-needed (record { answer = rw (← is-w, known, within, over) refl; numbers = rw (← is-w, known, within, over) refl; table = refl })
 
-      pub parses-none : needed ≡ 0 → Parses firmware s t (Rows 0) t
-      parses-none none =
-          let empty : rowsOf w s ≡ [] = no-length (rowsOf w s) (omega arith) in
-          let fits = le-leb 0 (length t / rowWidth) (omega arith) in
-          record {
-            answer = rw (← is-w, known, within, empty, fits) refl;
-            numbers = rw (← is-w, known, within, empty, fits) refl;
-            table = rw (← is-w, empty) refl;
-          }
+      pub parses-all : (n : ℕ) (t′ : List ℕ) → needed ≤ length t / rowWidth → Lays w s t n t′ → Parses firmware s t (Rows n) t′
+      parses-all n t′ room lays =
+          let fits = le-leb (length (rowsOf w s)) (length t / rowWidth) (omega (arith, needs .enough)) in
+          rw (lays .count) (record {
+            answer = rw (← is-w, known, within, fits) refl;
+            numbers = rw (← is-w, known, within, fits) refl;
+            table = rw (← is-w) (lays .table);
+          })
 
-      pub parses-all : (t′ : List ℕ) → needed ≤ length t / rowWidth → t′ ≡ laid t (rowsOf w s) → Parses firmware s t (Rows needed) t′
-      parses-all t′ enough is-t =
-          let fits = le-leb (length (rowsOf w s)) (length t / rowWidth) (omega arith) in
-          rw is-needed
-          (record { answer = rw (← is-w, known, within, fits) refl; numbers = rw (← is-w, known, within, fits) refl; table = rw (← is-w) is-t })
-
-pub rows-fit : (w : ℕ) (s t : List ℕ) (needed : ℕ) → needed ≡ length (rowsOf w s) → needed ≤ length t / rowWidth
+pub rows-fit : (w : ℕ) (s t : List ℕ) (needed : ℕ) → Needs w s (length t / rowWidth) needed → needed ≤ length t / rowWidth
     → length (rowsOf w s) * rowWidth ≤ length t
-rows-fit w s t needed is-needed enough = omega arith
+rows-fit w s t needed needs room = omega (arith, needs .enough)
 
 -- ---- as many rows as are answered stand in the table
 narrowed : (u a b : Bool) (n : ℕ) (l : List (List ℕ)) (room : ℕ) (x y z : Refusal) → (b ≡ true → length l ≤ room)
@@ -292,6 +346,8 @@ pub ruleset laws = (
   start-low,
   writing-more,
   rows-so-far,
+  needs-most,
+  needs-count,
   parses-unknown,
   parses-long,
   parses-none,

@@ -20,8 +20,7 @@ ghost use lib.ListN.{length};
 ghost use Rattle.radio.specs.Speed.{RateTable};
 ghost use Rattle.frame.specs.Frame.{isFrame, directionNumber, beamsNumber};
 ghost use Rattle.pti.specs.Payload.{rowWidth, rowOf, rowsOf, Parses};
-ghost use Rattle.pti.specs.Steps.{WritesRow, Writes};
-ghost use Rattle.rows.specs.Rows.{laid};
+ghost use Rattle.pti.specs.Steps.{Needs, WritesRow, Writes, Lays};
 
 // The columns of a frame's row: F17 of docs/RULES.md.
 pub const DIRECTION: usize = 0;
@@ -42,6 +41,9 @@ pub const LENGTH: usize = 7;
 
 // The numbers of a frame's row.
 pub const ROW_WIDTH: usize = LENGTH + 1;
+
+// The fewest bytes of a record with a frame: 4 around the body, a header of 12, a middle byte, a trailer of 5.
+const SHORTEST: usize = 22;
 
 // How many rows a payload has, all of them written.
 pub enum Frames {
@@ -116,6 +118,18 @@ fn count_frames(payload: &[u8], width: u8) -> usize
     }
 }
 
+// How many rows a table must have room for. They are counted only if it has not room for as many as a payload of this length can have.
+fn rows_needed(payload: &[u8], width: u8, room: usize) -> usize
+    requires { ⌜ width ≤ 5 ⌝ }
+    ensures { λ r. ⌜ Needs width (now (payload .entry)) room r ⌝ }
+{
+    let most = payload.len() / SHORTEST;
+    if most <= room {
+        return most;
+    }
+    count_frames(payload, width)
+}
+
 // Writes a frame's row as row n. Returns the number of the next row.
 fn write_row(frame: PtiFrame, body: PayloadOffset, table: &mut [u64], n: usize) -> usize
     requires { ⌜ (body .0 + frame .start .0 < 2 ^ 64) × (n * rowWidth ≤ length (now table)) ⌝ }
@@ -146,18 +160,18 @@ fn write_frame(
     write_row(frame_of(rates, body, parts), start, table, n)
 }
 
-// Writes the rows of all frames, one after the other.
-fn write_frames(rates: &[u8; 512], payload: &[u8], width: u8, table: &mut [u64])
+// Writes the rows of all frames, one after the other. Returns how many there are.
+fn write_frames(rates: &[u8; 512], payload: &[u8], width: u8, table: &mut [u64]) -> usize
     requires { ⌜ RateTable (now rates) ⌝ }
     requires { ⌜ width ≤ 5 ⌝ }
     requires { ⌜ length (rowsOf width (now payload)) * rowWidth ≤ length (now table) ⌝ }
-    ensures { λ _. ⌜ now (table .exit) ≡ laid (now (table .entry)) (rowsOf width (now (payload .entry))) ⌝ }
+    ensures { λ r. ⌜ Lays width (now (payload .entry)) (now (table .entry)) r (now (table .exit)) ⌝ }
 {
     let mut n: usize = 0;
     let mut at: usize = 1;
     loop {
         let Next::Body(span) = next_body(payload, at) else {
-            return;
+            return n;
         };
         let start = span.start.0;
         let end = span.end.0;
@@ -167,12 +181,12 @@ fn write_frames(rates: &[u8; 512], payload: &[u8], width: u8, table: &mut [u64])
 }
 
 // The same, with the rates lent once for all frames.
-fn write_rows(payload: &[u8], width: u8, table: &mut [u64])
+fn write_rows(payload: &[u8], width: u8, table: &mut [u64]) -> usize
     requires { ⌜ width ≤ 5 ⌝ }
     requires { ⌜ length (rowsOf width (now payload)) * rowWidth ≤ length (now table) ⌝ }
-    ensures { λ _. ⌜ now (table .exit) ≡ laid (now (table .entry)) (rowsOf width (now (payload .entry))) ⌝ }
+    ensures { λ r. ⌜ Lays width (now (payload .entry)) (now (table .entry)) r (now (table .exit)) ⌝ }
 {
-    write_frames(&RATES, payload, width, table);
+    write_frames(&RATES, payload, width, table)
 }
 
 // Every frame of a payload, which that firmware wrote, into the table, or refusal 13, 4 or 8. A refusal writes nothing, an answer nothing past its
@@ -187,13 +201,13 @@ pub fn parse_payload(payload: &[u8], firmware: usize, table: &mut [u64]) -> Fram
     if 65535 < payload.len() {
         return Frames::Refused(Refusal::TooLong(payload.len()));
     }
-    let needed = count_frames(payload, width);
-    if needed == 0 {
+    let Next::Body(_) = next_body(payload, 1) else {
         return Frames::Rows(0);
+    };
+    let room = table.len() / ROW_WIDTH;
+    let needed = rows_needed(payload, width, room);
+    if room < needed {
+        return Frames::Refused(Refusal::MoreRows(needed));
     }
-    if needed <= table.len() / ROW_WIDTH {
-        write_rows(payload, width, table);
-        return Frames::Rows(needed);
-    }
-    Frames::Refused(Refusal::MoreRows(needed))
+    Frames::Rows(write_rows(payload, width, table))
 }

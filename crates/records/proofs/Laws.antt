@@ -81,16 +81,18 @@ not-taken : (b : Bool) (m : ℕ) → cond b (Record m) Stop ≡ Stop → b ≡ f
 not-taken true m h = cc
 not-taken false m h = refl
 
+pub stands-inside : (s : List ℕ) (p : ℕ) → stands s p ≡ true → p + getD s p 0 < length s
+stands-inside s p h =
+    let t : ltb (p + getD s p 0) (length s) ≡ true =
+    and-left (ltb (p + getD s p 0) (length s)) _ (and-right (ltb p (length s)) _ (and-right (ltb 4 (length s)) _ h)) in
+    ltb-true (p + getD s p 0) (length s) t
+
 module _ (s : List ℕ) (p n : ℕ) (r : RecordAt) (at-p : r ≡ recordAt s p) (here : r ≡ Record n) where
   known : (stands s p ≡ true) × (getD s p 0 ≡ n)
   known = taken (stands s p) (getD s p 0) n (sym at-p ∙ here)
 
   pub record-inside : p + n < length s
-  record-inside =
-      let e : getD s p 0 ≡ n = known .1 in
-      let t : ltb (p + getD s p 0) (length s) ≡ true =
-      and-left (ltb (p + getD s p 0) (length s)) _ (and-right (ltb p (length s)) _ (and-right (ltb 4 (length s)) _ (known .0))) in
-      rw e at (ltb-true (p + getD s p 0) (length s) t)
+  record-inside = rw (known .1) at (stands-inside s p (known .0))
 
   pub nearer : length s - (p + n + 2) < length s - p
   nearer = omega (arith, record-inside)
