@@ -91,7 +91,7 @@ pub ruleset body-laws = (body-rows, body-needs, body-fits, body-wrote, body-part
 pub loaded-all : (x l : List ℕ) → verdict x ≡ Accepted → length l ≡ 256 * loadedWidth → length (headsOf x) * loadedWidth ≤ length l
 loaded-all x l accepted size = let c = heads-count 1 (records form (lines x)) in let w = accepted-within x accepted .1 .lines in omega arith
 
-pub loaded-short : (x l : List ℕ) → length x ≤ 120 → length l ≡ 24 * loadedWidth → length (headsOf x) * loadedWidth ≤ length l
+pub loaded-short : (x l : List ℕ) → length x ≤ 240 → length l ≡ 48 * loadedWidth → length (headsOf x) * loadedWidth ≤ length l
 loaded-short x l h size = let s = heads-short x in omega arith
 
 -- ---- by an accepted text

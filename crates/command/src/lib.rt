@@ -37,11 +37,11 @@ pub use command_param::read_uint;
 // The numbers of the loaded definition: it has at most 256 rows.
 const LOADED: usize = 256 * LOADED_WIDTH;
 
-// A text of so few bytes has at most 24 rows, as a Q or G has at least five: a small table does, and is laid out sooner.
-const SHORT: usize = 120;
+// A text of so few bytes has at most 48 rows, as a Q or G has at least five: a small table does, and is laid out sooner.
+const SHORT: usize = 240;
 
 // The numbers of its rows.
-const LOADED_SHORT: usize = 24 * LOADED_WIDTH;
+const LOADED_SHORT: usize = 48 * LOADED_WIDTH;
 
 // The most numbers that a byte of the body makes: 34 rows, for a repetition, a parameter and 32 bit children.
 const MOST: usize = 34 * ROW_WIDTH;

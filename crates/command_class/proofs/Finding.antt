@@ -17,7 +17,7 @@ use Rattle.command_text.specs.Form.{Record, param, group, item, variant, array,
 use Rattle.command_text.specs.Form.{said, form}
 use Rattle.command_text.specs.Form as form
 use Rattle.command_text.specs.Rules.{begins, rules}
-use Rattle.command_class.specs.Definition.{numbered, letter, readAs}
+use Rattle.command_class.specs.Definition.{Item, numbered, letter, readAs}
 use Rattle.command_class.specs.Find.{from, among}
 use Rattle.command_text.proofs.Keeping.{brief}
 use Rattle.command_class.proofs.Saying.{kind-letter}
@@ -41,6 +41,12 @@ lined t p l readable inside step =
           (sym (step .passes .count ∙ add-one (p .line)));
       next = h .next;
     }
+
+-- the first lines of two equal lists say the same, and the same follows them
+pub same-line : (n : ℕ) (x y : Record) (is js : List Item)
+    → _≡_ {A = List Item} (record { line = n; says = x } ∷ is) (record { line = n; says = y } ∷ js) → (x ≡ y) × (is ≡ js)
+same-line n x y is js e =
+    (let i : _≡_ {A = Item} (record { line = n; says = x }) (record { line = n; says = y }) = cc in ap (λ (i : Item). i .says) i, cc)
 
 -- a letter that is read as another than S is that one
 pub read-other : (k b : ℕ) → (b ≡ 83 → ⊥) → readAs k ≡ b → k ≡ b

@@ -2,24 +2,21 @@
 use mathlib.Core.Path.{_≡_, refl, sym, ap, _∙_}
 use mathlib.Core.Bool.{Bool, true, false, cond}
 use mathlib.Core.List.{List, _∷_}
-use mathlib.Core.Option.{some}
 use Prim.Native.Nat.{ℕ, _-_, _≤_, _<_}
 use native.Mathlib.Omega.{arith}
 use lib.Dec.{eqb}
 use lib.ListN.{length}
 use borrow.Author.Tests.{eq-eqb, ne-eqb}
-use Rattle.text.specs.Text.{field, worth, value}
-use Rattle.text.specs.Place.{cells, In, Steps, Has}
+use Rattle.text.specs.Place.{In}
 use Rattle.text.specs.Records.{Readable}
 use Rattle.text.specs.declared.Place.{Place}
-use Rattle.text.specs.declared.Line.{Line}
 use Rattle.text.proofs.Reading.{rest-end}
 use Rattle.command_text.specs.Form.{Record, param, group, item, variant, array, bitFlag, bitField, const, bitmask}
 use Rattle.command_text.specs.Rules.{begins, rules}
-use Rattle.command_class.specs.Definition.{Item, numbered, under, letter, readAs, firstConst}
-use Rattle.command_class.specs.Find.{from, Good, among, Begins, Follows}
-use Rattle.command_class.proofs.Finding.{Lined, lined, read-other, begins-kind}
-use Rattle.command_class.proofs.Rows.{named-value, k-said, const-has}
+use Rattle.command_class.specs.Definition.{Item, numbered, under, letter, firstConst}
+use Rattle.command_class.specs.Find.{from, among, Says, IsRead, Begins, Follows}
+use Rattle.command_class.specs.declared.Read.{Read}
+use Rattle.command_class.proofs.Finding.{same-line, begins-kind}
 
 pub record Naming (t : List ℕ) (p₀ : Place) (v : ℕ) (p : Place) : Type 0 where
   pub readable : Readable rules t p
@@ -58,9 +55,7 @@ module _ (t : List ℕ) (p₀ : Place) (v : ℕ) (p : Place) (k : Naming t p₀ 
 
       pub const-over : (q : Place) → Follows t p q → (kind ≡ 75 → ⊥) → x ≡ false → Naming t p₀ v q
       const-over q follows other e =
-          let z : record { line = p .line; says = begin .said } ∷ begin .others ≡ record { line = p .line; says = follows .said } ∷ from t q =
-          sym (begin .lines) ∙ follows .lines in
-          let rest : begin .others ≡ from t q = cc in
+          let rest : begin .others ≡ from t q = same-line (p .line) _ _ (begin .others) (from t q) (sym (begin .lines) ∙ follows .lines) .1 in
           let lines : from t p ≡ record { line = p .line; says = begin .said } ∷ from t q =
           begin .lines ∙ ap (λ (is : List Item). record { line = p .line; says = begin .said } ∷ is) rest in
           let same : firstConst v (under (from t p)) ≡ firstConst v (under (from t q)) =
@@ -69,48 +64,36 @@ module _ (t : List ℕ) (p₀ : Place) (v : ℕ) (p : Place) (k : Naming t p₀ 
           record { readable = follows .readable; so = k .so ∙ same }
 
     -- a K
-    module _ (l : Line) (inside : p .at < length t) (step : Steps t p l) (is-k : kind ≡ 75) where
-      abbrev here : Lined t p l
-      here = lined t p l (k .readable) inside step
-
-      good : Good t l
-      good = record { marked = step .marked; kind-is = step .kind-is; formed = rw (here .form-is) refl }
-
-      is-const-line : readAs (l .kind) ≡ 75
-      is-const-line =
-          let z : record { line = p .line; says = begin .said } ∷ begin .others ≡ record { line = p .line; says = here .says } ∷ from t (l .next) =
-          sym (begin .lines) ∙ here .lines in
-          let y : _≡_ {A = Item} (record { line = p .line; says = begin .said }) (record { line = p .line; says = here .says }) = cc in
-          here .kind-is ∙ ap (λ (i : Item). letter (i .says)) (sym y) ∙ sym (begin .kind) ∙ is-k
-
-      kind-is : l .kind ≡ 75
-      kind-is = read-other (l .kind) 75 (λ e. omega arith) is-const-line
-
-      pub const-field : Has t l 1
-      const-field = const-has t l good kind-is 1 (omega arith)
-
-      is-const : here .says ≡ item (const (worth 0 (field 1 (cells t l))) (field 2 (cells t l)))
-      is-const = let z : some (here .says) ≡ some (item (const (worth 0 (field 1 (cells t l))) (field 2 (cells t l)))) =
-          sym (here .form-is) ∙ k-said t l good kind-is .1 in cc
-
-      told-const : firstConst v (under (from t p₀)) ≡ cond (eqb (value 255 (field 1 (cells t l))) v) (p .line) (firstConst v (under (from t (l .next))))
+    module _ (is-k : kind ≡ 75) (r : Read) (read : IsRead t p r) where
+      told-const : firstConst v (under (from t p₀)) ≡ cond (eqb (r .row .value) v) (p .line) (firstConst v (under (from t (r .next))))
       told-const =
-          k .so
-          ∙ ap (λ (is : List Item). firstConst v (under is))
-          (here .lines ∙ ap (λ (x : Record). record { line = p .line; says = x } ∷ from t (l .next)) is-const)
-          ∙ rw (named-value t l good (k-said t l good kind-is .0)) refl
+          let same : begin .said ≡ read .said =
+          same-line (p .line) _ _ (begin .others) (from t (r .next)) (sym (begin .lines) ∙ read .lines) .0 in
+          k .so ∙ ap (λ (is : List Item). firstConst v (under is)) (read .lines)
+          ∙ of-record (read .said) (sym is-k ∙ begin .kind ∙ ap letter same) (read .says)
+        where
+          of-record : (x : Record) → 75 ≡ letter x → Says x (r .row)
+              → firstConst v (under (record { line = p .line; says = x } ∷ from t (r .next)))
+              ≡ cond (eqb (r .row .value) v) (p .line) (firstConst v (under (from t (r .next))))
+          of-record (param q) e says = absurd (let y : _≡_ {A = ℕ} 75 0x51 = e in omega arith)
+          of-record (group g) e says = absurd (let y : _≡_ {A = ℕ} 75 0x47 = e in omega arith)
+          of-record (item (variant s)) e says = absurd (let y : _≡_ {A = ℕ} 75 0x52 = e in omega arith)
+          of-record (item (array n a)) e says = absurd (let y : _≡_ {A = ℕ} 75 0x41 = e in omega arith)
+          of-record (item (bitFlag m n)) e says = absurd (let y : _≡_ {A = ℕ} 75 0x54 = e in omega arith)
+          of-record (item (bitField b)) e says = absurd (let y : _≡_ {A = ℕ} 75 0x53 = e in omega arith)
+          of-record (item (const w n)) e says = rw says
+          of-record (item (bitmask n)) e says = absurd (let y : _≡_ {A = ℕ} 75 0x4d = e in omega arith)
 
-      module _ (n : ℕ) (says : n ≡ value 255 (field 1 (cells t l))) where
-        pub const-hit : n ≡ v → p .line ≡ firstConst v (under (from t p₀))
-        const-hit h = rw (told-const, eq-eqb (value 255 (field 1 (cells t l))) v (sym says ∙ h)) refl
+      pub const-hit : r .row .value ≡ v → p .line ≡ firstConst v (under (from t p₀))
+      const-hit h = rw (told-const, eq-eqb (r .row .value) v h) refl
 
-        pub const-next : (n ≡ v → ⊥) → Naming t p₀ v (l .next)
-        const-next h = record { readable = here .next; so = rw (told-const, ne-eqb (value 255 (field 1 (cells t l))) v (λ z. h (says ∙ z))) refl }
+      pub const-next : (r .row .value ≡ v → ⊥) → Naming t p₀ v (r .next)
+      const-next h = record { readable = read .next; so = rw (told-const, ne-eqb (r .row .value) v h) refl }
 
-pub const-less : (t : List ℕ) (p : Place) (l : Line) → p .at < length t → Steps t p l → length t - l .next .at < length t - p .at
-const-less t p l inside step = omega (arith, step .passes .on)
+pub const-less : (t : List ℕ) (p : Place) (r : Read) → p .at < length t → IsRead t p r → length t - r .next .at < length t - p .at
+const-less t p r inside read = omega (arith, read .on)
 
 pub over-less : (t : List ℕ) (p q : Place) → p .at < length t → Follows t p q → length t - q .at < length t - p .at
 over-less t p q inside follows = omega (arith, follows .on)
 
-pub ruleset const-laws = (const-start, const-end, const-in, const-stop, const-over, const-field, const-hit, const-next, const-less, over-less)
+pub ruleset const-laws = (const-start, const-end, const-in, const-stop, const-over, const-hit, const-next, const-less, over-less)

@@ -10,7 +10,7 @@ use lib.ListN.{length}
 use borrow.Author.Tests.{eqb-true, ne-eqb}
 use Rattle.text.specs.Text.{field, worth, decimal, upTo, value, missing, name, optionalUpTo, optionalValue, optional}
 use Rattle.text.specs.Text as text
-use Rattle.text.specs.Place.{cells, Steps, Has}
+use Rattle.text.specs.Place.{cells, Steps, Passes, Has}
 use Rattle.text.specs.Records.{isSome, Readable}
 use Rattle.text.specs.declared.Place.{Place}
 use Rattle.text.specs.declared.Line.{Line}
@@ -24,8 +24,8 @@ use Rattle.command_text.specs.Form.{Record, param, group, item, variant, array,
 use Rattle.command_text.specs.Form.{paramFields, paramForm, paramOf, groupFields, groupForm, groupOf, variantFields, variantForm, sizeOf, arrayForm, asciiOf}
 use Rattle.command_text.specs.Form.{namedForm, bitsFields, bitsForm, bitsOf, bitmaskForm, given, ofType, said, form}
 use Rattle.command_text.specs.Rules.{rules}
-use Rattle.command_class.specs.Definition.{letter, readAs}
-use Rattle.command_class.specs.Find.{from, Good, orMissing, optionalOr, Tells, IsRead}
+use Rattle.command_class.specs.Definition.{Item, letter, readAs}
+use Rattle.command_class.specs.Find.{from, Good, among, orMissing, optionalOr, Tells, Numbers, IsRead, Begins, Follows}
 use Rattle.command_class.specs.declared.Row.{Row}
 use Rattle.command_text.specs.declared.ParamType.{ParamType}
 use Rattle.command_text.specs.declared.ParamType.the-variants.{Byte}
@@ -33,7 +33,8 @@ use Rattle.command_text.specs.declared.Typed.{Typed}
 use Rattle.command_text.specs.declared.Typed.the-variants.{Is, Not}
 use Rattle.command_text.proofs.Laws.{group-shift, variant-shift, bits-shift, param-level}
 use Rattle.command_class.proofs.Saying.{kind-letter}
-use Rattle.command_class.proofs.Finding.{Lined, lined}
+use Rattle.command_class.proofs.Finding.{Lined, lined, same-line, read-other}
+use Rattle.command_class.proofs.Beginning.{follows-at}
 
 -- ---- what may be missing
 module _ (l : List ℕ) where
@@ -60,7 +61,7 @@ module _ (r o : Optional) (is : r ≡ o) where
 pub ruleset optional-laws = (optional-given, optional-missing, optional-wrong)
 
 -- ---- a line of a kind
-said-good : (fs : List (List ℕ)) (b : Bool) (y : Record) → form fs ≡ said b (some y) → isSome (form fs) ≡ true → (b ≡ true)
+pub said-good : (fs : List (List ℕ)) (b : Bool) (y : Record) → form fs ≡ said b (some y) → isSome (form fs) ≡ true → (b ≡ true)
     × (form fs ≡ some y)
 said-good fs true y e f = (refl, e)
 said-good fs false y e f = absurd (let z : _≡_ {A = Bool} false true = rw e at f in let w : _≡_ {A = ℕ} 0 1 = cc in omega arith)
@@ -194,60 +195,6 @@ module _ (t : List ℕ) (l : Line) (good : Good t l) where
           );
         }
 
-  -- T and K
-  pub named-value : namedForm fs ≡ true → value 255 (field 1 fs) ≡ worth 0 (field 1 fs)
-  named-value e = value-of 255 (field 1 fs) (and-left (upTo 255 (field 1 fs)) (name (field 2 fs)) (and-right (eqb (length fs) 3) _ e))
-
-  module _ (is : l .kind ≡ 84) where
-    t-said : (namedForm fs ≡ true) × (form fs ≡ some (item (bitFlag (worth 0 (field 1 fs)) (field 2 fs))))
-    t-said = said-good fs (namedForm fs) _ (rw (sym (good .kind-is) ∙ is)) (good .formed)
-
-    pub bit-flag-has : (k : ℕ) → k < 3 → Has t l k
-    bit-flag-has k h = has-of 3 _ (t-said .0) k h
-
-    pub bit-flag-tells : (m : ℕ) → m ≡ value 255 (field 1 fs)
-        → Tells t l (record { kind = 84; level = 0; typed = Byte; offset = 0; mask = m; shift = 0; value = 0; ascii = false })
-    bit-flag-tells m e = record { said = item (bitFlag (worth 0 (field 1 fs)) (field 2 fs)); form-is = t-said .1; kind = refl; says = e ∙ named-value (t-said .0) }
-
-  module _ (is : l .kind ≡ 75) where
-    pub k-said : (namedForm fs ≡ true) × (form fs ≡ some (item (const (worth 0 (field 1 fs)) (field 2 fs))))
-    k-said = said-good fs (namedForm fs) _ (rw (sym (good .kind-is) ∙ is)) (good .formed)
-
-    pub const-has : (k : ℕ) → k < 3 → Has t l k
-    const-has k h = has-of 3 _ (k-said .0) k h
-
-    pub const-tells : (v : ℕ) → v ≡ value 255 (field 1 fs)
-        → Tells t l (record { kind = 75; level = 0; typed = Byte; offset = 0; mask = 0; shift = 0; value = v; ascii = false })
-    const-tells v e = record { said = item (const (worth 0 (field 1 fs)) (field 2 fs)); form-is = k-said .1; kind = refl; says = e ∙ named-value (k-said .0) }
-
-  -- S, and U, which is read as one
-  bits-says : (m s : ℕ) → bitsForm fs ≡ true → m ≡ value 255 (field 1 fs) → s ≡ optionalValue 255 (field 2 fs) → (m ≡ bitsOf fs .mask)
-      × (s ≡ bitsOf fs .shift)
-  bits-says m s h em es =
-      let w : bitsFields fs ≡ true = and-right (eqb (length fs) 4) (bitsFields fs) h in
-      (em ∙ value-of 255 (field 1 fs) (and-left (upTo 255 (field 1 fs)) _ w), es ∙ optional-value-of 255 (field 2 fs) (bits-shift fs w))
-
-  module _ (is : readAs (l .kind) ≡ 83) where
-    s-said : (bitsForm fs ≡ true) × (form fs ≡ some (item (bitField (bitsOf fs))))
-    s-said = go (eqb (l .kind) 85) refl is
-      where
-        go : (b : Bool) → eqb (l .kind) 85 ≡ b → cond b 83 (l .kind) ≡ 83 → (bitsForm fs ≡ true) × (form fs ≡ some (item (bitField (bitsOf fs))))
-        go true e q = said-good fs (bitsForm fs) _ (rw (sym (good .kind-is) ∙ eqb-true (l .kind) 85 e)) (good .formed)
-        go false e q = said-good fs (bitsForm fs) _ (rw (sym (good .kind-is) ∙ q)) (good .formed)
-
-    pub bit-field-has : (k : ℕ) → k < 4 → Has t l k
-    bit-field-has k h = has-of 4 (bitsFields fs) (s-said .0) k h
-
-    pub bit-field-tells : (m s : ℕ) → m ≡ value 255 (field 1 fs) → s ≡ optionalValue 255 (field 2 fs)
-        → Tells t l (record { kind = 83; level = 0; typed = Byte; offset = 0; mask = m; shift = s; value = 0; ascii = false })
-    bit-field-tells m s em es = record { said = item (bitField (bitsOf fs)); form-is = s-said .1; kind = refl; says = bits-says m s (s-said .0) em es }
-
-  pub as-field : l .kind ≡ 83 → readAs (l .kind) ≡ 83
-  as-field e = rw e
-
-  pub as-enum : l .kind ≡ 85 → readAs (l .kind) ≡ 83
-  as-enum e = rw e
-
   -- M
   module _ (is : l .kind ≡ 77) where
     m-said : (bitmaskForm fs ≡ true) × (form fs ≡ some (item (bitmask (given (field 1 fs)))))
@@ -267,26 +214,23 @@ module _ (t : List ℕ) (l : Line) (good : Good t l) where
     }
 
   -- no other kind
-  pub last-kind : (l .kind ≡ 81 → ⊥) → (l .kind ≡ 71 → ⊥) → (l .kind ≡ 82 → ⊥) → (l .kind ≡ 65 → ⊥) → (l .kind ≡ 84 → ⊥)
-      → (l .kind ≡ 83 → ⊥) → (l .kind ≡ 85 → ⊥) → (l .kind ≡ 75 → ⊥) → l .kind ≡ 77
-  last-kind q g r a f s u k = go (form fs) refl (good .formed)
+  pub last-kind : among 84 83 75 (readAs (l .kind)) ≡ false → (l .kind ≡ 81 → ⊥) → (l .kind ≡ 71 → ⊥) → (l .kind ≡ 82 → ⊥) → (l .kind ≡ 65 → ⊥)
+      → l .kind ≡ 77
+  last-kind other q g r a = go (form fs) refl (good .formed)
     where
-      other : readAs (l .kind) ≡ l .kind
-      other = rw (ne-eqb (l .kind) 85 u)
-
-      of-record : (x : Record) → l .kind ≡ letter x → l .kind ≡ 77
-      of-record (param y) e = absurd (q e)
-      of-record (group y) e = absurd (g e)
-      of-record (item (variant y)) e = absurd (r e)
-      of-record (item (array n y)) e = absurd (a e)
-      of-record (item (bitFlag m y)) e = absurd (f e)
-      of-record (item (bitField y)) e = absurd (s e)
-      of-record (item (const v y)) e = absurd (k e)
-      of-record (item (bitmask y)) e = e
+      of-record : (x : Record) → readAs (l .kind) ≡ letter x → l .kind ≡ 77
+      of-record (param y) e = absurd (q (read-other (l .kind) 81 (λ z. omega arith) e))
+      of-record (group y) e = absurd (g (read-other (l .kind) 71 (λ z. omega arith) e))
+      of-record (item (variant y)) e = absurd (r (read-other (l .kind) 82 (λ z. omega arith) e))
+      of-record (item (array n y)) e = absurd (a (read-other (l .kind) 65 (λ z. omega arith) e))
+      of-record (item (bitFlag m y)) e = absurd (let z : true ≡ false = rw e at other in let w : _≡_ {A = ℕ} 0 1 = cc in omega arith)
+      of-record (item (bitField y)) e = absurd (let z : true ≡ false = rw e at other in let w : _≡_ {A = ℕ} 0 1 = cc in omega arith)
+      of-record (item (const v y)) e = absurd (let z : true ≡ false = rw e at other in let w : _≡_ {A = ℕ} 0 1 = cc in omega arith)
+      of-record (item (bitmask y)) e = read-other (l .kind) 77 (λ z. omega arith) e
 
       go : (x : Option Record) → form fs ≡ x → isSome x ≡ true → l .kind ≡ 77
       go none e h = absurd (let z : _≡_ {A = ℕ} 0 1 = cc in omega arith)
-      go (some x) e h = of-record x (sym other ∙ ap readAs (good .kind-is) ∙ kind-letter fs x e)
+      go (some x) e h = of-record x (ap readAs (good .kind-is) ∙ kind-letter fs x e)
 
 pub ruleset param-laws = (param-has, type-says, type-never, param-tells)
 
@@ -297,12 +241,6 @@ pub ruleset row-laws = (
   variant-tells,
   array-has,
   array-tells,
-  bit-flag-has,
-  bit-flag-tells,
-  const-has,
-  const-tells,
-  bit-field-has,
-  bit-field-tells,
   bitmask-has,
   bitmask-tells,
 )
@@ -314,6 +252,11 @@ module _ (t : List ℕ) (p : Place) (l : Line) (readable : Readable rules t p) (
 
   pub read-good : Good t l
   read-good = record { marked = step .marked; kind-is = step .kind-is; formed = rw (line-here .form-is) }
+
+  pub read-rest : (kind : ℕ) (x : Bool) → Begins t p kind → x ≡ among 84 83 75 kind → x ≡ false → among 84 83 75 (readAs (l .kind)) ≡ false
+  read-rest kind x begin is-x e =
+      let same : line-here .says ≡ begin .said = same-line (p .line) _ _ (from t (l .next)) (begin .others) (sym (line-here .lines) ∙ begin .lines) .0 in
+      ap (among 84 83 75) (line-here .kind-is ∙ ap letter same ∙ sym (begin .kind)) ∙ sym is-x ∙ e
 
   pub read-is : (r : Row) → Tells t l r → IsRead t p (record { row = r; next = l .next })
   read-is r h =
@@ -328,4 +271,22 @@ module _ (t : List ℕ) (p : Place) (l : Line) (readable : Readable rules t p) (
         on = step .passes .on;
       }
 
-pub ruleset read-laws = (read-good, read-is)
+pub read-numbers : (t : List ℕ) (p q : Place) (r : Row) → Readable rules t p → p .at < length t → Passes t p q → Numbers t p r
+    → IsRead t p (record { row = r; next = q })
+read-numbers t p q r readable inside pass h =
+    let f : Follows t p q = follows-at t p q readable inside pass in
+    let rest : h .others ≡ from t q = same-line (p .line) (h .said) (f .said) (h .others) (from t q) (sym (h .lines) ∙ f .lines) .1 in
+    record {
+      said = h .said;
+      lines = h .lines ∙ ap (λ (is : List Item). record { line = p .line; says = h .said } ∷ is) rest;
+      kind = h .kind;
+      says = h .says;
+      next = f .readable;
+      count = pass .count;
+      on = pass .on;
+    }
+
+pub read-numbered : (kind : ℕ) (x : Bool) → x ≡ among 84 83 75 kind → x ≡ true → among 84 83 75 kind ≡ true
+read-numbered kind x is-x e = sym is-x ∙ e
+
+pub ruleset read-laws = (read-good, read-rest, read-is, read-numbers, read-numbered)

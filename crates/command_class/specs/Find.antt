@@ -64,6 +64,14 @@ pub record Tells (t : List ℕ) (l : Line) (r : Row) : Type 0 where
   pub kind : r .kind ≡ letter said
   pub says : Says said r
 
+-- a row tells what the line at the place p says
+pub record Numbers (t : List ℕ) (p : Place) (r : Row) : Type 0 where
+  pub said : Record
+  pub others : List Item
+  pub lines : from t p ≡ record { line = p .line; says = said } ∷ others
+  pub kind : r .kind ≡ letter said
+  pub says : Says said r
+
 -- the line at the place p, and the place after it
 pub record IsRead (t : List ℕ) (p : Place) (r : Read) : Type 0 where
   pub said : Record

@@ -6,6 +6,7 @@ use text::Line;
 use text::Optional;
 use text::Place;
 ghost use mathlib.Core.Path.{_≡_};
+ghost use mathlib.Core.Bool.{true, false};
 ghost use Prim.Native.Nat.{_<_};
 ghost use lib.ListN.{length};
 ghost use Rattle.text.specs.Text.{field, optional};
@@ -14,7 +15,7 @@ ghost use Rattle.text.specs.Records.{Readable};
 ghost use Rattle.command_text.specs.Form.{typeOf};
 ghost use Rattle.command_text.specs.Rules.{rules};
 ghost use Rattle.command_class.specs.Definition.{under, readAs, firstConst};
-ghost use Rattle.command_class.specs.Find.{from, Good, among, optionalOr, Tells, IsRead, Begins, Follows};
+ghost use Rattle.command_class.specs.Find.{from, Good, among, optionalOr, Tells, Numbers, IsRead, Begins, Follows};
 
 // What a line says, as numbers; 256 for a missing offset, mask or length, 0 where the line has no such number.
 pub struct Row {
@@ -135,57 +136,6 @@ fn read_array(text: &[u8], line: Line) -> Row
     }
 }
 
-// What a T line says.
-fn read_bit_flag(text: &[u8], line: Line) -> Row
-    requires { ⌜ (Good (now text) line) × (line .kind ≡ 84) ⌝ }
-    ensures { λ r. ⌜ Tells (now (text .entry)) line r ⌝ }
-{
-    Row {
-        kind: b'T',
-        level: 0,
-        typed: ParamType::Byte,
-        offset: 0,
-        mask: line.value(text, 1, 255),
-        shift: 0,
-        value: 0,
-        ascii: false,
-    }
-}
-
-// What an S line says, and a U line, which is read as one.
-fn read_bit_field(text: &[u8], line: Line) -> Row
-    requires { ⌜ (Good (now text) line) × (readAs (line .kind) ≡ 83) ⌝ }
-    ensures { λ r. ⌜ Tells (now (text .entry)) line r ⌝ }
-{
-    Row {
-        kind: b'S',
-        level: 0,
-        typed: ParamType::Byte,
-        offset: 0,
-        mask: line.value(text, 1, 255),
-        shift: line.optional_value(text, 2, 255),
-        value: 0,
-        ascii: false,
-    }
-}
-
-// What a K line says.
-fn read_const(text: &[u8], line: Line) -> Row
-    requires { ⌜ (Good (now text) line) × (line .kind ≡ 75) ⌝ }
-    ensures { λ r. ⌜ Tells (now (text .entry)) line r ⌝ }
-{
-    Row {
-        kind: b'K',
-        level: 0,
-        typed: ParamType::Byte,
-        offset: 0,
-        mask: 0,
-        shift: 0,
-        value: line.value(text, 1, 255),
-        ascii: false,
-    }
-}
-
 // What an M line says.
 fn read_bitmask(text: &[u8], line: Line) -> Row
     requires { ⌜ (Good (now text) line) × (line .kind ≡ 77) ⌝ }
@@ -203,9 +153,9 @@ fn read_bitmask(text: &[u8], line: Line) -> Row
     }
 }
 
-// What a line says.
+// What a line says that is no T, S or K.
 fn read_row(text: &[u8], line: Line) -> Row
-    requires { ⌜ Good (now text) line ⌝ }
+    requires { ⌜ (Good (now text) line) × (among 84 83 75 (readAs (line .kind)) ≡ false) ⌝ }
     ensures { λ r. ⌜ Tells (now (text .entry)) line r ⌝ }
 {
     let kind = line.kind;
@@ -214,24 +164,7 @@ fn read_row(text: &[u8], line: Line) -> Row
         b'G' => read_group(text, line),
         b'R' => read_variant(text, line),
         b'A' => read_array(text, line),
-        b'T' => read_bit_flag(text, line),
-        b'S' => read_bit_field(text, line),
-        b'U' => read_bit_field(text, line),
-        b'K' => read_const(text, line),
         _ => read_bitmask(text, line),
-    }
-}
-
-// The line at a place, and the place after it.
-pub fn read_at(text: &[u8], place: Place) -> Read
-    requires { ⌜ (Readable rules (now text) place) × (place .at < length (now text)) ⌝ }
-    ensures { λ r. ⌜ IsRead (now (text .entry)) place r ⌝ }
-{
-    let line = place.step(text);
-    let next = line.next;
-    Read {
-        row: read_row(text, line),
-        next,
     }
 }
 
@@ -246,6 +179,87 @@ pub fn kind_at(text: &[u8], place: Place) -> u8
         return b'S';
     }
     kind
+}
+
+// Is it a kind whose numbers stand in front of its name: a T, S or K?
+fn is_numbered(kind: u8) -> bool
+    ensures { λ r. ⌜ r ≡ among 84 83 75 kind ⌝ }
+{
+    if kind == b'T' {
+        return true;
+    }
+    if kind == b'S' {
+        return true;
+    }
+    kind == b'K'
+}
+
+// What a T, S or K line says. Of its fields only the numbers are looked for: they stand behind the kind, and a tab ends each.
+fn read_numbered(text: &[u8], place: Place, kind: u8) -> Row
+    requires { ⌜ (Readable rules (now text) place) × (place .at < length (now text)) × (Begins (now text) place kind) × (among 84 83 75 kind ≡ true) ⌝ }
+    ensures { λ r. ⌜ Numbers (now (text .entry)) place r ⌝ }
+{
+    let at = place.at + 2;
+    let rest = &text[at..];
+    let e = text::find(rest, 9);
+    let number = text::read_value(&rest[..e], 255);
+    if kind == b'K' {
+        return Row {
+            kind,
+            level: 0,
+            typed: ParamType::Byte,
+            offset: 0,
+            mask: 0,
+            shift: 0,
+            value: number,
+            ascii: false,
+        };
+    }
+    if kind == b'T' {
+        return Row {
+            kind,
+            level: 0,
+            typed: ParamType::Byte,
+            offset: 0,
+            mask: number,
+            shift: 0,
+            value: 0,
+            ascii: false,
+        };
+    }
+    let after = e + 1;
+    let more = &rest[after..];
+    let d = text::find(more, 9);
+    Row {
+        kind,
+        level: 0,
+        typed: ParamType::Byte,
+        offset: 0,
+        mask: number,
+        shift: text::read_optional_value(&more[..d], 255),
+        value: 0,
+        ascii: false,
+    }
+}
+
+// The line at a place, and the place after it.
+pub fn read_at(text: &[u8], place: Place) -> Read
+    requires { ⌜ (Readable rules (now text) place) × (place .at < length (now text)) ⌝ }
+    ensures { λ r. ⌜ IsRead (now (text .entry)) place r ⌝ }
+{
+    let kind = kind_at(text, place);
+    if is_numbered(kind) {
+        return Read {
+            row: read_numbered(text, place, kind),
+            next: place.pass(text),
+        };
+    }
+    let line = place.step(text);
+    let next = line.next;
+    Read {
+        row: read_row(text, line),
+        next,
+    }
 }
 
 // The place after the line at a place, of which only its end is looked for.
@@ -265,11 +279,11 @@ pub fn find_const(text: &[u8], start: Place, value: u16) -> usize
     while place.at < text.len() {
         let kind = kind_at(text, place);
         if kind == b'K' {
-            let line = place.step(text);
-            if line.value(text, 1, 255) == value {
+            let read = read_at(text, place);
+            if read.row.value == value {
                 return place.line;
             }
-            place = line.next;
+            place = read.next;
             continue;
         }
         if is_entry(kind) {

@@ -5,4 +5,14 @@ use Rattle.command_class.proofs.read_at.Statement.{statement}
 use Rattle.command_class.proofs.read_at.Tie as tie
 
 pub read-at-spec : {M : Type 1} → statement M
-read-at-spec = tie.close (tie.spec (λ c κs. search (needs, read-laws)) (λ c κs. search (needs, read-laws)) (λ c. search (needs, read-laws)))
+read-at-spec =
+    tie.close
+    (tie.spec
+    (λ c κs. search (needs, read-laws))
+    (λ c κs. search (needs, read-laws))
+    (λ c κs. search (needs, read-laws))
+    (λ c κs. search (needs, read-laws))
+    (λ c. search (needs, read-laws))
+    (λ c κs. search (needs, read-laws))
+    (λ c κs. search (needs, read-laws))
+    (λ c. search (needs, read-laws)))
