@@ -41,7 +41,7 @@ use Rattle.command.specs.declared.Params.{Params}
 use Rattle.command.specs.declared.Params.the-variants.{Rows, Refused}
 use Rattle.command_rules.proofs.Rows.{table-rows}
 use Rattle.command_rules.proofs.Bounds.{walk-most, walk-inside}
-use Rattle.command_rules.proofs.Sums.{walk-adds}
+use Rattle.command_rules.proofs.Wanting.{walk-adds}
 
 -- ---- one pass
 pub body-rows : (w : Walked) (t t′ : List ℕ) (r : Taken) (p : PayloadOffset) → Gives w t 0 t′ r → length (w .rows) ≤ length t / rowWidth
@@ -117,7 +117,7 @@ module _ (x payload t : List ℕ) where
     small = rw (definition-heads x) (accepted-small x accepted)
 
     -- demand 3, of the rows that stand in the table
-    sums : (a : Told) (t′ : List ℕ) → Fills (walk (bodyOf payload) (definition x)) t a t′ → AddsUp payload a t′
+    sums : (a : Told) (t′ : List ℕ) → Fills (walk (bodyOf payload) (definition x)) t a t′ → AddsUp (definition x) payload a t′
     unfolding within AddsUp
     sums a t′ f z = go (leb (length (walk (bodyOf payload) (definition x) .rows)) (length t / rowWidth)) (f .answer)
       where
@@ -125,7 +125,7 @@ module _ (x payload t : List ℕ) where
         rows = walk (bodyOf payload) (definition x) .rows
 
         go : (b : Bool) → a ≡ cond b (answered (length rows) (inPayload (walk (bodyOf payload) (definition x) .end))) (refused 8 (length rows))
-            → Adds (length payload) (rowsIn (a .rows) t′) (a .remainder)
+            → Adds (definition x) (length payload) (rowsIn (a .rows) t′) (a .remainder)
         go true q =
             let laid : t′ ≡ table t rows = rw z at (f .table-is) in
             rw (laid, q, table-rows t rows)

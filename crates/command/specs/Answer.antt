@@ -76,9 +76,9 @@ filled rs t a = cond (eqb (a .refusal) 0) (table t rs) t
 unfoldable pub tableAfter : List Entry → List ℕ → List ℕ → Told → List ℕ
 tableAfter ds payload t a = filled (walk (bodyOf payload) ds .rows) t a
 
--- C19, demand 3, of an answer: over the rows that stand in the table
-unfoldable pub AddsUp : List ℕ → Told → List ℕ → Type 0
-AddsUp payload a t′ = a .refusal ≡ 0 → Adds (length payload) (rowsIn (a .rows) t′) (a .remainder)
+-- C19, L4, demand 3, of an answer: over the rows that stand in the table
+unfoldable pub AddsUp : List Entry → List ℕ → Told → List ℕ → Type 0
+AddsUp ds payload a t′ = a .refusal ≡ 0 → Adds ds (length payload) (rowsIn (a .rows) t′) (a .remainder)
 
 -- what a walk answers, and leaves of the table t
 pub record Fills (w : Walked) (t : List ℕ) (a : Told) (t′ : List ℕ) : Type 0 where
@@ -89,10 +89,10 @@ pub record Fills (w : Walked) (t : List ℕ) (a : Told) (t′ : List ℕ) : Type
 pub record DecodesBy (text payload t : List ℕ) (a : Told) (t′ : List ℕ) : Type 0 where
   pub answer : a ≡ answerBy (definition text) payload (length t)
   pub table-is : t′ ≡ tableAfter (definition text) payload t a
-  pub adds : AddsUp payload a t′
+  pub adds : AddsUp (definition text) payload a t′
 
 -- C18: the same by any text
 pub record Decodes (text payload t : List ℕ) (a : Told) (t′ : List ℕ) : Type 0 where
   pub answer : a ≡ answerOf text payload (length t)
   pub table-is : t′ ≡ tableAfter (definition text) payload t a
-  pub adds : AddsUp payload a t′
+  pub adds : AddsUp (definition text) payload a t′

@@ -3,4 +3,5 @@ pub mod Children
 pub mod Bounds
 mod Budget
 pub mod Sums
+pub mod Wanting
 pub mod Rows

@@ -27,7 +27,7 @@ use Rattle.command_rules.proofs.Lengths.{size-all}
 use Rattle.command_rules.proofs.Bounds.{size-facts, walk-inside}
 
 -- ---- children of rows that stand together
-children-append : (c : ℕ) (a b : List Row) → childrenOf c (a ++ b) ≡ childrenOf c a ++ childrenOf c b
+pub children-append : (c : ℕ) (a b : List Row) → childrenOf c (a ++ b) ≡ childrenOf c a ++ childrenOf c b
 unfolding childrenOf
 children-append c [] b = refl
 children-append c (r ∷ a) b = go (eqb (r .parent) c) (children-append c a b)
@@ -37,7 +37,7 @@ children-append c (r ∷ a) b = go (eqb (r .parent) c) (children-append c a b)
     go true ih = ap (λ (l : List Row). r ∷ l) ih
     go false ih = ih
 
-neither : (c : ℕ) (a b : List Row) → childrenOf c a ≡ [] → childrenOf c b ≡ [] → childrenOf c (a ++ b) ≡ []
+pub neither : (c : ℕ) (a b : List Row) → childrenOf c a ≡ [] → childrenOf c b ≡ [] → childrenOf c (a ++ b) ≡ []
 neither c a b ea eb = children-append c a b ∙ rw (ea, eb) refl
 
 -- ---- rows that follow one another
@@ -51,17 +51,17 @@ unfolding AllParams
 params-append [] b h k = k
 params-append (r ∷ a) b h k = (h .0, params-append a b (h .1) k)
 
-follow-sum : (s e : ℕ) (rs : List Row) → Follow s rs e → s + bytes rs ≡ e
+pub follow-sum : (s e : ℕ) (rs : List Row) → Follow s rs e → s + bytes rs ≡ e
 unfolding Follow bytes
 follow-sum s e [] h = add-zero s ∙ h
 follow-sum s e (r ∷ rs) h = let ih = follow-sum (r .end) e rs (h .2) in let a = h .0 in let b = h .1 in omega arith
 
 -- ---- bit children
-unfoldable Leaves : ℕ → ℕ → List Row → Type 0
+unfoldable pub Leaves : ℕ → ℕ → List Row → Type 0
 Leaves p s [] = Unit {0}
 Leaves p s (r ∷ rs) = (r .kind ≡ 1) × (r .parent ≡ p) × (r .start ≡ s) × (r .end ≡ s + 1) × Leaves p s rs
 
-bits-leaves : (b p s : ℕ) (is : List Item) → Leaves p s (bitRows b p s is)
+pub bits-leaves : (b p s : ℕ) (is : List Item) → Leaves p s (bitRows b p s is)
 unfolding Leaves bitRows
 bits-leaves b p s [] = tt
 bits-leaves b p s (i ∷ is) = go (ofItem (bitValue b) (i .says)) (bits-leaves b p s is)
@@ -110,18 +110,18 @@ leaves-placed m p s (k ∷ ks) tail h l clear t =
     )
 
 -- ---- a Q: its own row and its bit children
-record Shape (rs : List Row) (at size n parent : ℕ) : Type 0 where
-  row : Row
-  kids : List Row
-  is : rs ≡ row ∷ kids
-  kind : row .kind ≡ 0
-  parent-is : row .parent ≡ parent
-  start : row .start ≡ inPayload at
-  end : row .end ≡ inPayload (at + size)
-  leaves : Leaves (n + 1) (inPayload at) kids
-  on : OnByte row kids
+pub record Shape (rs : List Row) (at size n parent : ℕ) : Type 0 where
+  pub row : Row
+  pub kids : List Row
+  pub is : rs ≡ row ∷ kids
+  pub kind : row .kind ≡ 0
+  pub parent-is : row .parent ≡ parent
+  pub start : row .start ≡ inPayload at
+  pub end : row .end ≡ inPayload (at + size)
+  pub leaves : Leaves (n + 1) (inPayload at) kids
+  pub on : OnByte row kids
 
-shape : (body : List ℕ) (q : Field) (es : List Earlier) (at : ℕ) (size : Length) (n parent : ℕ) → sizeAt body q es at ≡ Bytes size
+pub shape : (body : List ℕ) (q : Field) (es : List Earlier) (at : ℕ) (size : Length) (n parent : ℕ) → sizeAt body q es at ≡ Bytes size
     → Shape (paramRows body q at size n parent) at (size .taken) n parent
 unfolding paramRows
 shape body q es at size n parent there = go (eqb (length (bytesAt body at (size .taken))) 1) refl
@@ -162,11 +162,11 @@ shape body q es at size n parent there = go (eqb (length (bytesAt body at (size 
 
 module _ (rs : List Row) (at size n parent : ℕ) (w : Shape rs at size n parent) where
   -- whose children its rows are
-  param-none : (c : ℕ) → (parent ≡ c → ⊥) → (n + 1 ≡ c → ⊥) → childrenOf c rs ≡ []
+  pub param-none : (c : ℕ) → (parent ≡ c → ⊥) → (n + 1 ≡ c → ⊥) → childrenOf c rs ≡ []
   unfolding childrenOf
   param-none c d k = rw (w .is, ne-eqb (w .row .parent) c (λ z. d (sym (w .parent-is) ∙ z))) (leaves-none c (n + 1) (inPayload at) (w .kids) (w .leaves) k)
 
-  param-one : parent ≤ n → childrenOf parent rs ≡ w .row ∷ []
+  pub param-one : parent ≤ n → childrenOf parent rs ≡ w .row ∷ []
   unfolding childrenOf
   param-one h = rw (w .is, eq-eqb (w .row .parent) parent (w .parent-is))
       (ap (λ (l : List Row). w .row ∷ l) (leaves-none parent (n + 1) (inPayload at) (w .kids) (w .leaves) (λ z. omega arith)))
@@ -199,11 +199,11 @@ module _ (rs : List Row) (at size n parent : ℕ) (w : Shape rs at size n parent
       )
 
 -- ---- the members of a repetition
-record Inner (w : Walked) (at n parent : ℕ) : Type 0 where
-  none-other : (c : ℕ) → (parent ≡ c → ⊥) → c ≤ n → childrenOf c (w .rows) ≡ []
-  follow : parent ≤ n → Follow (inPayload at) (childrenOf parent (w .rows)) (inPayload (w .end))
-  params : parent ≤ n → AllParams (childrenOf parent (w .rows))
-  placed : (tail : List Row) → parent ≤ n → ((c : ℕ) → 0 < c → c ≤ n + length (w .rows) → childrenOf c tail ≡ [])
+pub record Inner (w : Walked) (at n parent : ℕ) : Type 0 where
+  pub none-other : (c : ℕ) → (parent ≡ c → ⊥) → c ≤ n → childrenOf c (w .rows) ≡ []
+  pub follow : parent ≤ n → Follow (inPayload at) (childrenOf parent (w .rows)) (inPayload (w .end))
+  pub params : parent ≤ n → AllParams (childrenOf parent (w .rows))
+  pub placed : (tail : List Row) → parent ≤ n → ((c : ℕ) → 0 < c → c ≤ n + length (w .rows) → childrenOf c tail ≡ [])
       → Placed (n + length (w .rows)) tail → Placed n (w .rows ++ tail)
 
 inner-end : (at n parent : ℕ) → Inner (ended at) at n parent
@@ -230,7 +230,7 @@ inner-more rs at size n parent w s byte rest =
           (rest .placed tail (omega arith) (λ c u v. clear c u (omega (arith, all))) (rw all at t)));
     }
 
-inner-members : (body : List ℕ) (qs : List Parameter) (at : ℕ) (es : List Earlier) (n parent : ℕ) → Inner (members body qs at es n parent) at n parent
+pub inner-members : (body : List ℕ) (qs : List Parameter) (at : ℕ) (es : List Earlier) (n parent : ℕ) → Inner (members body qs at es n parent) at n parent
 unfolding members
 inner-members body [] at es n parent = inner-end at n parent
 inner-members body (q ∷ qs) at es n parent =
@@ -253,10 +253,10 @@ inner-members body (q ∷ qs) at es n parent =
     go Missing e more = inner-end at n parent
 
 -- ---- what stands in the outer list
-record Outermost (w : Walked) (at n : ℕ) : Type 0 where
-  none-other : (c : ℕ) → 0 < c → c ≤ n → childrenOf c (w .rows) ≡ []
-  follow : Follow (inPayload at) (childrenOf 0 (w .rows)) (inPayload (w .end))
-  placed : (tail : List Row) → ((c : ℕ) → 0 < c → c ≤ n + length (w .rows) → childrenOf c tail ≡ []) → Placed (n + length (w .rows)) tail
+pub record Outermost (w : Walked) (at n : ℕ) : Type 0 where
+  pub none-other : (c : ℕ) → 0 < c → c ≤ n → childrenOf c (w .rows) ≡ []
+  pub follow : Follow (inPayload at) (childrenOf 0 (w .rows)) (inPayload (w .end))
+  pub placed : (tail : List Row) → ((c : ℕ) → 0 < c → c ≤ n + length (w .rows) → childrenOf c tail ≡ []) → Placed (n + length (w .rows)) tail
       → Placed n (w .rows ++ tail)
 
 outermost-end : (at n : ℕ) → Outermost (ended at) at n
@@ -288,7 +288,7 @@ module _ (line k at n : ℕ) (m : Walked) (inside : Inner m at (n + 1) (n + 1)) 
   unfolding childrenOf repetitionRow
   repetition-none c d h = rw (ne-eqb 0 c (λ z. omega arith)) (inside .none-other c (λ z. omega arith) (omega arith))
 
-  repetition-one : childrenOf 0 (repetitionRow line at (m .end) k ∷ m .rows) ≡ repetitionRow line at (m .end) k ∷ []
+  pub repetition-one : childrenOf 0 (repetitionRow line at (m .end) k ∷ m .rows) ≡ repetitionRow line at (m .end) k ∷ []
   unfolding childrenOf repetitionRow
   repetition-one = ap (λ (l : List Row). record {
     kind = 2;
@@ -374,7 +374,7 @@ outermost-group g w at n a b =
           (b .placed tail (λ c u v. clear c u (omega (arith, all))) (rw all at t)));
     }
 
-outermost : (body : List ℕ) (ds : List Entry) (at : ℕ) (es : List Earlier) (n : ℕ) → Outermost (outer body ds at es n) at n
+pub outermost : (body : List ℕ) (ds : List Entry) (at : ℕ) (es : List Earlier) (n : ℕ) → Outermost (outer body ds at es n) at n
 unfolding outer groupAt
 outermost body [] at es n = outermost-end at n
 outermost body (single q ∷ ds) at es n = go (sizeAt body (fieldOf q) es at) refl (λ at′ es′ n′. outermost body ds at′ es′ n′)
@@ -483,7 +483,7 @@ cut-repetitions body line qs (suc most) k at n =
         by true = cut-append (2 + length body) (repetitionRow line at (m .end) k ∷ m .rows) _ (cut-repetition (2 + length body) line at (m .end) k (m .rows) h) (more m)
         by false = cut-none (2 + length body)
 
-cut-outer : (body : List ℕ) (ds : List Entry) (at : ℕ) (es : List Earlier) (n : ℕ) → CutAtEnd (2 + length body) (outer body ds at es n .rows)
+pub cut-outer : (body : List ℕ) (ds : List Entry) (at : ℕ) (es : List Earlier) (n : ℕ) → CutAtEnd (2 + length body) (outer body ds at es n .rows)
 unfolding outer groupAt
 cut-outer body [] at es n = cut-none (2 + length body)
 cut-outer body (single q ∷ ds) at es n = go (sizeAt body (fieldOf q) es at) refl (λ at′ es′ n′. cut-outer body ds at′ es′ n′)
@@ -505,14 +505,3 @@ cut-outer body (repeated line g qs ∷ ds) at es n =
     (cut-repetitions body line qs (repeats (g .offset) (g .mask) (record { 0 = g .shift }) es (length body - at)) 0 at n)
     (cut-outer body ds (groupAt body line g qs es at n .end) (es ++ replicate (groupAt body line g qs es at n .times) NoValue)
     (n + length (groupAt body line g qs es at n .rows)))
-
--- ---- the whole command
-pub walk-adds : (body : List ℕ) (ds : List Entry) (size : ℕ) → SmallEntries ds → size ≡ 2 + length body
-    → Adds size (walk body ds .rows) (inPayload (walk body ds .end))
-unfolding walk Placed childrenOf
-walk-adds body ds size small is =
-    let o = outermost body ds 0 [] 0 in
-    let inside = walk-inside body ds small in
-    let f : Follow 2 (childrenOf 0 (outer body ds 0 [] 0 .rows)) (inPayload (outer body ds 0 [] 0 .end)) = o .follow in
-    let s = follow-sum 2 (inPayload (outer body ds 0 [] 0 .end)) (childrenOf 0 (outer body ds 0 [] 0 .rows)) f in
-    record { follow = f; sum = omega arith; placed = rw append-nil at (o .placed [] (λ c u v. refl) tt); cut = rw is (cut-outer body ds 0 [] 0) }

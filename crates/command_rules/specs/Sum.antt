@@ -1,9 +1,14 @@
 -- C19 and L4 (docs/RULES.md): each byte of an answered command stands in one outer row or in the remainder, and each row lies where its parent does.
 use mathlib.Core.Bool.{cond}
 use mathlib.Core.Path.{_≡_}
-use mathlib.Core.List.{List, [], _∷_}
-use Prim.Native.Nat.{ℕ, zero, suc, _+_, _-_, _≤_, _<_}
+use mathlib.Core.List.{List, [], _∷_, _++_, map, List·Memᴰ}
+use Prim.Native.Nat.{ℕ, zero, suc, _+_, _-_, _%_, _≤_, _<_}
 use lib.Dec.{eqb}
+use Rattle.command_class.specs.Definition.{Parameter, Entry, single, repeated}
+use Rattle.command_rules.specs.Lengths.{wanted, Agrees}
+use Rattle.command_rules.specs.Field.{fieldOf}
+use Rattle.command_rules.specs.declared.Earlier.{Earlier}
+use Rattle.command_rules.specs.declared.Earlier.the-variants.{Value, NoValue}
 use Rattle.command_rules.specs.declared.Row.{Row}
 
 -- the rows with this parent; 0 for those of the outer list
@@ -47,9 +52,34 @@ unfoldable pub CutAtEnd : ℕ → List Row → Type 0
 CutAtEnd size [] = Unit {0}
 CutAtEnd size (r ∷ rs) = (0 < r .lacking → (r .kind ≡ 0) × (r .end ≡ size)) × CutAtEnd size rs
 
+-- C2: the entry that an answered row is for those after it
+abbrev pub entryIn : Row → Earlier
+entryIn r = cond (eqb (r .valued) 1) (Value (r .value % 256)) NoValue
+
+-- the Qs of a definition
+unfoldable pub paramsOf : List Entry → List Parameter
+paramsOf [] = []
+paramsOf (single q ∷ ds) = q ∷ paramsOf ds
+paramsOf (repeated line g qs ∷ ds) = qs ++ paramsOf ds
+
+-- L4: the row r stands on the line of a Q, and its bytes and those that it lacks are what that Q wants by the entries of its list, which are the
+-- rows before with the same parent
+pub record Meets (ds : List Entry) (before : List Row) (r : Row) : Type 0 where
+  pub param : Parameter
+  pub stands : List·Memᴰ param (paramsOf ds)
+  pub line : r .line ≡ param .line
+  pub agrees : Agrees (wanted (fieldOf param .rule) (map entryIn (childrenOf (r .parent) before)))
+      (record { taken = r .end - r .start; lacking = r .lacking })
+
+-- L4: so does each parameter's row, behind the rows before
+unfoldable pub AllMeet : List Entry → List Row → List Row → Type 0
+AllMeet ds before [] = Unit {0}
+AllMeet ds before (r ∷ rs) = (r .kind ≡ 0 → Meets ds before r) × AllMeet ds (before ++ (r ∷ [])) rs
+
 -- C19, demand 3: the outer rows follow one another from the body's start to the remainder, and all bytes add up
-pub record Adds (size : ℕ) (rows : List Row) (remainder : ℕ) : Type 0 where
+pub record Adds (ds : List Entry) (size : ℕ) (rows : List Row) (remainder : ℕ) : Type 0 where
   pub follow : Follow 2 (childrenOf 0 rows) remainder
   pub sum : bytes (childrenOf 0 rows) + (size - remainder) ≡ size - 2
   pub placed : Placed 0 rows
   pub cut : CutAtEnd size rows
+  pub met : AllMeet ds [] rows

@@ -17,5 +17,5 @@ pub same-rows : (t payload table : List ℕ) (r : Told) (table′ : List ℕ) �
 same-rows t payload table r table′ d = record {
   answer = rw (same-answer t payload (length table)) at (d .answer);
   table-is = rw (tidied-definition t) at (d .table-is);
-  adds = d .adds;
+  adds = rw (tidied-definition t) at (d .adds);
 }
