@@ -345,11 +345,15 @@ class Entry:
     children: list[Entry] = field(default_factory=list)
 
 
+def entry_at(entries, offset):
+    """The entry at an offset: None where there is no such entry."""
+    return entries[offset] if offset < len(entries) else None
+
+
 def low_byte(entries, offset):
     """The low byte of the entry at an offset: None where there is no such entry or it has no value."""
-    if offset >= len(entries) or entries[offset].value is None:
-        return None
-    return entries[offset].value & 0xFF
+    entry = entry_at(entries, offset)
+    return None if entry is None or entry.value is None else entry.value & 0xFF
 
 
 def condition_holds(q, entries):
@@ -371,7 +375,7 @@ def length_of(q, entries, remain):
     if variant is None:
         return remain
     offset, mask = int(variant[0]), int(variant[1])
-    if offset == END or mask == 0 or offset >= len(entries):
+    if offset == END or mask == 0 or entry_at(entries, offset) is None:
         return remain
     return min(((low_byte(entries, offset) or 0) & mask) >> (number_given(variant[2]) or 0), remain)
 
@@ -431,20 +435,24 @@ def repetitions(g, payload, at, entries):
     return out
 
 
-def decode_command(text, payload):
-    """The entries answered, and where the remainder starts in the payload."""
+def decode_command(text, payload, by_position=False):
+    """The entries answered, and where the remainder starts in the payload. What offsets find is the entries answered; or by
+    position what each Q of the text is, None for one that is not there and for a group (D of docs/RULES.md)."""
     if len(payload) > 2048:
         raise Refused(4, len(payload))
     if len(payload) < 2:
         raise Refused(5, len(payload))
-    entries = []
+    entries, positions = [], []
     at = 2
     for line in text:
+        before = positions if by_position else entries
         if isinstance(line, G):
-            found = repetitions(line, payload, at, entries)
+            found = repetitions(line, payload, at, before)
+            positions.append(None)
         else:
-            parameter = read_parameter(line, payload, at, entries)
+            parameter = read_parameter(line, payload, at, before)
             found = [] if parameter is None else [parameter]
+            positions.append(parameter)
         entries += found
         at = found[-1].end if found else at
     return entries, at

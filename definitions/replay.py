@@ -57,7 +57,7 @@ def answered_header(answer):
 
 
 def answered_command(answer):
-    """A `command` answer: where the remainder starts, and the rows, each cut to the nine numbers of C16 (docs/RULES.md)."""
+    """A `command` or `commandby` answer: where the remainder starts, and the rows, each cut to the nine numbers of C16 (docs/RULES.md)."""
     word, rows, start, *numbers = answer.split(" ")
-    assert word == "command", answer
+    assert word in ("command", "commandby"), answer
     return int(start), [row[:9] for row in in_rows(numbers, int(rows))]

@@ -157,9 +157,10 @@ typedef struct {
 /* The parameters of a command, whose payload starts with its class and command bytes, a row each: 0 for a parameter, 1 for some bits of one,
  * 2 for a repetition of a group; its line in the text, from 1; its parent's row + 1, or 0; where it starts and ends in the payload; 1 if it
  * has a value, else 0; the value, or 0; the line of the K that names it, or 0; which repetition it is, from 0; how many bytes it wanted that
- * are not there (C16, L3). Refuses by 1 to 5 and 8. */
-TapParams tap_decode_params(const uint8_t *text, size_t text_length, const uint8_t *payload, size_t payload_length, uint64_t *rows,
-                            size_t rows_length);
+ * are not there (C16, L3). Offsets of the text count over the entries answered so far, or, if by_position, over the Qs and Gs of the text
+ * (D1). Refuses by 1 to 5 and 8. */
+TapParams tap_decode_params(const uint8_t *text, size_t text_length, const uint8_t *payload, size_t payload_length, bool by_position,
+                            uint64_t *rows, size_t rows_length);
 
 #ifdef __cplusplus
 }

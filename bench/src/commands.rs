@@ -2,7 +2,7 @@
 
 use oracle::definition;
 use oracle::definition::command::CommandDefinition;
-use oracle::reading::command::decode_params;
+use oracle::reading::command::{Offsets, decode_params};
 use zniff_core::decoder::command_class::schema;
 
 pub struct Command {
@@ -76,6 +76,6 @@ impl Command {
     }
 
     pub fn rows(&self) -> usize {
-        decode_params(&self.definition, &self.payload).expect("an answer").rows.len()
+        decode_params(&self.definition, &self.payload, Offsets::Answered).expect("an answer").rows.len()
     }
 }

@@ -66,7 +66,7 @@ static void print_numbers(const char *what, const uint64_t *row, int count) {
 }
 
 static void show_command(const uint8_t *bytes, size_t length, size_t text_length) {
-    TapParams params = tap_decode_params(command_text, text_length, bytes, length, command_rows, sizeof command_rows / sizeof *command_rows);
+    TapParams params = tap_decode_params(command_text, text_length, bytes, length, false, command_rows, sizeof command_rows / sizeof *command_rows);
     if (params.refusal) {
         printf("  command ");
         print_refusal(params.refusal, params.value);

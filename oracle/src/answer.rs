@@ -9,10 +9,11 @@ use crate::definition::command::CommandDefinition;
 use crate::definition::frame::FrameDefinition;
 use crate::definition::{self, Definition};
 use crate::limits::{self, within};
+use crate::reading::command::Offsets;
 use crate::reading::pti::{Frame, region_bits};
 use crate::refusal::Refusal;
 use crate::request::{Request, push_hex};
-use crate::rows::{LACKING, within_table};
+use crate::rows::{self, LACKING, within_table};
 use crate::{reading, source};
 
 /// An answer, without its 0x0A.
@@ -59,7 +60,12 @@ pub fn full_answer(line: &[u8]) -> Answer {
             return header(*cap, *region, *speed, text, mpdu)
                 .unwrap_or_else(|refusal| Err(refusal).into());
         }
-        Request::Command { cap, text, payload } => command(*cap, text, payload),
+        Request::Command { cap, text, payload } => {
+            command("command", Offsets::Answered, *cap, text, payload)
+        }
+        Request::Commandby { offsets, cap, text, payload } => {
+            command("commandby", *offsets, *cap, text, payload)
+        }
         Request::Bits { place, width, bytes } => Ok(bits(*place, *width, bytes)),
         Request::Checksum { speed, mpdu } => Ok(checksum(*speed, mpdu)),
         Request::Tidy { cap, text } => tidy(*cap, text),
@@ -199,17 +205,34 @@ fn header(cap: u64, region: u64, speed: u64, text: &[u8], mpdu: &[u8]) -> Result
     Ok(Answer { is_past_the_rust, ..answer.into() })
 }
 
-/// The Rust's answer, with what each row lacks by the second reading.
-fn command(cap: u64, text: &[u8], payload: &[u8]) -> Result<String, Refusal> {
+/// By the offsets of document 01 the Rust's answer, with what each row lacks by the second reading; by
+/// position the second reading's.
+fn command(
+    word: &str,
+    offsets: Offsets,
+    cap: u64,
+    text: &[u8],
+    payload: &[u8],
+) -> Result<String, Refusal> {
     let definition: CommandDefinition = definition::read(text)?;
     within(limits::COMMAND, payload)?;
-    let mut command = source::command::decode_params(&definition, payload)?;
-    let read = reading::command::decode_params(&definition, payload)?;
+    let read = reading::command::decode_params(&definition, payload, offsets)?;
+    let command = match offsets {
+        Offsets::Answered => {
+            with_lacking(source::command::decode_params(&definition, payload)?, &read)
+        }
+        Offsets::Position => read,
+    };
+    within_table(&command.rows, cap)?;
+    Ok(format!("{word} {command}"))
+}
+
+/// The rows, with what each lacks by those of another reading.
+fn with_lacking(mut command: rows::Command, read: &rows::Command) -> rows::Command {
     for (row, read) in command.rows.iter_mut().zip(&read.rows) {
         row[LACKING] = read[LACKING];
     }
-    within_table(&command.rows, cap)?;
-    Ok(command.to_string())
+    command
 }
 
 /// The Rust sums place and width in 64 bits. Where that would wrap no bits stand, so the reader

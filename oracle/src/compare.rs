@@ -186,7 +186,7 @@ impl Tally {
 fn sort_of(answer: &Answer) -> String {
     let words: Vec<&str> = answer.line.split(' ').collect();
     let sort = match words[..] {
-        ["header", _, _, _, _, _, rows, ..] | ["command", rows, ..] => {
+        ["header", _, _, _, _, _, rows, ..] | ["command" | "commandby", rows, ..] => {
             format!("{} of {} rows", words[0], about(rows))
         }
         [first @ ("refused" | "bad"), second, ..] => format!("{first} {second}"),

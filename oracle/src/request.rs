@@ -2,6 +2,7 @@
 //! without leading zeros; bytes are pairs of lower-case hex digits, or `-` for none.
 
 use crate::limits;
+use crate::reading::command::Offsets;
 
 /// A request that has the form of one.
 #[derive(Debug, Clone, PartialEq, Eq)]
@@ -19,6 +20,7 @@ pub enum Request {
     Commandtext { text: Vec<u8> },
     Header { cap: u64, region: u64, speed: u64, text: Vec<u8>, mpdu: Vec<u8> },
     Command { cap: u64, text: Vec<u8>, payload: Vec<u8> },
+    Commandby { offsets: Offsets, cap: u64, text: Vec<u8>, payload: Vec<u8> },
     Bits { place: u64, width: u64, bytes: Vec<u8> },
     Checksum { speed: u64, mpdu: Vec<u8> },
     Tidy { cap: u64, text: Vec<u8> },
@@ -60,6 +62,12 @@ impl Request {
                 text: words.bytes()?,
                 payload: words.bytes()?,
             },
+            b"commandby" => Request::Commandby {
+                offsets: words.offsets()?,
+                cap: words.cap()?,
+                text: words.bytes()?,
+                payload: words.bytes()?,
+            },
             b"bits" => Request::Bits {
                 place: words.number()?,
                 width: words.number()?,
@@ -95,6 +103,9 @@ impl Request {
                 ("header", vec![*cap, *region, *speed], vec![text, mpdu])
             }
             Request::Command { cap, text, payload } => ("command", vec![*cap], vec![text, payload]),
+            Request::Commandby { offsets, cap, text, payload } => {
+                ("commandby", vec![*offsets as u64, *cap], vec![text, payload])
+            }
             Request::Bits { place, width, bytes } => ("bits", vec![*place, *width], vec![bytes]),
             Request::Checksum { speed, mpdu } => ("checksum", vec![*speed], vec![mpdu]),
             Request::Tidy { cap, text } => ("tidy", vec![*cap], vec![text]),
@@ -161,6 +172,15 @@ impl<'a, W: Iterator<Item = &'a [u8]>> Words<W> {
     fn by(&mut self) -> Option<u64> {
         let firmware = self.number()?;
         (self.number()? == 0).then_some(firmware)
+    }
+
+    /// `MODE`: 0 or 1.
+    fn offsets(&mut self) -> Option<Offsets> {
+        match self.number()? {
+            0 => Some(Offsets::Answered),
+            1 => Some(Offsets::Position),
+            _ => None,
+        }
     }
 
     /// The length of a byte buffer.

@@ -25,7 +25,7 @@ pub struct Header {
     pub rows: Vec<HeaderRow>,
 }
 
-/// C18: the answer, with its rows.
+/// C18: the answer, with its rows. It is shown without its word.
 #[derive(Debug, Clone, PartialEq, Eq)]
 pub struct Command {
     pub remainder: usize,
@@ -46,7 +46,7 @@ impl Display for Header {
 
 impl Display for Command {
     fn fmt(&self, f: &mut fmt::Formatter<'_>) -> fmt::Result {
-        write!(f, "command {} {}", self.rows.len(), self.remainder)?;
+        write!(f, "{} {}", self.rows.len(), self.remainder)?;
         write_rows(f, &self.rows)
     }
 }

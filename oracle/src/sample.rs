@@ -3,6 +3,7 @@
 use crate::generate::{FAULTS, Generator, spoil};
 use crate::limits;
 use crate::random::Random;
+use crate::reading::command::Offsets;
 use crate::request::{Request, push_hex};
 use crate::shape::{Body, LONGEST_BODY, PAIRS_BY_RATE, PAIRS_OF_FIVE_BITS, enclose};
 
@@ -10,7 +11,8 @@ use crate::shape::{Body, LONGEST_BODY, PAIRS_BY_RATE, PAIRS_OF_FIVE_BITS, enclos
 const DRAWN: usize = 2_000;
 const DRAWN_LENGTH: usize = 300;
 /// The same of each walk, whose requests have a text.
-const WALKS: &[(&str, usize, usize)] = &[("header", 300, 1_600), ("command", 300, 800)];
+const WALKS: &[(&str, usize, usize)] =
+    &[("header", 300, 1_600), ("command", 300, 800), ("commandby", 200, 800)];
 
 /// The sample of a seed, line by line: requests of those kinds, and lines that are no request.
 pub fn sample(seed: u64, kinds: &str) -> Result<Vec<Vec<u8>>, String> {
@@ -143,6 +145,10 @@ fn bad_lines() -> Vec<Vec<u8>> {
         b"command 16385 - -",
         b"command 1 - 0",
         b"command 1 0 - -",
+        b"commandby 2 1 - -",
+        b"commandby 1 -",
+        b"commandby 0 16385 - -",
+        b"commandby 01 1 - -",
         b"\xff\xfe",
     ];
     lines.iter().map(|line| line.to_vec()).collect()
@@ -376,16 +382,27 @@ fn about_headers() -> Vec<Request> {
 /// passed, entries 254 and 255, and more rows than the largest table has: each byte a repetition
 /// with a Q of 32 bits.
 fn about_commands() -> Vec<Request> {
+    use Offsets::{Answered, Position};
     let command = |cap: u64, text: &str, payload: Vec<u8>| Request::Command {
         cap,
         text: text.replace('|', "\t").into_bytes(),
         payload,
     };
+    let by = |offsets: Offsets, text: &str, payload: &[u8]| Request::Commandby {
+        offsets,
+        cap: limits::CAP,
+        text: text.replace('|', "\t").into_bytes(),
+        payload: payload.to_vec(),
+    };
+    let both =
+        |text: &str, payload: &[u8]| [by(Answered, text, payload), by(Position, text, payload)];
     let one = "Q|0|ARRAY|a|-|-\n";
     let bits = "T|1|a\n".repeat(limits::PARAM_ITEMS);
     let most = format!("G|g|255|1|0\nQ|1|BYTE|a|-|-\n{bits}");
     let (text, payload) = entries_254_and_255();
-    vec![
+    let by_offsets = OFFSETS.iter().flat_map(|(text, payload)| both(text, payload));
+    let at_254 = both(text, &payload);
+    let commands = vec![
         command(1, one, vec![0xA5; limits::COMMAND]),
         command(1, one, vec![0xA5; limits::COMMAND + 1]),
         command(limits::CAP, one, vec![0xA5; 3]),
@@ -394,12 +411,55 @@ fn about_commands() -> Vec<Request> {
         command(34, &most, vec![0xA5; 3]),
         command(33, &most, vec![0xA5; 3]),
         command(limits::CAP, &most, vec![0xA5; limits::COMMAND]),
-    ]
+    ];
+    commands.into_iter().chain(by_offsets).chain(at_254).collect()
 }
+
+/// A text and a payload for each kind of place where offsets by position find another entry than those
+/// of document 01, and for each that is not found: an absent Q before a length, a condition and a count;
+/// a group before these; the Q itself, one behind it; a Q without a value; a group's members. | stands
+/// for a tab.
+pub const OFFSETS: &[(&str, &[u8])] = &[
+    (
+        "Q|0|BYTE|a|-|-\nQ|0|BYTE|b|0|128\nQ|0|BYTE|c|-|-\nQ|0|VARIANT|d|-|-\nR|2|255|-|0\n",
+        &[0x20, 1, 1, 2, 3, 4, 5],
+    ),
+    (
+        "Q|0|BYTE|a|-|-\nQ|0|BYTE|b|0|128\nQ|0|BYTE|c|-|-\nQ|0|BYTE|d|2|2\nQ|0|BYTE|e|1|2\n",
+        &[0x20, 1, 1, 2, 3, 4, 5],
+    ),
+    (
+        "Q|0|BYTE|a|-|-\nQ|0|BYTE|b|0|128\nQ|0|BYTE|c|-|-\nG|g|2|255|0\nQ|1|BYTE|m|-|-\n",
+        &[0x20, 1, 1, 2, 3, 4, 5],
+    ),
+    (
+        "Q|0|BYTE|n|-|-\nG|g|0|255|0\nQ|1|BYTE|m|-|-\nQ|0|BYTE|c|-|-\nQ|0|VARIANT|d|-|-\nR|2|255|-|0\n",
+        &[0x20, 1, 2, 7, 8, 1, 5, 6],
+    ),
+    (
+        "Q|0|BYTE|n|-|-\nG|g|0|255|0\nQ|1|BYTE|m|-|-\nQ|0|BYTE|c|-|-\nQ|0|BYTE|d|2|1\nQ|0|BYTE|e|1|1\n",
+        &[0x20, 1, 2, 7, 8, 1, 5, 6],
+    ),
+    (
+        "Q|0|BYTE|n|-|-\nG|g|0|255|0\nQ|1|BYTE|m|-|-\nQ|0|BYTE|c|-|-\nG|h|2|255|0\nQ|1|BYTE|k|-|-\n",
+        &[0x20, 1, 2, 7, 8, 1, 5, 6],
+    ),
+    ("Q|0|BYTE|a|-|-\nQ|0|VARIANT|b|-|-\nR|1|255|-|0\n", &[0x20, 1, 1, 2, 3]),
+    ("Q|0|VARIANT|a|-|-\nR|1|255|-|0\nQ|0|BYTE|b|-|-\n", &[0x20, 1, 1, 2, 3]),
+    (
+        "Q|0|ARRAY|a|-|-\nA|9|0\nQ|0|BYTE|b|0|255\nQ|0|VARIANT|c|-|-\nR|0|255|-|0\n",
+        &[0x20, 1, 1, 2, 3, 4, 5, 6, 7, 8, 9, 10],
+    ),
+    (
+        "G|g|255|1|0\nQ|1|BYTE|n|-|-\nQ|1|VARIANT|m|-|-\nR|0|3|-|0\nQ|1|BYTE|k|0|4\n",
+        &[0x20, 1, 1, 9, 6, 8, 7, 5, 2, 0],
+    ),
+];
 
 /// Buffers of a text's length, a byte more and a byte less, the largest, and none.
 fn about_tidied() -> Vec<Request> {
-    let text = "Q|0|BYTE|U|-|-\nU|1|-|U\nS|2|1|U\nU|4|2|US\nK|0|U\n".replace('|', "\t").into_bytes();
+    let text =
+        "Q|0|BYTE|U|-|-\nU|1|-|U\nS|2|1|U\nU|4|2|US\nK|0|U\n".replace('|', "\t").into_bytes();
     let tidy = |cap: u64, text: &[u8]| Request::Tidy { cap, text: text.to_vec() };
     let length = text.len() as u64;
     vec![

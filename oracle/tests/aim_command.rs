@@ -6,7 +6,8 @@ use oracle::definition::command::{CmdItem, CommandDefinition, ItemKind, Param, V
 use oracle::definition::read;
 use oracle::generate::Generator;
 use oracle::reading::command::{
-    Entry, Walk, decode_params, first_a, first_m, first_r, length_if_it_exists, repetitions,
+    Found, Offsets, Walk, decode_params, first_a, first_m, first_r, found, length_if_it_exists,
+    repetitions,
 };
 use oracle::request::Request;
 use seen::Seen;
@@ -24,7 +25,7 @@ fn command_requests_reach_every_feature() {
         let Ok(definition) = read::<CommandDefinition>(&text) else {
             continue;
         };
-        let Ok(command) = decode_params(&definition, &payload) else {
+        let Ok(command) = decode_params(&definition, &payload, Offsets::Answered) else {
             continue;
         };
         let rows = command.rows.len() as u64;
@@ -44,7 +45,7 @@ fn command_requests_reach_every_feature() {
 }
 
 fn note_command(seen: &mut Seen, definition: &CommandDefinition, payload: &[u8]) {
-    let mut walk = Walk::new(&payload[2..]);
+    let mut walk = Walk::new(&payload[2..], Offsets::Answered);
     let mut lines = 0;
     for item in &definition.items {
         match item {
@@ -65,7 +66,7 @@ fn note_command(seen: &mut Seen, definition: &CommandDefinition, payload: &[u8])
 
 /// The members of a group, in its first repetition.
 fn note_members(seen: &mut Seen, group: &VariantGroup, body: &[u8]) {
-    let mut repetition = Walk::new(body);
+    let mut repetition = Walk::new(body, Offsets::Answered);
     for (place, q) in group.params.iter().enumerate() {
         let (entries, body) = (&repetition.entries, &repetition.body[repetition.place..]);
         note_param(seen, q, entries, body, "member");
@@ -81,7 +82,7 @@ fn note_members(seen: &mut Seen, group: &VariantGroup, body: &[u8]) {
 /// Takes the group.
 fn note_group(seen: &mut Seen, group: &VariantGroup, walk: &mut Walk) {
     let count = repetitions(group, &walk.entries);
-    let entry = walk.entries.get(usize::from(group.offset)).copied();
+    let entry = found(&walk.entries, group.offset);
     let (bytes, entries) = (walk.remaining(), walk.entries.len());
     walk.take_item(&CmdItem::VariantGroup(group.clone()));
     let taken = walk.entries.len() - entries;
@@ -105,7 +106,7 @@ fn note_group(seen: &mut Seen, group: &VariantGroup, walk: &mut Walk) {
 }
 
 /// A Q before which these entries are in its list, and which has these bytes before it.
-fn note_param(seen: &mut Seen, q: &Param, entries: &[Entry], body: &[u8], list: &str) {
+fn note_param(seen: &mut Seen, q: &Param, entries: &[Found], body: &[u8], list: &str) {
     let length = length_if_it_exists(q, entries, body.len());
     if !body.is_empty() {
         note_condition(seen, q, entries, length.is_some(), list);
@@ -121,7 +122,7 @@ fn note_param(seen: &mut Seen, q: &Param, entries: &[Entry], body: &[u8], list: 
     }
 }
 
-fn note_condition(seen: &mut Seen, q: &Param, entries: &[Entry], exists: bool, list: &str) {
+fn note_condition(seen: &mut Seen, q: &Param, entries: &[Found], exists: bool, list: &str) {
     let (offset, mask) = match (q.optional_offset, q.optional_mask) {
         (Some(offset), Some(mask)) => (offset, mask),
         (offset, mask) => {
@@ -130,7 +131,7 @@ fn note_condition(seen: &mut Seen, q: &Param, entries: &[Entry], exists: bool, l
             return;
         }
     };
-    let entry = entries.get(usize::from(offset)).copied();
+    let entry = found(entries, offset);
     let value = entry.flatten();
     seen.note(format!("condition of {list}: holds"), exists);
     seen.note(format!("condition of {list}: fails"), value.is_some() && mask > 0 && !exists);
@@ -141,7 +142,7 @@ fn note_condition(seen: &mut Seen, q: &Param, entries: &[Entry], exists: bool, l
     seen.note("condition: entry 254 or 255", value.is_some() && offset >= 254);
 }
 
-fn note_length(seen: &mut Seen, q: &Param, entries: &[Entry], left: usize, length: usize) {
+fn note_length(seen: &mut Seen, q: &Param, entries: &[Found], left: usize, length: usize) {
     let is_rest = length == left;
     seen.note("length: fixed, cut", q.param_type.fixed_len().is_some_and(|fixed| fixed > length));
     match q.param_type {
@@ -174,11 +175,11 @@ fn note_length(seen: &mut Seen, q: &Param, entries: &[Entry], left: usize, lengt
 /// A length by offset, mask and shift of an R; `is_rest`: it is all that is left.
 fn note_length_by_r(
     seen: &mut Seen,
-    entries: &[Entry],
+    entries: &[Found],
     (offset, mask, shift): (u8, u8, u8),
     is_rest: bool,
 ) {
-    let entry = entries.get(usize::from(offset)).copied();
+    let entry = found(entries, offset);
     seen.note("length: R, offset 255", offset == 255 && mask > 0);
     seen.note("length: R, mask 0", offset < 255 && mask == 0);
     if offset == 255 || mask == 0 {

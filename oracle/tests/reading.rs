@@ -2,15 +2,21 @@
 
 use oracle::answer::full_answer;
 use oracle::compare::agree;
+use oracle::definition::command::CommandDefinition;
 use oracle::definition::frame::{FrameDefinition, Param};
 use oracle::definition::read;
 use oracle::generate::Generator;
+use oracle::reading::command::{Offsets, decode_params};
 use oracle::reading::header::{Field, base_key, covered, decode_header, read_outer, value};
 use oracle::request::Request;
+use oracle::sample::OFFSETS;
 
 #[test]
 fn the_rust_answers_as_the_second_reading() {
-    assert!(agree(&Generator::new(2, "header,command,record,recordby,frames,framesby").unwrap(), 100_000));
+    assert!(agree(
+        &Generator::new(2, "header,command,commandby,record,recordby,frames,framesby").unwrap(),
+        100_000
+    ));
 }
 
 /// Demand 2's domain ends where a size or a bit place does not fit into 64 bits: elsewhere the Rust
@@ -70,4 +76,26 @@ fn ends_past_64_bits(params: &[Param], fields: &[Field], before: usize) -> bool 
         param.optional_path.as_ref().is_none_or(|path| value(fields, path).unwrap_or(0) > 0);
     let size = param.size_path.as_ref().and_then(|path| value(fields, path)).unwrap_or(0);
     is_wanted && covered(fields) as u128 + 8 * u128::from(size) > u128::from(u64::MAX)
+}
+
+/// D1 to D3, worked out by hand: the line, start and end of each row of the first six texts of `OFFSETS`, by
+/// position. An absent Q, then a group, before a length, a condition and a count.
+#[test]
+fn offsets_by_position_survive_what_is_absent() {
+    type Rows = &'static [[u64; 3]];
+    const ROWS: [Rows; 6] = [
+        &[[1, 2, 3], [3, 3, 4], [4, 4, 6]],
+        &[[1, 2, 3], [3, 3, 4], [4, 4, 5]],
+        &[[1, 2, 3], [3, 3, 4], [4, 4, 5], [5, 4, 5], [4, 5, 6], [5, 5, 6]],
+        &[[1, 2, 3], [2, 3, 4], [3, 3, 4], [2, 4, 5], [3, 4, 5], [4, 5, 6], [5, 6, 7]],
+        &[[1, 2, 3], [2, 3, 4], [3, 3, 4], [2, 4, 5], [3, 4, 5], [4, 5, 6], [5, 6, 7]],
+        &[[1, 2, 3], [2, 3, 4], [3, 3, 4], [2, 4, 5], [3, 4, 5], [4, 5, 6], [5, 6, 7], [6, 6, 7]],
+    ];
+    for ((text, payload), rows) in OFFSETS.iter().zip(ROWS) {
+        let text = text.replace('|', "\t").into_bytes();
+        let definition = read::<CommandDefinition>(&text).expect("an accepted text");
+        let command = decode_params(&definition, payload, Offsets::Position).expect("an answer");
+        let told: Vec<[u64; 3]> = command.rows.iter().map(|row| [row[1], row[3], row[4]]).collect();
+        assert_eq!(rows, told, "{}", text.escape_ascii());
+    }
 }

@@ -1,4 +1,5 @@
 // The parameter walk for the benchmark, as a static library: each call is made so many times, so that what it costs can be told from what comes before it.
+use command::Offsets;
 use command::Params;
 use command::decode_accepted;
 use command::decode_params;
@@ -8,6 +9,7 @@ ghost use mathlib.Core.Path.{_≡_};
 ghost use lib.ListN.{length};
 ghost use Rattle.text.specs.declared.Verdict.the-variants.{Accepted};
 ghost use Rattle.command_text.specs.Rules.{verdict};
+ghost use Rattle.command_rules.specs.declared.Offsets.the-variants.{Answered};
 ghost use Rattle.command.specs.Answer.{told, answerOf};
 ghost use Rattle.bench_commands.specs.Told.{inOne};
 
@@ -32,27 +34,27 @@ pub extern "C" fn bench_decode_params(
     rows: &mut [u64],
     times: u64,
 ) -> u64
-    ensures { λ r. ⌜ r ≡ inOne (answerOf (now (text .entry)) (now (payload .entry)) (length (now (rows .entry)))) ⌝ }
+    ensures { λ r. ⌜ r ≡ inOne (answerOf Answered (now (text .entry)) (now (payload .entry)) (length (now (rows .entry)))) ⌝ }
 {
     let mut k: u64 = 1;
     while k < times {
-        decode_params(text, payload, rows);
+        decode_params(text, payload, Offsets::Answered, rows);
         k += 1;
     }
-    tell(decode_params(text, payload, rows))
+    tell(decode_params(text, payload, Offsets::Answered, rows))
 }
 
 // The call by an accepted text.
 fn decode_often(text: &[u8], payload: &[u8], rows: &mut [u64], times: u64) -> u64
     requires { ⌜ verdict (now text) ≡ Accepted ⌝ }
-    ensures { λ r. ⌜ r ≡ inOne (answerOf (now (text .entry)) (now (payload .entry)) (length (now (rows .entry)))) ⌝ }
+    ensures { λ r. ⌜ r ≡ inOne (answerOf Answered (now (text .entry)) (now (payload .entry)) (length (now (rows .entry)))) ⌝ }
 {
     let mut k: u64 = 1;
     while k < times {
-        decode_accepted(text, payload, rows);
+        decode_accepted(text, payload, Offsets::Answered, rows);
         k += 1;
     }
-    tell(decode_accepted(text, payload, rows))
+    tell(decode_accepted(text, payload, Offsets::Answered, rows))
 }
 
 // The call by an accepted text, which is checked once.
@@ -63,7 +65,7 @@ pub extern "C" fn bench_decode_params_accepted(
     rows: &mut [u64],
     times: u64,
 ) -> u64
-    ensures { λ r. ⌜ r ≡ inOne (answerOf (now (text .entry)) (now (payload .entry)) (length (now (rows .entry)))) ⌝ }
+    ensures { λ r. ⌜ r ≡ inOne (answerOf Answered (now (text .entry)) (now (payload .entry)) (length (now (rows .entry)))) ⌝ }
 {
     match check_command_text(text) {
         Verdict::Accepted => decode_often(text, payload, rows, times),

@@ -28,6 +28,7 @@ use Rattle.command_schema.proofs.Heads.{definition-heads, heads-count}
 use Rattle.command_schema.proofs.Sizes.{heads-short}
 use Rattle.command_schema.proofs.Told.{entries-small, accepted-small}
 use Rattle.command_rules.specs.Rows.{rowWidth, table, rowsIn}
+use Rattle.command_rules.specs.declared.Offsets.{Offsets}
 use Rattle.command_rules.specs.declared.Row.{Row}
 use Rattle.command_rules.specs.Limits.{SmallEntries}
 use Rattle.command_rows.proofs.Laws.{written-full, written-table}
@@ -75,15 +76,15 @@ module _ (w : Walked) (t ys : List ℕ) (m : Taken) (first : Gives w [] 0 ys m) 
 pub body-part : (t : List ℕ) (n : ℕ) → n ≤ length t → n ≡ length (take n t)
 body-part t n h = sym (length-take-le n t h)
 
-pub body-inside : (x l body : List ℕ) (count : ℕ) (t t′ : List ℕ) (r : Taken) → IsLoaded x l count → length body < 65536
-    → Gives (walk body (entriesOf (headsOf x))) t 0 t′ r → r .end .0 < 2 ^ 32
-body-inside x l body count t t′ r loaded h w = let i = walk-inside body (entriesOf (headsOf x)) (entries-small x l count loaded) in let e =
+pub body-inside : (offsets : Offsets) (x l body : List ℕ) (count : ℕ) (t t′ : List ℕ) (r : Taken) → IsLoaded x l count → length body < 65536
+    → Gives (walk offsets body (entriesOf (headsOf x))) t 0 t′ r → r .end .0 < 2 ^ 32
+body-inside offsets x l body count t t′ r loaded h w = let i = walk-inside offsets body (entriesOf (headsOf x)) (entries-small x l count loaded) in let e =
     w .end in omega arith
 
 -- a byte has at most 34 rows
-pub body-sure : (x l body : List ℕ) (count : ℕ) (t : List ℕ) → IsLoaded x l count → length body * (34 * rowWidth) ≤ length t
-    → length (walk body (entriesOf (headsOf x)) .rows) ≤ length t / rowWidth
-body-sure x l body count t loaded h = let m = walk-most body (entriesOf (headsOf x)) (entries-small x l count loaded) in omega arith
+pub body-sure : (offsets : Offsets) (x l body : List ℕ) (count : ℕ) (t : List ℕ) → IsLoaded x l count → length body * (34 * rowWidth) ≤ length t
+    → length (walk offsets body (entriesOf (headsOf x)) .rows) ≤ length t / rowWidth
+body-sure offsets x l body count t loaded h = let m = walk-most offsets body (entriesOf (headsOf x)) (entries-small x l count loaded) in omega arith
 
 pub ruleset body-laws = (body-rows, body-needs, body-fits, body-wrote, body-part, body-inside, body-sure)
 
@@ -95,12 +96,12 @@ pub loaded-short : (x l : List ℕ) → length x ≤ 240 → length l ≡ 48 * l
 loaded-short x l h size = let s = heads-short x in omega arith
 
 -- ---- by an accepted text
-module _ (x payload t : List ℕ) where
-  pub accepted-long : 2048 < length payload → DecodesBy x payload t (told (Refused (TooLong (length payload)))) t
+module _ (offsets : Offsets) (x payload t : List ℕ) where
+  pub accepted-long : 2048 < length payload → DecodesBy offsets x payload t (told (Refused (TooLong (length payload)))) t
   unfolding told answerBy tableAfter AddsUp
   accepted-long h = record { answer = rw (lt-ltb 2048 (length payload) h) refl; table-is = refl; adds = λ z. absurd (omega arith) }
 
-  pub accepted-short : length payload ≤ 2048 → length payload < 2 → DecodesBy x payload t (told (Refused (TooShort (length payload)))) t
+  pub accepted-short : length payload ≤ 2048 → length payload < 2 → DecodesBy offsets x payload t (told (Refused (TooShort (length payload)))) t
   unfolding told answerBy tableAfter AddsUp
   accepted-short h u =
       record { answer = rw (le-ltb 2048 (length payload) h, lt-ltb (length payload) 2 u) refl; table-is = refl; adds = λ z. absurd (omega arith) }
@@ -117,28 +118,28 @@ module _ (x payload t : List ℕ) where
     small = rw (definition-heads x) (accepted-small x accepted)
 
     -- demand 3, of the rows that stand in the table
-    sums : (a : Told) (t′ : List ℕ) → Fills (walk (bodyOf payload) (definition x)) t a t′ → AddsUp (definition x) payload a t′
+    sums : (a : Told) (t′ : List ℕ) → Fills (walk offsets (bodyOf payload) (definition x)) t a t′ → AddsUp offsets (definition x) payload a t′
     unfolding within AddsUp
-    sums a t′ f z = go (leb (length (walk (bodyOf payload) (definition x) .rows)) (length t / rowWidth)) (f .answer)
+    sums a t′ f z = go (leb (length (walk offsets (bodyOf payload) (definition x) .rows)) (length t / rowWidth)) (f .answer)
       where
         rows : List Row
-        rows = walk (bodyOf payload) (definition x) .rows
+        rows = walk offsets (bodyOf payload) (definition x) .rows
 
-        go : (b : Bool) → a ≡ cond b (answered (length rows) (inPayload (walk (bodyOf payload) (definition x) .end))) (refused 8 (length rows))
-            → Adds (definition x) (length payload) (rowsIn (a .rows) t′) (a .remainder)
+        go : (b : Bool) → a ≡ cond b (answered (length rows) (inPayload (walk offsets (bodyOf payload) (definition x) .end))) (refused 8 (length rows))
+            → Adds offsets (definition x) (length payload) (rowsIn (a .rows) t′) (a .remainder)
         go true q =
             let laid : t′ ≡ table t rows = rw z at (f .table-is) in
             rw (laid, q, table-rows t rows)
-            (walk-adds (bodyOf payload) (definition x) (length payload) small (let d = length-drop 2 payload in omega arith))
+            (walk-adds offsets (bodyOf payload) (definition x) (length payload) small (let d = length-drop 2 payload in omega arith))
         go false q = absurd (let e : a .refusal ≡ 8 = rw q refl in omega arith)
 
-    pub accepted-fills : (a : Told) (t′ : List ℕ) → Fills (walk (take (length payload - 2) (drop 2 payload)) (entriesOf (headsOf x))) t a t′
-        → DecodesBy x payload t a t′
+    pub accepted-fills : (a : Told) (t′ : List ℕ) → Fills (walk offsets (take (length payload - 2) (drop 2 payload)) (entriesOf (headsOf x))) t a t′
+        → DecodesBy offsets x payload t a t′
     unfolding answerBy tableAfter
     accepted-fills a t′ fills =
-        let is : walk (take (length payload - 2) (drop 2 payload)) (entriesOf (headsOf x)) ≡ walk (bodyOf payload) (definition x) =
+        let is : walk offsets (take (length payload - 2) (drop 2 payload)) (entriesOf (headsOf x)) ≡ walk offsets (bodyOf payload) (definition x) =
         rw (the-body, ← definition-heads x) refl in
-        let f : Fills (walk (bodyOf payload) (definition x)) t a t′ = subst (λ (w : Walked). Fills w t a t′) is fills in
+        let f : Fills (walk offsets (bodyOf payload) (definition x)) t a t′ = subst (λ (w : Walked). Fills w t a t′) is fills in
         record {
           answer = rw (le-ltb 2048 (length payload) long, le-ltb (length payload) 2 short) (f .answer);
           table-is = f .table-is;
@@ -148,17 +149,17 @@ module _ (x payload t : List ℕ) where
 pub ruleset accepted-laws = (loaded-all, loaded-short, accepted-long, accepted-short, accepted-room, accepted-fills)
 
 -- ---- by any text
-module _ (x payload t : List ℕ) (v : Verdict) (is-v : v ≡ verdict x) where
+module _ (offsets : Offsets) (x payload t : List ℕ) (v : Verdict) (is-v : v ≡ verdict x) where
   pub text-accepted : v ≡ Accepted → verdict x ≡ Accepted
   text-accepted e = sym is-v ∙ e
 
-  pub text-refused : (why : Refusal) → v ≡ NotAccepted why → Decodes x payload t (told (Refused why)) t
+  pub text-refused : (why : Refusal) → v ≡ NotAccepted why → Decodes offsets x payload t (told (Refused why)) t
   unfolding told answerOf tableAfter AddsUp
   text-refused why e =
       let n = eqb-false (numberOf why) 0 (numbered why) in
       record { answer = rw (← is-v, e) refl; table-is = rw (numbered why) refl; adds = λ z. absurd (n z) }
 
-  pub text-decoded : (a : Told) (t′ : List ℕ) → DecodesBy x payload t a t′ → v ≡ Accepted → Decodes x payload t a t′
+  pub text-decoded : (a : Told) (t′ : List ℕ) → DecodesBy offsets x payload t a t′ → v ≡ Accepted → Decodes offsets x payload t a t′
   unfolding answerOf
   text-decoded a t′ d e = record { answer = rw (← is-v, e) (d .answer); table-is = d .table-is; adds = d .adds }
 

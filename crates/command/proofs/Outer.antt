@@ -14,7 +14,6 @@ use Rattle.command_class.specs.Definition.{Parameter, Entry, single, repeated}
 use Rattle.command_lengths.specs.Entries.{entries}
 use Rattle.command_rules.specs.Lengths.{least, repeats}
 use Rattle.command_rules.specs.declared.Earlier.{Earlier}
-use Rattle.command_rules.specs.declared.Earlier.the-variants.{NoValue}
 use Rattle.command_rules.specs.declared.Size.the-variants.{Missing}
 use Rattle.command_lengths.proofs.Laws.{repeats-first}
 use Rattle.command_rules.specs.Field.{fieldOf}
@@ -28,26 +27,27 @@ use Rattle.command_rules.specs.Param.{sizeAt, paramRows, paramEntry}
 use Rattle.command_param.specs.Steps.{IsRead, ReadsParam}
 use Rattle.command_param.specs.declared.Param.{Param}
 use Rattle.command_param.specs.declared.Param.the-variants.{Read, Absent}
-use Rattle.command_rules.specs.Walk.{after, repetitions, groupAt, outer, walk}
-use Rattle.command_groups.specs.Steps.{Gives, GivesGroup}
+use Rattle.command_rules.specs.Walk.{after, repetitions, groupAt, unvalued, outer, walk}
+use Rattle.command_rules.specs.declared.Offsets.{Offsets}
+use Rattle.command_groups.specs.Steps.{Gives, GivesGroup, unvaluedKept, unvaluedHave}
 use Rattle.command_groups.specs.declared.Repeated.{Repeated}
-use Rattle.command_groups.proofs.Entries.{KeptFree, kept-part, kept-start, free-start, kept-push, free-push, kept-none}
+use Rattle.command_groups.proofs.Entries.{KeptFree, kept-part, kept-start, free-start, kept-push, free-push, kept-unvalued}
 use Rattle.command_rules.proofs.Bounds.{size-facts, repetitions-bound, walk-few}
 use Rattle.command_groups.proofs.Answers.{is-read, is-absent}
 
 -- what is left of the outer list, from loaded row j on
-pub record Outer (t body : List ℕ) (d₀ d kept : List ℕ) (have at next j : ℕ) : Type 0 where
+pub record Outer (offsets : Offsets) (t body : List ℕ) (d₀ d kept : List ℕ) (have at next j : ℕ) : Type 0 where
   pub es : List Earlier
   pub entries-are : KeptFree kept have es
-  pub rows : written d next (outer body (entriesOf (drop j (headsOf t))) at es next .rows) ≡ written d₀ 0 (walk body (entriesOf (headsOf t)) .rows)
-  pub count-is : next + length (outer body (entriesOf (drop j (headsOf t))) at es next .rows) ≡ length (walk body (entriesOf (headsOf t)) .rows)
-  pub end : outer body (entriesOf (drop j (headsOf t))) at es next .end ≡ walk body (entriesOf (headsOf t)) .end
-  pub few : length (walk body (entriesOf (headsOf t)) .rows) < 2 ^ 40
+  pub rows : written d next (outer offsets body (entriesOf (drop j (headsOf t))) at es next .rows) ≡ written d₀ 0 (walk offsets body (entriesOf (headsOf t)) .rows)
+  pub count-is : next + length (outer offsets body (entriesOf (drop j (headsOf t))) at es next .rows) ≡ length (walk offsets body (entriesOf (headsOf t)) .rows)
+  pub end : outer offsets body (entriesOf (drop j (headsOf t))) at es next .end ≡ walk offsets body (entriesOf (headsOf t)) .end
+  pub few : length (walk offsets body (entriesOf (headsOf t)) .rows) < 2 ^ 40
   pub inside : at ≤ length body
   pub same : length d ≡ length d₀
 
-module _ (t l body : List ℕ) (count : ℕ) (loaded : IsLoaded t l count) where
-  pub outer-start : (d₀ : List ℕ) → length body < 65536 → Outer t body d₀ d₀ (replicate 256 256) 0 0 0 0
+module _ (offsets : Offsets) (t l body : List ℕ) (count : ℕ) (loaded : IsLoaded t l count) where
+  pub outer-start : (d₀ : List ℕ) → length body < 65536 → Outer offsets t body d₀ d₀ (replicate 256 256) 0 0 0 0
   unfolding walk
   outer-start d₀ u =
       record {
@@ -56,12 +56,12 @@ module _ (t l body : List ℕ) (count : ℕ) (loaded : IsLoaded t l count) where
         rows = refl;
         count-is = rw zero-add refl;
         end = refl;
-        few = walk-few body (entriesOf (headsOf t)) (entries-small t l count loaded) u;
+        few = walk-few offsets body (entriesOf (headsOf t)) (entries-small t l count loaded) u;
         inside = omega arith;
         same = refl;
       }
 
-  module _ (d₀ d kept : List ℕ) (have : ℕ) (o : BodyOffset) (next j : ℕ) (g : Outer t body d₀ d kept have (o .0) next j) where
+  module _ (d₀ d kept : List ℕ) (have : ℕ) (o : BodyOffset) (next j : ℕ) (g : Outer offsets t body d₀ d kept have (o .0) next j) where
     pub outer-part : have ≡ length (take have kept)
     outer-part = kept-part kept (g .es) have (g .entries-are .kept-are)
 
@@ -77,7 +77,7 @@ module _ (t l body : List ℕ) (count : ℕ) (loaded : IsLoaded t l count) where
     pub outer-next-low : next < 2 ^ 50
     outer-next-low = let a = g .few in let b = g .count-is in omega arith
 
-    pub outer-end : count ≤ j → Gives (walk body (entriesOf (headsOf t))) d₀ 0 d (record { end = o; count = next })
+    pub outer-end : count ≤ j → Gives (walk offsets body (entriesOf (headsOf t))) d₀ 0 d (record { end = o; count = next })
     unfolding outer entriesOf
     outer-end h =
         let e : entriesOf (drop j (headsOf t)) ≡ [] = ap entriesOf (none-at t l count loaded j h) in
@@ -88,50 +88,51 @@ module _ (t l body : List ℕ) (count : ℕ) (loaded : IsLoaded t l count) where
         }
 
     -- nothing is taken
-    passed : (d′ : List ℕ) → d′ ≡ d → outer body (entriesOf (drop j (headsOf t))) (o .0) (g .es) next
-        ≡ outer body (entriesOf (drop (j + 1) (headsOf t))) (o .0) (g .es) next
-        → Outer t body d₀ d′ kept have (o .0) next (j + 1)
-    passed d′ ed e =
+    passed : (d′ : List ℕ) → d′ ≡ d → (kept′ : List ℕ) (have′ : ℕ) (es : List Earlier) → KeptFree kept′ have′ es
+        → outer offsets body (entriesOf (drop j (headsOf t))) (o .0) (g .es) next ≡ outer offsets body (entriesOf (drop (j + 1) (headsOf t))) (o .0) es next
+        → Outer offsets t body d₀ d′ kept′ have′ (o .0) next (j + 1)
+    passed d′ ed kept′ have′ es are e =
         rw ed (record {
-          es = g .es;
-          entries-are = g .entries-are;
+          es = es;
+          entries-are = are;
           rows = rw e at (g .rows);
           count-is = rw e at (g .count-is);
           end = rw e at (g .end);
-          few =
-              g .few;
+          few = g .few;
           inside = g .inside;
           same = g .same;
         })
 
     -- a Q
     module _ (p : Parameter) (rest : entriesOf (drop j (headsOf t)) ≡ single p ∷ entriesOf (drop (j + 1) (headsOf t))) where
-      absent : sizeAt body (fieldOf p) (g .es) (o .0) ≡ Missing → (d′ : List ℕ) → d′ ≡ d → Outer t body d₀ d′ kept have (o .0) next (j + 1)
+      absent : sizeAt body (fieldOf p) (g .es) (o .0) ≡ Missing → (d′ : List ℕ) → d′ ≡ d → (kept′ : List ℕ) (have′ : ℕ) → kept′ ≡ unvaluedKept offsets kept have
+          → have′ ≡ unvaluedHave offsets have 0 → Outer offsets t body d₀ d′ kept′ have′ (o .0) next (j + 1)
       unfolding outer
-      absent e d′ ed = passed d′ ed (rw (rest, e) refl)
+      absent e d′ ed kept′ have′ ek eh =
+          passed d′ ed kept′ have′ (g .es ++ unvalued offsets 0) (rw (ek, eh) (kept-unvalued offsets kept (g .es) have 0 (g .entries-are))) (rw (rest, e) refl)
 
       module _ (d′ : List ℕ) (e : BodyOffset) (y c : ℕ) (w : IsRead body (fieldOf p) (g .es) (o .0) next 0 d next d′ e y c) where
-        one-more : outer body (entriesOf (drop j (headsOf t))) (o .0) (g .es) next
+        one-more : outer offsets body (entriesOf (drop j (headsOf t))) (o .0) (g .es) next
             ≡ after (paramRows body (fieldOf p) (o .0) (w .size) next 0)
-            (outer body (entriesOf (drop (j + 1) (headsOf t))) (e .0) (g .es ++ (paramEntry body (o .0) (w .size .taken) ∷ [])) (next + c))
+            (outer offsets body (entriesOf (drop (j + 1) (headsOf t))) (e .0) (g .es ++ (paramEntry body (o .0) (w .size .taken) ∷ [])) (next + c))
         unfolding outer
         one-more = rw (rest, w .there, w .count, w .end) refl
 
         all-count : next + (length (paramRows body (fieldOf p) (o .0) (w .size) next 0) + length
-            (outer body (entriesOf (drop (j + 1) (headsOf t))) (e .0) (g .es ++ (paramEntry body (o .0) (w .size .taken) ∷ [])) (next + c) .rows))
-            ≡ length (walk body (entriesOf (headsOf t)) .rows)
+            (outer offsets body (entriesOf (drop (j + 1) (headsOf t))) (e .0) (g .es ++ (paramEntry body (o .0) (w .size .taken) ∷ [])) (next + c) .rows))
+            ≡ length (walk offsets body (entriesOf (headsOf t)) .rows)
         all-count = rw (one-more, length-append) at (g .count-is)
 
         small : Fits w64 (next + c)
         small = let a = g .few in let b = w .count in omega (arith, all-count)
 
         taken : (kept′ : List ℕ) (have′ : ℕ) → kept′ ≡ set kept have y → have′ ≡ least (have + 1) 256
-            → Outer t body d₀ d′ kept′ have′ (e .0) (next + c) (j + 1)
+            → Outer offsets t body d₀ d′ kept′ have′ (e .0) (next + c) (j + 1)
         taken kept′ have′ ek eh =
             let b = w .count in
             let r : written d next (paramRows body (fieldOf p) (o .0) (w .size) next 0
-            ++ outer body (entriesOf (drop (j + 1) (headsOf t))) (e .0) (g .es ++ (paramEntry body (o .0) (w .size .taken) ∷ [])) (next + c) .rows)
-            ≡ written d₀ 0 (walk body (entriesOf (headsOf t)) .rows) = rw one-more at (g .rows) in
+            ++ outer offsets body (entriesOf (drop (j + 1) (headsOf t))) (e .0) (g .es ++ (paramEntry body (o .0) (w .size .taken) ∷ [])) (next + c) .rows)
+            ≡ written d₀ 0 (walk offsets body (entriesOf (headsOf t)) .rows) = rw one-more at (g .rows) in
             let s : next + c ≡ next + length (paramRows body (fieldOf p) (o .0) (w .size) next 0) = omega arith in
             let f = size-facts body (fieldOf p) (g .es) (o .0) (w .size) (w .there) in
             let f1 = f .1 in
@@ -147,7 +148,7 @@ module _ (t l body : List ℕ) (count : ℕ) (loaded : IsLoaded t l count) where
               });
               rows = rw (w .rows)
                   (written-more d next (paramRows body (fieldOf p) (o .0) (w .size) next 0)
-                  (outer body (entriesOf (drop (j + 1) (headsOf t))) (e .0) (g .es ++ (paramEntry body (o .0) (w .size .taken) ∷ [])) (next + c) .rows)
+                  (outer offsets body (entriesOf (drop (j + 1) (headsOf t))) (e .0) (g .es ++ (paramEntry body (o .0) (w .size .taken) ∷ [])) (next + c) .rows)
                   (next + c) s ∙ r);
               count-is = omega (arith, all-count);
               end = rw one-more at (g .end);
@@ -160,15 +161,15 @@ module _ (t l body : List ℕ) (count : ℕ) (loaded : IsLoaded t l count) where
     module _ (h : Group) (line : ℕ) (rest : entriesOf (drop j (headsOf t))
         ≡ repeated line h (membersOf (drop (j + 1) (headsOf t))) ∷ entriesOf (drop (j + 1) (headsOf t))) (d′ : List ℕ) (r : Repeated)
         (w : GivesGroup (groupAt body line h (membersOf (drop (j + 1) (headsOf t))) (g .es) (o .0) next) d next d′ r) where
-      group-more : outer body (entriesOf (drop j (headsOf t))) (o .0) (g .es) next
+      group-more : outer offsets body (entriesOf (drop j (headsOf t))) (o .0) (g .es) next
           ≡ after (groupAt body line h (membersOf (drop (j + 1) (headsOf t))) (g .es) (o .0) next .rows)
-          (outer body (entriesOf (drop (j + 1) (headsOf t))) (r .end .0) (g .es ++ replicate (r .times) NoValue) (next + r .count))
+          (outer offsets body (entriesOf (drop (j + 1) (headsOf t))) (r .end .0) (g .es ++ unvalued offsets (r .times)) (next + r .count))
       unfolding outer
       group-more = rw (rest, w .end, w .times, w .count) refl
 
       group-count : next + (length (groupAt body line h (membersOf (drop (j + 1) (headsOf t))) (g .es) (o .0) next .rows)
-          + length (outer body (entriesOf (drop (j + 1) (headsOf t))) (r .end .0) (g .es ++ replicate (r .times) NoValue) (next + r .count) .rows))
-          ≡ length (walk body (entriesOf (headsOf t)) .rows)
+          + length (outer offsets body (entriesOf (drop (j + 1) (headsOf t))) (r .end .0) (g .es ++ unvalued offsets (r .times)) (next + r .count) .rows))
+          ≡ length (walk offsets body (entriesOf (headsOf t)) .rows)
       group-count = rw (group-more, length-append) at (g .count-is)
 
       group-fits : Fits w64 (next + r .count)
@@ -185,19 +186,20 @@ module _ (t l body : List ℕ) (count : ℕ) (loaded : IsLoaded t l count) where
           let z = w .end in
           omega arith
 
-      group-taken : (have′ : ℕ) → have′ ≡ least (have + r .times) 256 → Outer t body d₀ d′ kept have′ (r .end .0) (next + r .count) (j + 1)
-      group-taken have′ eh =
+      group-taken : (kept′ : List ℕ) (have′ : ℕ) → kept′ ≡ unvaluedKept offsets kept have → have′ ≡ unvaluedHave offsets have (r .times)
+          → Outer offsets t body d₀ d′ kept′ have′ (r .end .0) (next + r .count) (j + 1)
+      group-taken kept′ have′ ek eh =
           let b = w .count in
           let p : written d next (groupAt body line h (membersOf (drop (j + 1) (headsOf t))) (g .es) (o .0) next .rows
-          ++ outer body (entriesOf (drop (j + 1) (headsOf t))) (r .end .0) (g .es ++ replicate (r .times) NoValue) (next + r .count) .rows)
-          ≡ written d₀ 0 (walk body (entriesOf (headsOf t)) .rows) = rw group-more at (g .rows) in
+          ++ outer offsets body (entriesOf (drop (j + 1) (headsOf t))) (r .end .0) (g .es ++ unvalued offsets (r .times)) (next + r .count) .rows)
+          ≡ written d₀ 0 (walk offsets body (entriesOf (headsOf t)) .rows) = rw group-more at (g .rows) in
           let s : next + r .count ≡ next + length (groupAt body line h (membersOf (drop (j + 1) (headsOf t))) (g .es) (o .0) next .rows) = omega arith in
           record {
-            es = g .es ++ replicate (r .times) NoValue;
-            entries-are = rw eh (kept-none kept (g .es) have (r .times) (g .entries-are));
+            es = g .es ++ unvalued offsets (r .times);
+            entries-are = rw (ek, eh) (kept-unvalued offsets kept (g .es) have (r .times) (g .entries-are));
             rows = rw (w .rows)
                 (written-more d next (groupAt body line h (membersOf (drop (j + 1) (headsOf t))) (g .es) (o .0) next .rows)
-                (outer body (entriesOf (drop (j + 1) (headsOf t))) (r .end .0) (g .es ++ replicate (r .times) NoValue) (next + r .count) .rows)
+                (outer offsets body (entriesOf (drop (j + 1) (headsOf t))) (r .end .0) (g .es ++ unvalued offsets (r .times)) (next + r .count) .rows)
                 (next + r .count) s ∙ p);
             count-is = omega (arith, group-count);
             end = rw group-more at (g .end);
@@ -226,15 +228,18 @@ module _ (t l body : List ℕ) (count : ℕ) (loaded : IsLoaded t l count) where
       outer-stands f = outer-at t l count loaded j q is-q h (sym is-x ∙ f) .is .stands
 
       -- another row
-      pub outer-pass : x ≡ false → (q .kind ≡ 71 → ⊥) → Outer t body d₀ d kept have (o .0) next (j + 1)
-      outer-pass f k = passed d refl (ap (λ (ds : List Entry). outer body ds (o .0) (g .es) next) (no-entry-at t l count loaded j q is-q h (sym is-x ∙ f) k))
+      pub outer-pass : x ≡ false → (q .kind ≡ 71 → ⊥) → Outer offsets t body d₀ d kept have (o .0) next (j + 1)
+      outer-pass f k =
+          passed d refl kept have (g .es) (g .entries-are)
+          (ap (λ (ds : List Entry). outer offsets body ds (o .0) (g .es) next) (no-entry-at t l count loaded j q is-q h (sym is-x ∙ f) k))
 
       module _ (d′ : List ℕ) (r : Param) (given : ReadsParam body (fieldIn t q) (entries (take have kept)) (o .0) next 0 d next d′ r)
           (single-q : x ≡ true) where
         m : OuterAt t l count loaded j q is-q h
         m = outer-at t l count loaded j q is-q h (sym is-x ∙ single-q)
 
-        pub outer-missing : r ≡ Absent → Outer t body d₀ d′ kept have (o .0) next (j + 1)
+        pub outer-missing : r ≡ Absent → (kept′ : List ℕ) (have′ : ℕ) → kept′ ≡ unvaluedKept offsets kept have → have′ ≡ unvaluedHave offsets have 0
+            → Outer offsets t body d₀ d′ kept′ have′ (o .0) next (j + 1)
         outer-missing f =
             let v = is-absent t q (m .param) (m .is) body kept (g .es) have (g .entries-are .kept-are) (o .0) next 0 d next d′ r given f in
             absent (m .param) (m .rest) (v .there) d′ (v .rows)
@@ -245,7 +250,7 @@ module _ (t l body : List ℕ) (count : ℕ) (loaded : IsLoaded t l count) where
               (is-read t q (m .param) (m .is) body kept (g .es) have (g .entries-are .kept-are) (o .0) next 0 d next d′ r given e y c f)
 
           pub outer-take : (kept′ : List ℕ) (have′ : ℕ) → kept′ ≡ set kept have y → have′ ≡ least (have + 1) 256
-              → Outer t body d₀ d′ kept′ have′ (e .0) (next + c) (j + 1)
+              → Outer offsets t body d₀ d′ kept′ have′ (e .0) (next + c) (j + 1)
           outer-take = taken (m .param) (m .rest) d′ e y c
               (is-read t q (m .param) (m .is) body kept (g .es) have (g .entries-are .kept-are) (o .0) next 0 d next d′ r given e y c f)
 
@@ -259,9 +264,9 @@ module _ (t l body : List ℕ) (count : ℕ) (loaded : IsLoaded t l count) where
         pub outer-group-fits : Fits w64 (next + r .count)
         outer-group-fits = group-fits (a .group) (q .line) (a .rest) d′ r (the-group q (a .group) (a .is) d′ r most is-most given)
 
-        pub outer-group : (have′ : ℕ) → have′ ≡ least (have + r .times) 256
-            → Outer t body d₀ d′ kept have′ (r .end .0) (next + r .count) (j + 1)
-        outer-group have′ eh = group-taken (a .group) (q .line) (a .rest) d′ r (the-group q (a .group) (a .is) d′ r most is-most given) have′ eh
+        pub outer-group : (kept′ : List ℕ) (have′ : ℕ) → kept′ ≡ unvaluedKept offsets kept have → have′ ≡ unvaluedHave offsets have (r .times)
+            → Outer offsets t body d₀ d′ kept′ have′ (r .end .0) (next + r .count) (j + 1)
+        outer-group = group-taken (a .group) (q .line) (a .rest) d′ r (the-group q (a .group) (a .is) d′ r most is-most given)
 
 pub ruleset outer-laws = (
   outer-start,

@@ -7,6 +7,7 @@ use Rattle.command_rules.specs.Lengths.{sizeOf, repeats}
 use Rattle.command_rules.specs.Rows.{table}
 use Rattle.command_rules.specs.Param.{bigEndian, bitRows, paramRows, paramEntry}
 use Rattle.command_rules.specs.Walk.{members, turn, repetitionRow, repetitions, groupAt, outer, walk}
+use Rattle.command_rules.specs.declared.Offsets.the-variants.{Answered}
 use Rattle.command.specs.Answer.{answered, refused, within, answerBy, answerOf, tableAfter}
 
 -- `Q|0|BYTE|Length|-|-/Q|0|VARIANT|Data|-|-/R|0|7|0|0/`, | a tab and / a line end
@@ -23,12 +24,12 @@ abbrev pub lent : List ℕ
 lent = 9 ∷ 9 ∷ 9 ∷ 9 ∷ 9 ∷ 9 ∷ 9 ∷ 9 ∷ 9 ∷ 9 ∷ 9 ∷ 9 ∷ 9 ∷ 9 ∷ 9 ∷ 9 ∷ 9 ∷ 9 ∷ 9 ∷ 9 ∷ 9 ∷ 9 ∷ []
 
 -- E11: by a table of 22 numbers
-pub starred : answerOf text payload 22 ≡ answered 2 5
+pub starred : answerOf Answered text payload 22 ≡ answered 2 5
 unfolding answerOf answerBy within walk outer sizeOf paramRows paramEntry bigEndian bitRows
 starred = refl
 
 -- E11: the two rows; the two numbers behind them are as they were
-pub starred-rows : tableAfter (definition text) payload lent (answerOf text payload 22)
+pub starred-rows : tableAfter Answered (definition text) payload lent (answerOf Answered text payload 22)
     ≡ 0 ∷ 1 ∷ 0 ∷ 2 ∷ 3 ∷ 1 ∷ 2 ∷ 0 ∷ 0 ∷ 0
     ∷ 0 ∷ 2 ∷ 0 ∷ 3 ∷ 5 ∷ 1 ∷ 0xAABB ∷ 0 ∷ 0 ∷ 0
     ∷ 9 ∷ 9 ∷ []
@@ -36,7 +37,7 @@ unfolding answerOf answerBy within walk outer sizeOf paramRows paramEntry bigEnd
 starred-rows = refl
 
 -- the same cut off behind its third byte: Data wants two bytes, takes one and lacks one
-cut-rows : tableAfter (definition text) (0x20 ∷ 0x01 ∷ 0x02 ∷ 0xAA ∷ []) lent (answerOf text (0x20 ∷ 0x01 ∷ 0x02 ∷ 0xAA ∷ []) 22)
+cut-rows : tableAfter Answered (definition text) (0x20 ∷ 0x01 ∷ 0x02 ∷ 0xAA ∷ []) lent (answerOf Answered text (0x20 ∷ 0x01 ∷ 0x02 ∷ 0xAA ∷ []) 22)
     ≡ 0 ∷ 1 ∷ 0 ∷ 2 ∷ 3 ∷ 1 ∷ 2 ∷ 0 ∷ 0 ∷ 0
     ∷ 0 ∷ 2 ∷ 0 ∷ 3 ∷ 4 ∷ 1 ∷ 0xAA ∷ 0 ∷ 0 ∷ 1
     ∷ 9 ∷ 9 ∷ []
@@ -44,17 +45,17 @@ unfolding answerOf answerBy within walk outer sizeOf paramRows paramEntry bigEnd
 cut-rows = refl
 
 -- a table of 19 numbers: refusal 8, two rows are needed
-few-rows : answerOf text payload 19 ≡ refused 8 2
+few-rows : answerOf Answered text payload 19 ≡ refused 8 2
 unfolding answerOf answerBy within walk outer sizeOf paramRows paramEntry bigEndian bitRows
 few-rows = refl
 
 -- one byte: refusal 5
-one-byte : answerOf text (0x20 ∷ []) 22 ≡ refused 5 1
+one-byte : answerOf Answered text (0x20 ∷ []) 22 ≡ refused 5 1
 unfolding answerOf answerBy
 one-byte = refl
 
 -- no tab in line 1: refusal 1, before the payload's length
-bad-line : answerOf (81 ∷ 48 ∷ 10 ∷ []) [] 22 ≡ refused 1 1
+bad-line : answerOf Answered (81 ∷ 48 ∷ 10 ∷ []) [] 22 ≡ refused 1 1
 unfolding answerOf
 bad-line = refl
 
@@ -69,7 +70,7 @@ group-text =
     ∷ 10 ∷ 75 ∷ 9 ∷ 55 ∷ 9 ∷ 83 ∷ 101 ∷ 118 ∷ 101 ∷ 110 ∷ 10 ∷ []
 
 -- 20 01 02 01 07 04 CC: Count 2 with Odd 0 and Pair 1; Kind 1 and More 7 in the first repetition; Kind 4 alone in the second; remainder CC
-group-rows : tableAfter (definition group-text) (0x20 ∷ 0x01 ∷ 0x02 ∷ 0x01 ∷ 0x07 ∷ 0x04 ∷ 0xCC ∷ []) [] (answered 8 6)
+group-rows : tableAfter Answered (definition group-text) (0x20 ∷ 0x01 ∷ 0x02 ∷ 0x01 ∷ 0x07 ∷ 0x04 ∷ 0xCC ∷ []) [] (answered 8 6)
     ≡ 0 ∷ 1 ∷ 0 ∷ 2 ∷ 3 ∷ 1 ∷ 2 ∷ 0 ∷ 0 ∷ 0
     ∷ 1 ∷ 2 ∷ 1 ∷ 2 ∷ 3 ∷ 1 ∷ 0 ∷ 0 ∷ 0 ∷ 0
     ∷ 1 ∷ 3 ∷ 1 ∷ 2 ∷ 3 ∷ 1 ∷ 1 ∷ 0 ∷ 0 ∷ 0
@@ -83,6 +84,6 @@ unfolding answerOf answerBy within walk outer groupAt repeats repetitions repeti
     table
 group-rows = refl
 
-group-answer : answerOf group-text (0x20 ∷ 0x01 ∷ 0x02 ∷ 0x01 ∷ 0x07 ∷ 0x04 ∷ 0xCC ∷ []) 80 ≡ answered 8 6
+group-answer : answerOf Answered group-text (0x20 ∷ 0x01 ∷ 0x02 ∷ 0x01 ∷ 0x07 ∷ 0x04 ∷ 0xCC ∷ []) 80 ≡ answered 8 6
 unfolding answerOf answerBy within walk outer groupAt repeats repetitions repetitionRow turn members sizeOf paramRows paramEntry bigEndian bitRows
 group-answer = refl

@@ -6,7 +6,7 @@
 use command_groups::Group;
 use command_groups::Taken;
 use command_groups::keep;
-use command_groups::keep_repetitions;
+use command_groups::keep_unvalued;
 use command_groups::param_at;
 use command_groups::read_group;
 use command_groups::repeats_at;
@@ -28,11 +28,12 @@ ghost use Rattle.command_schema.specs.Loaded.{loadedWidth, IsLoaded};
 ghost use Rattle.command_rules.specs.Rows.{rowWidth};
 ghost use Rattle.command_rules.specs.Walk.{walk};
 ghost use Rattle.command_groups.specs.Steps.{Gives};
-ghost use Rattle.command.specs.Answer.{told, Fills, DecodesBy, Decodes};
+ghost use Rattle.command.specs.Answer.{offsetsBy, told, Fills, DecodesBy, Decodes};
 pub use command_lengths::is_present;
 pub use command_lengths::variable_len;
 pub use command_param::decode_param;
 pub use command_param::read_uint;
+pub use command_rules::Offsets;
 
 // The numbers of the loaded definition: it has at most 256 rows.
 const LOADED: usize = 256 * LOADED_WIDTH;
@@ -55,10 +56,20 @@ pub enum Params {
     Refused(Refusal),
 }
 
+// The offsets by position, or those over the entries answered.
+pub fn offsets_by(position: bool) -> Offsets
+    ensures { λ r. ⌜ r ≡ offsetsBy position ⌝ }
+{
+    if position {
+        return Offsets::Position;
+    }
+    Offsets::Answered
+}
+
 // The outer list.
-fn walk_params(text: &[u8], loaded: &[u16], count: usize, body: &[u8], rows: &mut [u64]) -> Taken
+fn walk_params(text: &[u8], loaded: &[u16], count: usize, offsets: Offsets, body: &[u8], rows: &mut [u64]) -> Taken
     requires { ⌜ (IsLoaded (now text) (now loaded) count) × (length (now body) < 65536) ⌝ }
-    ensures { λ r. ⌜ Gives (walk (now (body .entry)) (entriesOf (headsOf (now (text .entry))))) (now (rows .entry)) 0 (now (rows .exit)) r ⌝ }
+    ensures { λ r. ⌜ Gives (walk offsets (now (body .entry)) (entriesOf (headsOf (now (text .entry))))) (now (rows .entry)) 0 (now (rows .exit)) r ⌝ }
 {
     let mut kept = [256u16; 256];
     let mut have: usize = 0;
@@ -79,6 +90,7 @@ fn walk_params(text: &[u8], loaded: &[u16], count: usize, body: &[u8], rows: &mu
                 count: more,
             } = param_at(text, q, body, spot, &kept[..have], rows, next)
             else {
+                have = keep_unvalued(offsets, &mut kept, have, 0);
                 j += 1;
                 continue;
             };
@@ -96,7 +108,7 @@ fn walk_params(text: &[u8], loaded: &[u16], count: usize, body: &[u8], rows: &mu
             };
             let most = repeats_at(q, body, at, &kept[..have]);
             let g = read_group(text, loaded, group, most, body, spot, rows);
-            have = keep_repetitions(have, g.times);
+            have = keep_unvalued(offsets, &mut kept, have, g.times);
             next += g.count;
             at = g.end;
             j += 1;
@@ -111,12 +123,12 @@ fn walk_params(text: &[u8], loaded: &[u16], count: usize, body: &[u8], rows: &mu
 }
 
 // Writes all rows of a body, for which the table has room.
-fn write_body(text: &[u8], loaded: &[u16], count: usize, body: &[u8], rows: &mut [u64]) -> Params
+fn write_body(text: &[u8], loaded: &[u16], count: usize, offsets: Offsets, body: &[u8], rows: &mut [u64]) -> Params
     requires { ⌜ (IsLoaded (now text) (now loaded) count) × (length (now body) < 65536)
-        × (length (walk (now body) (entriesOf (headsOf (now text))) .rows) ≤ length (now rows) / rowWidth) ⌝ }
-    ensures { λ r. ⌜ Fills (walk (now (body .entry)) (entriesOf (headsOf (now (text .entry))))) (now (rows .entry)) (told r) (now (rows .exit)) ⌝ }
+        × (length (walk offsets (now body) (entriesOf (headsOf (now text))) .rows) ≤ length (now rows) / rowWidth) ⌝ }
+    ensures { λ r. ⌜ Fills (walk offsets (now (body .entry)) (entriesOf (headsOf (now (text .entry))))) (now (rows .entry)) (told r) (now (rows .exit)) ⌝ }
 {
-    let taken = walk_params(text, loaded, count, body, rows);
+    let taken = walk_params(text, loaded, count, offsets, body, rows);
     let end = taken.end;
     Params::Rows {
         count: taken.count,
@@ -125,34 +137,34 @@ fn write_body(text: &[u8], loaded: &[u16], count: usize, body: &[u8], rows: &mut
 }
 
 // Writes at once where the table has room whatever the body is. Else counts, then writes: the table is left alone if it has no room for every row.
-fn decode_body(text: &[u8], loaded: &[u16], count: usize, body: &[u8], rows: &mut [u64]) -> Params
+fn decode_body(text: &[u8], loaded: &[u16], count: usize, offsets: Offsets, body: &[u8], rows: &mut [u64]) -> Params
     requires { ⌜ (IsLoaded (now text) (now loaded) count) × (length (now body) < 65536) ⌝ }
-    ensures { λ r. ⌜ Fills (walk (now (body .entry)) (entriesOf (headsOf (now (text .entry))))) (now (rows .entry)) (told r) (now (rows .exit)) ⌝ }
+    ensures { λ r. ⌜ Fills (walk offsets (now (body .entry)) (entriesOf (headsOf (now (text .entry))))) (now (rows .entry)) (told r) (now (rows .exit)) ⌝ }
 {
     if body.len() * MOST <= rows.len() {
-        return write_body(text, loaded, count, body, rows);
+        return write_body(text, loaded, count, offsets, body, rows);
     }
     let none: usize = 0;
-    let counted = walk_params(text, loaded, count, body, &mut rows[..none]);
+    let counted = walk_params(text, loaded, count, offsets, body, &mut rows[..none]);
     if rows.len() / ROW_WIDTH < counted.count {
         return Params::Refused(Refusal::MoreRows(counted.count));
     }
-    write_body(text, loaded, count, body, rows)
+    write_body(text, loaded, count, offsets, body, rows)
 }
 
 // Loads the text into a table that has room for it, and decodes a body by it.
-fn decode_by(text: &[u8], loaded: &mut [u16], body: &[u8], rows: &mut [u64]) -> Params
+fn decode_by(text: &[u8], loaded: &mut [u16], offsets: Offsets, body: &[u8], rows: &mut [u64]) -> Params
     requires { ⌜ (verdict (now text) ≡ Accepted) × (length (headsOf (now text)) * loadedWidth ≤ length (now loaded)) × (length (now body) < 65536) ⌝ }
-    ensures { λ r. ⌜ Fills (walk (now (body .entry)) (entriesOf (headsOf (now (text .entry))))) (now (rows .entry)) (told r) (now (rows .exit)) ⌝ }
+    ensures { λ r. ⌜ Fills (walk offsets (now (body .entry)) (entriesOf (headsOf (now (text .entry))))) (now (rows .entry)) (told r) (now (rows .exit)) ⌝ }
 {
     let count = command_schema::load(text, loaded);
-    decode_body(text, loaded, count, body, rows)
+    decode_body(text, loaded, count, offsets, body, rows)
 }
 
-// The parameters of a command by a text that is accepted, into the table, or refusal 4, 5 or 8.
-pub fn decode_accepted(text: &[u8], payload: &[u8], rows: &mut [u64]) -> Params
+// The parameters of a command by a text that is accepted, with offsets read in one of the two ways, into the table, or refusal 4, 5 or 8.
+pub fn decode_accepted(text: &[u8], payload: &[u8], offsets: Offsets, rows: &mut [u64]) -> Params
     requires { ⌜ verdict (now text) ≡ Accepted ⌝ }
-    ensures { λ r. ⌜ DecodesBy (now (text .entry)) (now (payload .entry)) (now (rows .entry)) (told r) (now (rows .exit)) ⌝ }
+    ensures { λ r. ⌜ DecodesBy offsets (now (text .entry)) (now (payload .entry)) (now (rows .entry)) (told r) (now (rows .exit)) ⌝ }
 {
     let size = payload.len();
     if 2048 < size {
@@ -163,18 +175,18 @@ pub fn decode_accepted(text: &[u8], payload: &[u8], rows: &mut [u64]) -> Params
     }
     if text.len() <= SHORT {
         let mut short = [0u16; LOADED_SHORT];
-        return decode_by(text, &mut short, &payload[2..], rows);
+        return decode_by(text, &mut short, offsets, &payload[2..], rows);
     }
     let mut loaded = [0u16; LOADED];
-    decode_by(text, &mut loaded, &payload[2..], rows)
+    decode_by(text, &mut loaded, offsets, &payload[2..], rows)
 }
 
-// The parameters of a command by a text, into the table, or a refusal. A refusal writes nothing, an answer nothing past its last row.
-pub fn decode_params(text: &[u8], payload: &[u8], rows: &mut [u64]) -> Params
-    ensures { λ r. ⌜ Decodes (now (text .entry)) (now (payload .entry)) (now (rows .entry)) (told r) (now (rows .exit)) ⌝ }
+// The parameters of a command by a text, with offsets read in one of the two ways, into the table, or a refusal. A refusal writes nothing, an answer nothing past its last row.
+pub fn decode_params(text: &[u8], payload: &[u8], offsets: Offsets, rows: &mut [u64]) -> Params
+    ensures { λ r. ⌜ Decodes offsets (now (text .entry)) (now (payload .entry)) (now (rows .entry)) (told r) (now (rows .exit)) ⌝ }
 {
     match command_text::check_command_text(text) {
-        Verdict::Accepted => decode_accepted(text, payload, rows),
+        Verdict::Accepted => decode_accepted(text, payload, offsets, rows),
         Verdict::Refused(refusal) => Params::Refused(refusal),
     }
 }

@@ -12,7 +12,11 @@ use borrow.Author.Tests.{le-leb, lt-leb}
 use Rattle.command_lengths.specs.Entries.{earlier, entries}
 use Rattle.command_rules.specs.Lengths.{least}
 use Rattle.command_rules.specs.declared.Earlier.{Earlier}
-use Rattle.command_rules.specs.declared.Earlier.the-variants.{NoValue}
+use Rattle.command_rules.specs.declared.Earlier.the-variants.{NoValue, NoEntry}
+use Rattle.command_rules.specs.declared.Offsets.{Offsets}
+use Rattle.command_rules.specs.declared.Offsets.the-variants.{Answered, Position}
+use Rattle.command_rules.specs.Walk.{unvalued}
+use Rattle.command_groups.specs.Steps.{unvaluedKept, unvaluedHave}
 
 -- the entries so far are es: of them the first 256 are kept
 pub record Kept (kept : List ℕ) (have : ℕ) (es : List Earlier) : Type 0 where
@@ -131,6 +135,13 @@ kept-none kept es have (suc times) g =
         let m = g .kept-are .most in
         rw (least-top (have + 1) 256 (omega arith), least-top (256 + times) 256 (omega arith), least-top (have + suc times) 256 (omega arith)) refl
 
+-- what an absent Q or a group adds
+pub kept-unvalued : (offsets : Offsets) (kept : List ℕ) (es : List Earlier) (have times : ℕ) → KeptFree kept have es
+    → KeptFree (unvaluedKept offsets kept have) (unvaluedHave offsets have times) (es ++ unvalued offsets times)
+kept-unvalued Answered kept es have times g = kept-none kept es have times g
+kept-unvalued Position kept es have times g =
+    record { kept-are = kept-push kept es have 257 NoEntry refl (g .kept-are); free = free-push kept es have 257 (g .kept-are) (g .free) }
+
 -- at the start
 pub kept-start : (kept : List ℕ) → length kept ≡ 256 → Kept kept 0 []
 kept-start kept h = record { size = h; most = omega arith; firsts = refl }
@@ -153,5 +164,20 @@ times-fit have times m h = sym (least-small (have + times) 256 (omega arith))
 
 pub times-over : (have times : ℕ) → have ≤ 256 → 256 - have < times → 256 ≡ least (have + times) 256
 times-over have times m h = sym (least-large (have + times) 256 (omega arith))
+
+module _ (offsets : Offsets) (kept : List ℕ) (have times r : ℕ) where
+  pub unvalued-answered : offsets ≡ Answered → r ≡ least (have + times) 256 → r ≡ unvaluedHave offsets have times
+  unvalued-answered e is = rw e is
+
+  pub unvalued-answered-kept : offsets ≡ Answered → kept ≡ unvaluedKept offsets kept have
+  unvalued-answered-kept e = rw e refl
+
+  pub unvalued-position : offsets ≡ Position → r ≡ least (have + 1) 256 → r ≡ unvaluedHave offsets have times
+  unvalued-position e is = rw e is
+
+  pub unvalued-position-kept : (kept′ : List ℕ) → offsets ≡ Position → kept′ ≡ set kept have 257 → kept′ ≡ unvaluedKept offsets kept have
+  unvalued-position-kept kept′ e is = rw e is
+
+pub ruleset unvalued-laws = (unvalued-answered, unvalued-answered-kept, unvalued-position, unvalued-position-kept)
 
 pub ruleset keep-laws = (keep-more, keep-full, keep-same, times-fit, times-over)

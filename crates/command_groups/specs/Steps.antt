@@ -4,11 +4,14 @@ use mathlib.Core.Path.{_≡_}
 use mathlib.Core.List.{List, _∷_}
 use Prim.Native.Nat.{ℕ, _+_}
 use lib.Dec.{ltb}
-use lib.ListN.{length}
+use lib.ListN.{length, set}
 use Rattle.records.specs.declared.BodyOffset.{BodyOffset}
 use Rattle.command_class.specs.Definition.{Parameter}
 use Rattle.command_rows.specs.Rows.{written}
+use Rattle.command_rules.specs.Lengths.{least}
 use Rattle.command_rules.specs.Walk.{Walked, turn, repetitionRow}
+use Rattle.command_rules.specs.declared.Offsets.{Offsets}
+use Rattle.command_rules.specs.declared.Offsets.the-variants.{Answered, Position}
 use Rattle.command_groups.specs.declared.Taken.{Taken}
 use Rattle.command_groups.specs.declared.Repeated.{Repeated}
 use Rattle.command_groups.specs.declared.Repetition.{Repetition}
@@ -43,3 +46,15 @@ module _ (body : List ℕ) (line : ℕ) (qs : List Parameter) (number at n : ℕ
   abbrev pub Repeats : Repetition → Type 0
   Repeats (Took e c) = IsTook e c
   Repeats Nothing = IsNothing
+
+-- ---- the entries that are kept, after an absent Q or a group
+
+-- how they stand in their places
+abbrev pub unvaluedKept : Offsets → List ℕ → ℕ → List ℕ
+unvaluedKept Answered kept have = kept
+unvaluedKept Position kept have = set kept have 257
+
+-- how many they are
+abbrev pub unvaluedHave : Offsets → ℕ → ℕ → ℕ
+unvaluedHave Answered have times = least (have + times) 256
+unvaluedHave Position have times = least (have + 1) 256

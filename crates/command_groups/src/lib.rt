@@ -3,6 +3,7 @@
 use command_param::Param;
 use command_param::Spot;
 use command_rules::BitShift;
+use command_rules::Offsets;
 use command_rules::Row;
 use command_schema::Loaded;
 use records::BodyOffset;
@@ -16,10 +17,13 @@ ghost use Rattle.command_schema.specs.Heads.{headsOf, membersOf};
 ghost use Rattle.command_schema.specs.Loaded.{fieldIn, Stands, IsLoaded};
 ghost use Rattle.command_param.specs.Steps.{ReadsParam};
 ghost use Rattle.command_rules.specs.Walk.{members, turn, repetitionRow, repetitions};
-ghost use Rattle.command_groups.specs.Steps.{Gives, GivesGroup, Repeats};
+ghost use Rattle.command_groups.specs.Steps.{Gives, GivesGroup, Repeats, unvaluedKept, unvaluedHave};
 
 // The entries of a list that an offset can count to.
 const ENTRIES: usize = 256;
+
+// How an entry is kept that no offset finds.
+const NO_ENTRY: u16 = 257;
 
 // A group: the line of its G, the loaded row of its first member, and how many rows are loaded.
 pub struct Group {
@@ -67,7 +71,7 @@ pub fn keep(kept: &mut [u16], have: usize, entry: u16) -> usize
 }
 
 // As many entries without value: the places that follow say so already.
-pub fn keep_repetitions(have: usize, times: usize) -> usize
+fn keep_repetitions(have: usize, times: usize) -> usize
     requires { ⌜ have ≤ 256 ⌝ }
     ensures { λ r. ⌜ r ≡ least (have + times) 256 ⌝ }
 {
@@ -75,6 +79,18 @@ pub fn keep_repetitions(have: usize, times: usize) -> usize
         return have + times;
     }
     ENTRIES
+}
+
+// Keeps what a group adds that repeats so often, or a Q that does not exist, which has no repetitions: an entry without value for each, or by position one that
+// no offset finds.
+pub fn keep_unvalued(offsets: Offsets, kept: &mut [u16], have: usize, times: usize) -> usize
+    requires { ⌜ (have ≤ 256) × (length (now kept) ≡ 256) ⌝ }
+    ensures { λ r. ⌜ (now (kept .exit) ≡ unvaluedKept offsets (now (kept .entry)) have) × (r ≡ unvaluedHave offsets have times) ⌝ }
+{
+    match offsets {
+        Offsets::Answered => keep_repetitions(have, times),
+        Offsets::Position => keep(kept, have, NO_ENTRY),
+    }
 }
 
 // Reads a Q into the table from row k of `rows` on.

@@ -19,7 +19,8 @@ use Rattle.command_rules.specs.Field.{Field, fieldOf}
 use Rattle.command_rules.specs.Limits.{Small, SmallAll, SmallEntries}
 use Rattle.command_rules.specs.Param.{inPayload, bitRows, bytesAt, sizeAt, paramRows, paramEntry}
 use Rattle.command_rules.proofs.Children.{bits-count}
-use Rattle.command_rules.specs.Walk.{Walked, ended, after, once, onSize, members, turn, repetitionRow, repetitions, groupAt, outer, walk}
+use Rattle.command_rules.specs.Walk.{Walked, ended, after, once, onSize, members, turn, repetitionRow, repetitions, groupAt, outer, walk, unvalued}
+use Rattle.command_rules.specs.declared.Offsets.{Offsets}
 
 -- a walk from a place goes forward, within the body, and has at most so many rows a byte
 pub record Bound (b size at : ℕ) (w : Walked) : Type 0 where
@@ -105,21 +106,21 @@ repetitions-bound body line qs (suc most) k at n small =
             record { forward = omega arith; inside = omega arith; few = rw length-append (omega arith) }
         by false e = stays 34 (length body) at
 
-pub outer-bound : (body : List ℕ) (ds : List Entry) (at : ℕ) (es : List Earlier) (n : ℕ) → SmallEntries ds
-    → Bound 34 (length body) at (outer body ds at es n)
+pub outer-bound : (offsets : Offsets) (body : List ℕ) (ds : List Entry) (at : ℕ) (es : List Earlier) (n : ℕ) → SmallEntries ds
+    → Bound 34 (length body) at (outer offsets body ds at es n)
 unfolding outer groupAt SmallEntries
-outer-bound body [] at es n small = stays 34 (length body) at
-outer-bound body (single q ∷ ds) at es n small =
-    go (sizeAt body (fieldOf q) es at) refl (λ at′ es′ n′. outer-bound body ds at′ es′ n′ (small .1))
+outer-bound offsets body [] at es n small = stays 34 (length body) at
+outer-bound offsets body (single q ∷ ds) at es n small =
+    go (sizeAt body (fieldOf q) es at) refl (λ at′ es′ n′. outer-bound offsets body ds at′ es′ n′ (small .1))
   where
     go : (s : Size) → sizeAt body (fieldOf q) es at ≡ s
-        → ((at′ : ℕ) (es′ : List Earlier) (n′ : ℕ) → Bound 34 (length body) at′ (outer body ds at′ es′ n′))
+        → ((at′ : ℕ) (es′ : List Earlier) (n′ : ℕ) → Bound 34 (length body) at′ (outer offsets body ds at′ es′ n′))
         → Bound 34 (length body) at
         (onSize s
         (λ size.
         after (paramRows body (fieldOf q) at size n 0)
-        (outer body ds (at + size .taken) (es ++ (paramEntry body at (size .taken) ∷ [])) (n + length (paramRows body (fieldOf q) at size n 0))))
-        (outer body ds at es n))
+        (outer offsets body ds (at + size .taken) (es ++ (paramEntry body at (size .taken) ∷ [])) (n + length (paramRows body (fieldOf q) at size n 0))))
+        (outer offsets body ds at (es ++ unvalued offsets 0) n))
     go (Bytes size) e more =
         let f = size-facts body (fieldOf q) es at size e in
         let f0 = f .0 in
@@ -130,36 +131,36 @@ outer-bound body (single q ∷ ds) at es n small =
         let g1 = r .inside in
         let g2 = r .few in
         record { forward = omega arith; inside = omega arith; few = rw length-append (omega arith) }
-    go Missing e more = more at es n
-outer-bound body (repeated line g qs ∷ ds) at es n small =
+    go Missing e more = more at (es ++ unvalued offsets 0) n
+outer-bound offsets body (repeated line g qs ∷ ds) at es n small =
     go (repetitions body line qs (repeats (g .offset) (g .mask) (record { 0 = g .shift }) es (length body - at)) 0 at n)
     (repetitions-bound body line qs (repeats (g .offset) (g .mask) (record { 0 = g .shift }) es (length body - at)) 0 at n (small .0))
-    (λ at′ es′ n′. outer-bound body ds at′ es′ n′ (small .1))
+    (λ at′ es′ n′. outer-bound offsets body ds at′ es′ n′ (small .1))
   where
     go : (w : Walked) → Bound 34 (length body) at w → ((at′ : ℕ) (es′ : List Earlier) (n′ : ℕ)
-        → Bound 34 (length body) at′ (outer body ds at′ es′ n′))
-        → Bound 34 (length body) at (after (w .rows) (outer body ds (w .end) (es ++ replicate (w .times) NoValue) (n + length (w .rows))))
+        → Bound 34 (length body) at′ (outer offsets body ds at′ es′ n′))
+        → Bound 34 (length body) at (after (w .rows) (outer offsets body ds (w .end) (es ++ unvalued offsets (w .times)) (n + length (w .rows))))
     go w b more =
         let b0 = b .forward in
         let b1 = b .inside in
         let b2 = b .few in
-        let r = more (w .end) (es ++ replicate (w .times) NoValue) (n + length (w .rows)) in
+        let r = more (w .end) (es ++ unvalued offsets (w .times)) (n + length (w .rows)) in
         let g0 = r .forward in
         let g1 = r .inside in
         let g2 = r .few in
         record { forward = omega arith; inside = omega arith; few = rw length-append (omega arith) }
 
-module _ (body : List ℕ) (ds : List Entry) (small : SmallEntries ds) where
-  pub walk-few : length body < 65536 → length (walk body ds .rows) < 2 ^ 40
+module _ (offsets : Offsets) (body : List ℕ) (ds : List Entry) (small : SmallEntries ds) where
+  pub walk-few : length body < 65536 → length (walk offsets body ds .rows) < 2 ^ 40
   unfolding walk
-  walk-few h = let b = outer-bound body ds 0 [] 0 small in let b1 = b .inside in let b2 = b .few in omega arith
+  walk-few h = let b = outer-bound offsets body ds 0 [] 0 small in let b1 = b .inside in let b2 = b .few in omega arith
 
   -- a repetition, a member and its children: at most 34 rows a byte
-  pub walk-most : length (walk body ds .rows) ≤ 34 * length body
+  pub walk-most : length (walk offsets body ds .rows) ≤ 34 * length body
   unfolding walk
-  walk-most = let b = outer-bound body ds 0 [] 0 small in let b1 = b .inside in let b2 = b .few in omega arith
+  walk-most = let b = outer-bound offsets body ds 0 [] 0 small in let b1 = b .inside in let b2 = b .few in omega arith
 
   -- the walk ends within the body
-  pub walk-inside : walk body ds .end ≤ length body
+  pub walk-inside : walk offsets body ds .end ≤ length body
   unfolding walk
-  walk-inside = let b = outer-bound body ds 0 [] 0 small in let b1 = b .inside in omega arith
+  walk-inside = let b = outer-bound offsets body ds 0 [] 0 small in let b1 = b .inside in omega arith

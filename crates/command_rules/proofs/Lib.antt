@@ -4,4 +4,5 @@ pub mod Bounds
 mod Budget
 pub mod Sums
 pub mod Wanting
+pub mod Modes
 pub mod Rows

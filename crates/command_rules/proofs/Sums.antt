@@ -21,7 +21,8 @@ use Rattle.command_rules.specs.Field.{Field, fieldOf}
 use Rattle.command_rules.specs.Limits.{SmallEntries}
 use Rattle.command_rules.specs.declared.Row.{Row}
 use Rattle.command_rules.specs.Param.{inPayload, bitValue, bitOnto, bitRows, rowOf, bytesAt, sizeAt, paramRows, paramEntry}
-use Rattle.command_rules.specs.Walk.{Walked, ended, after, once, onSize, members, turn, repetitionRow, repetitions, groupAt, outer, walk}
+use Rattle.command_rules.specs.Walk.{Walked, ended, after, once, onSize, members, turn, repetitionRow, repetitions, groupAt, outer, walk, unvalued}
+use Rattle.command_rules.specs.declared.Offsets.{Offsets}
 use Rattle.command_rules.specs.Sum.{childrenOf, Follow, bytes, AllParams, OnByte, Inside, Placed, CutAtEnd, Adds}
 use Rattle.command_rules.proofs.Lengths.{size-all}
 use Rattle.command_rules.proofs.Bounds.{size-facts, walk-inside}
@@ -374,33 +375,33 @@ outermost-group g w at n a b =
           (b .placed tail (λ c u v. clear c u (omega (arith, all))) (rw all at t)));
     }
 
-pub outermost : (body : List ℕ) (ds : List Entry) (at : ℕ) (es : List Earlier) (n : ℕ) → Outermost (outer body ds at es n) at n
+pub outermost : (offsets : Offsets) (body : List ℕ) (ds : List Entry) (at : ℕ) (es : List Earlier) (n : ℕ) → Outermost (outer offsets body ds at es n) at n
 unfolding outer groupAt
-outermost body [] at es n = outermost-end at n
-outermost body (single q ∷ ds) at es n = go (sizeAt body (fieldOf q) es at) refl (λ at′ es′ n′. outermost body ds at′ es′ n′)
+outermost offsets body [] at es n = outermost-end at n
+outermost offsets body (single q ∷ ds) at es n = go (sizeAt body (fieldOf q) es at) refl (λ at′ es′ n′. outermost offsets body ds at′ es′ n′)
   where
     go : (s : Size) → sizeAt body (fieldOf q) es at ≡ s
-        → ((at′ : ℕ) (es′ : List Earlier) (n′ : ℕ) → Outermost (outer body ds at′ es′ n′) at′ n′)
+        → ((at′ : ℕ) (es′ : List Earlier) (n′ : ℕ) → Outermost (outer offsets body ds at′ es′ n′) at′ n′)
         → Outermost
         (onSize s
         (λ size.
         after (paramRows body (fieldOf q) at size n 0)
-        (outer body ds (at + size .taken) (es ++ (paramEntry body at (size .taken) ∷ [])) (n + length (paramRows body (fieldOf q) at size n 0))))
-        (outer body ds at es n))
+        (outer offsets body ds (at + size .taken) (es ++ (paramEntry body at (size .taken) ∷ [])) (n + length (paramRows body (fieldOf q) at size n 0))))
+        (outer offsets body ds at (es ++ unvalued offsets 0) n))
         at n
     go (Bytes size) e more =
         outermost-param (paramRows body (fieldOf q) at size n 0) at (size .taken) n _ (shape body (fieldOf q) es at size n 0 e)
         (size-facts body (fieldOf q) es at size e .0)
         (more (at + size .taken) (es ++ (paramEntry body at (size .taken) ∷ [])) (n + length (paramRows body (fieldOf q) at size n 0)))
-    go Missing e more = more at es n
-outermost body (repeated line g qs ∷ ds) at es n =
+    go Missing e more = more at (es ++ unvalued offsets 0) n
+outermost offsets body (repeated line g qs ∷ ds) at es n =
     go (repetitions body line qs (repeats (g .offset) (g .mask) (record { 0 = g .shift }) es (length body - at)) 0 at n)
     (outermost-repetitions body line qs (repeats (g .offset) (g .mask) (record { 0 = g .shift }) es (length body - at)) 0 at n)
-    (λ at′ es′ n′. outermost body ds at′ es′ n′)
+    (λ at′ es′ n′. outermost offsets body ds at′ es′ n′)
   where
-    go : (w : Walked) → Outermost w at n → ((at′ : ℕ) (es′ : List Earlier) (n′ : ℕ) → Outermost (outer body ds at′ es′ n′) at′ n′)
-        → Outermost (after (w .rows) (outer body ds (w .end) (es ++ replicate (w .times) NoValue) (n + length (w .rows)))) at n
-    go w o more = outermost-group w _ at n o (more (w .end) (es ++ replicate (w .times) NoValue) (n + length (w .rows)))
+    go : (w : Walked) → Outermost w at n → ((at′ : ℕ) (es′ : List Earlier) (n′ : ℕ) → Outermost (outer offsets body ds at′ es′ n′) at′ n′)
+        → Outermost (after (w .rows) (outer offsets body ds (w .end) (es ++ unvalued offsets (w .times)) (n + length (w .rows)))) at n
+    go w o more = outermost-group w _ at n o (more (w .end) (es ++ unvalued offsets (w .times)) (n + length (w .rows)))
 
 -- ---- what a row lacks
 cut-append : (size : ℕ) (a b : List Row) → CutAtEnd size a → CutAtEnd size b → CutAtEnd size (a ++ b)
@@ -483,25 +484,25 @@ cut-repetitions body line qs (suc most) k at n =
         by true = cut-append (2 + length body) (repetitionRow line at (m .end) k ∷ m .rows) _ (cut-repetition (2 + length body) line at (m .end) k (m .rows) h) (more m)
         by false = cut-none (2 + length body)
 
-pub cut-outer : (body : List ℕ) (ds : List Entry) (at : ℕ) (es : List Earlier) (n : ℕ) → CutAtEnd (2 + length body) (outer body ds at es n .rows)
+pub cut-outer : (offsets : Offsets) (body : List ℕ) (ds : List Entry) (at : ℕ) (es : List Earlier) (n : ℕ) → CutAtEnd (2 + length body) (outer offsets body ds at es n .rows)
 unfolding outer groupAt
-cut-outer body [] at es n = cut-none (2 + length body)
-cut-outer body (single q ∷ ds) at es n = go (sizeAt body (fieldOf q) es at) refl (λ at′ es′ n′. cut-outer body ds at′ es′ n′)
+cut-outer offsets body [] at es n = cut-none (2 + length body)
+cut-outer offsets body (single q ∷ ds) at es n = go (sizeAt body (fieldOf q) es at) refl (λ at′ es′ n′. cut-outer offsets body ds at′ es′ n′)
   where
     go : (s : Size) → sizeAt body (fieldOf q) es at ≡ s
-        → ((at′ : ℕ) (es′ : List Earlier) (n′ : ℕ) → CutAtEnd (2 + length body) (outer body ds at′ es′ n′ .rows))
+        → ((at′ : ℕ) (es′ : List Earlier) (n′ : ℕ) → CutAtEnd (2 + length body) (outer offsets body ds at′ es′ n′ .rows))
         → CutAtEnd (2 + length body)
         (onSize s
         (λ size.
         after (paramRows body (fieldOf q) at size n 0)
-        (outer body ds (at + size .taken) (es ++ (paramEntry body at (size .taken) ∷ [])) (n + length (paramRows body (fieldOf q) at size n 0))))
-        (outer body ds at es n) .rows)
+        (outer offsets body ds (at + size .taken) (es ++ (paramEntry body at (size .taken) ∷ [])) (n + length (paramRows body (fieldOf q) at size n 0))))
+        (outer offsets body ds at (es ++ unvalued offsets 0) n) .rows)
     go (Bytes size) e more =
         cut-append (2 + length body) (paramRows body (fieldOf q) at size n 0) _ (cut-param body (fieldOf q) es at size n 0 e)
         (more (at + size .taken) (es ++ (paramEntry body at (size .taken) ∷ [])) (n + length (paramRows body (fieldOf q) at size n 0)))
-    go Missing e more = more at es n
-cut-outer body (repeated line g qs ∷ ds) at es n =
+    go Missing e more = more at (es ++ unvalued offsets 0) n
+cut-outer offsets body (repeated line g qs ∷ ds) at es n =
     cut-append (2 + length body) (groupAt body line g qs es at n .rows) _
     (cut-repetitions body line qs (repeats (g .offset) (g .mask) (record { 0 = g .shift }) es (length body - at)) 0 at n)
-    (cut-outer body ds (groupAt body line g qs es at n .end) (es ++ replicate (groupAt body line g qs es at n .times) NoValue)
+    (cut-outer offsets body ds (groupAt body line g qs es at n .end) (es ++ unvalued offsets (groupAt body line g qs es at n .times))
     (n + length (groupAt body line g qs es at n .rows)))

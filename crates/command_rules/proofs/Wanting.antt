@@ -23,6 +23,8 @@ use Rattle.command_rules.specs.declared.Row.{Row}
 use Rattle.command_rules.specs.Field.{Field, fieldOf}
 use Rattle.command_rules.specs.Param.{inPayload, valueOf, valued, orZero, entryOf, bitRows, rowOf, bytesAt, sizeAt, paramRows, paramEntry}
 use Rattle.command_rules.specs.Walk.{Walked, ended, after, once, onSize, members, turn, repetitionRow, repetitions, groupAt, outer, walk}
+use Rattle.command_rules.specs.declared.Offsets.{Offsets}
+use Rattle.command_rules.specs.declared.Offsets.the-variants.{Answered}
 use Rattle.command_rules.specs.Sum.{childrenOf, Follow, Placed, entryIn, paramsOf, Meets, AllMeet, Adds}
 use Rattle.command_rules.specs.Limits.{SmallEntries}
 use Rattle.command_rules.proofs.Lengths.{size-agrees}
@@ -251,7 +253,7 @@ module _ (all : List Entry) where
   -- ---- the outer list
   met-outer : (body : List ℕ) (ds : List Entry) (at : ℕ) (es : List Earlier) (n : ℕ) (before : List Row)
       → ((q : Parameter) → Among q (paramsOf ds) → Among q (paramsOf all)) → es ≡ map entryIn (childrenOf 0 before)
-      → ((c : ℕ) → n < c → childrenOf c before ≡ []) → AllMeet all before (outer body ds at es n .rows)
+      → ((c : ℕ) → n < c → childrenOf c before ≡ []) → AllMeet all before (outer Answered body ds at es n .rows)
   unfolding outer groupAt paramsOf
   met-outer body [] at es n before stand known clear = met-none before
   met-outer body (single q ∷ ds) at es n before stand known clear =
@@ -260,13 +262,13 @@ module _ (all : List Entry) where
     where
       go : (s : Size) → sizeAt body (fieldOf q) es at ≡ s
           → ((at′ : ℕ) (es′ : List Earlier) (n′ : ℕ) (before′ : List Row) → es′ ≡ map entryIn (childrenOf 0 before′)
-          → ((c : ℕ) → n′ < c → childrenOf c before′ ≡ []) → AllMeet all before′ (outer body ds at′ es′ n′ .rows))
+          → ((c : ℕ) → n′ < c → childrenOf c before′ ≡ []) → AllMeet all before′ (outer Answered body ds at′ es′ n′ .rows))
           → AllMeet all before
           (onSize s
           (λ size.
           after (paramRows body (fieldOf q) at size n 0)
-          (outer body ds (at + size .taken) (es ++ (paramEntry body at (size .taken) ∷ [])) (n + length (paramRows body (fieldOf q) at size n 0))))
-          (outer body ds at es n) .rows)
+          (outer Answered body ds (at + size .taken) (es ++ (paramEntry body at (size .taken) ∷ [])) (n + length (paramRows body (fieldOf q) at size n 0))))
+          (outer Answered body ds at (es ++ []) n) .rows)
       go (Bytes size) e more =
           met-append before (paramRows body (fieldOf q) at size n 0) _
           (met-param body q es at size n 0 before e (stand q (List·Memᴰ·head refl)) known)
@@ -274,7 +276,7 @@ module _ (all : List Entry) where
           (before ++ paramRows body (fieldOf q) at size n 0) (with-own body (fieldOf q) es at size n 0 e before (omega arith) known)
           (λ c h. neither c before (paramRows body (fieldOf q) at size n 0) (clear c (omega arith))
           (own-fresh body (fieldOf q) es at size n 0 e c (omega arith) h)))
-      go Missing e more = more at es n before known clear
+      go Missing e more = more at (es ++ []) n before (append-nil es ∙ known) clear
   met-outer body (repeated line g qs ∷ ds) at es n before stand known clear =
       go (repetitions body line qs (repeats (g .offset) (g .mask) (record { 0 = g .shift }) es (length body - at)) 0 at n)
       (met-repetitions body line qs (repeats (g .offset) (g .mask) (record { 0 = g .shift }) es (length body - at)) 0 at n before
@@ -283,8 +285,8 @@ module _ (all : List Entry) where
     where
       go : (w : Walked) → Turned before n w
           → ((at′ : ℕ) (es′ : List Earlier) (n′ : ℕ) (before′ : List Row) → es′ ≡ map entryIn (childrenOf 0 before′)
-          → ((c : ℕ) → n′ < c → childrenOf c before′ ≡ []) → AllMeet all before′ (outer body ds at′ es′ n′ .rows))
-          → AllMeet all before (after (w .rows) (outer body ds (w .end) (es ++ replicate (w .times) NoValue) (n + length (w .rows))) .rows)
+          → ((c : ℕ) → n′ < c → childrenOf c before′ ≡ []) → AllMeet all before′ (outer Answered body ds at′ es′ n′ .rows))
+          → AllMeet all before (after (w .rows) (outer Answered body ds (w .end) (es ++ replicate (w .times) NoValue) (n + length (w .rows))) .rows)
       go w turned more =
           met-append before (w .rows) _ (turned .given .met)
           (more (w .end) (es ++ replicate (w .times) NoValue) (n + length (w .rows)) (before ++ w .rows)
@@ -293,17 +295,17 @@ module _ (all : List Entry) where
           ∙ ap (λ (l : List Earlier). l ++ map entryIn (childrenOf 0 (w .rows))) (sym known) ∙ ap (λ (l : List Earlier). es ++ l) (turned .entries)))
           (λ c h. neither c before (w .rows) (clear c (omega arith)) (turned .given .fresh c h)))
 
-pub met-all : (body : List ℕ) (ds : List Entry) → AllMeet ds [] (outer body ds 0 [] 0 .rows)
+pub met-all : (body : List ℕ) (ds : List Entry) → AllMeet ds [] (outer Answered body ds 0 [] 0 .rows)
 unfolding childrenOf
 met-all body ds = met-outer ds body ds 0 [] 0 [] (λ q i. i) refl (λ c h. refl)
 
 -- ---- the whole command
-pub walk-adds : (body : List ℕ) (ds : List Entry) (size : ℕ) → SmallEntries ds → size ≡ 2 + length body
-    → Adds ds size (walk body ds .rows) (inPayload (walk body ds .end))
+pub walk-adds : (offsets : Offsets) (body : List ℕ) (ds : List Entry) (size : ℕ) → SmallEntries ds → size ≡ 2 + length body
+    → Adds offsets ds size (walk offsets body ds .rows) (inPayload (walk offsets body ds .end))
 unfolding walk Placed childrenOf
-walk-adds body ds size small is =
-    let o = outermost body ds 0 [] 0 in
-    let inside = walk-inside body ds small in
-    let f : Follow 2 (childrenOf 0 (outer body ds 0 [] 0 .rows)) (inPayload (outer body ds 0 [] 0 .end)) = o .follow in
-    let s = follow-sum 2 (inPayload (outer body ds 0 [] 0 .end)) (childrenOf 0 (outer body ds 0 [] 0 .rows)) f in
-    record { follow = f; sum = omega arith; placed = rw append-nil at (o .placed [] (λ c u v. refl) tt); cut = rw is (cut-outer body ds 0 [] 0); met = met-all body ds }
+walk-adds offsets body ds size small is =
+    let o = outermost offsets body ds 0 [] 0 in
+    let inside = walk-inside offsets body ds small in
+    let f : Follow 2 (childrenOf 0 (outer offsets body ds 0 [] 0 .rows)) (inPayload (outer offsets body ds 0 [] 0 .end)) = o .follow in
+    let s = follow-sum 2 (inPayload (outer offsets body ds 0 [] 0 .end)) (childrenOf 0 (outer offsets body ds 0 [] 0 .rows)) f in
+    record { follow = f; sum = omega arith; placed = rw append-nil at (o .placed [] (λ c u v. refl) tt); cut = rw is (cut-outer offsets body ds 0 [] 0); met = λ e. rw e (met-all body ds) }

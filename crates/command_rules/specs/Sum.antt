@@ -9,6 +9,8 @@ use Rattle.command_rules.specs.Lengths.{wanted, Agrees}
 use Rattle.command_rules.specs.Field.{fieldOf}
 use Rattle.command_rules.specs.declared.Earlier.{Earlier}
 use Rattle.command_rules.specs.declared.Earlier.the-variants.{Value, NoValue}
+use Rattle.command_rules.specs.declared.Offsets.{Offsets}
+use Rattle.command_rules.specs.declared.Offsets.the-variants.{Answered}
 use Rattle.command_rules.specs.declared.Row.{Row}
 
 -- the rows with this parent; 0 for those of the outer list
@@ -77,9 +79,9 @@ AllMeet ds before [] = Unit {0}
 AllMeet ds before (r ∷ rs) = (r .kind ≡ 0 → Meets ds before r) × AllMeet ds (before ++ (r ∷ [])) rs
 
 -- C19, demand 3: the outer rows follow one another from the body's start to the remainder, and all bytes add up
-pub record Adds (ds : List Entry) (size : ℕ) (rows : List Row) (remainder : ℕ) : Type 0 where
+pub record Adds (offsets : Offsets) (ds : List Entry) (size : ℕ) (rows : List Row) (remainder : ℕ) : Type 0 where
   pub follow : Follow 2 (childrenOf 0 rows) remainder
   pub sum : bytes (childrenOf 0 rows) + (size - remainder) ≡ size - 2
   pub placed : Placed 0 rows
   pub cut : CutAtEnd size rows
-  pub met : AllMeet ds [] rows
+  pub met : offsets ≡ Answered → AllMeet ds [] rows

@@ -8,7 +8,9 @@ use Rattle.command_text.specs.Form.{Group}
 use Rattle.command_class.specs.Definition.{Parameter, Entry, single, repeated}
 use Rattle.command_rules.specs.Lengths.{repeats}
 use Rattle.command_rules.specs.declared.Earlier.{Earlier}
-use Rattle.command_rules.specs.declared.Earlier.the-variants.{NoValue}
+use Rattle.command_rules.specs.declared.Earlier.the-variants.{NoValue, NoEntry}
+use Rattle.command_rules.specs.declared.Offsets.{Offsets}
+use Rattle.command_rules.specs.declared.Offsets.the-variants.{Answered, Position}
 use Rattle.command_rules.specs.declared.Length.{Length}
 use Rattle.command_rules.specs.declared.Size.{Size}
 use Rattle.command_rules.specs.declared.Size.the-variants.{Bytes, Missing}
@@ -73,20 +75,26 @@ unfoldable pub groupAt : List ℕ → ℕ → Group → List Parameter → List 
 groupAt body line g qs es at n =
     repetitions body line qs (repeats (g .offset) (g .mask) (record { 0 = g .shift }) es (length body - at)) 0 at n
 
--- C9, C2: the outer list, from a place of the body on; each repetition is an entry
-unfoldable pub outer : List ℕ → List Entry → ℕ → List Earlier → ℕ → Walked
-outer body [] at es n = ended at
-outer body (single q ∷ ds) at es n =
+-- C2, D2, D3: what a Q that does not exist or a group adds to the entries of the outer list: one without value for each repetition, of which an absent Q has
+-- none; or by position one that no offset finds
+abbrev pub unvalued : Offsets → ℕ → List Earlier
+unvalued Answered times = replicate times NoValue
+unvalued Position times = NoEntry ∷ []
+
+-- C9, C2, D1: the outer list, from a place of the body on
+unfoldable pub outer : Offsets → List ℕ → List Entry → ℕ → List Earlier → ℕ → Walked
+outer offsets body [] at es n = ended at
+outer offsets body (single q ∷ ds) at es n =
     onSize (sizeAt body (fieldOf q) es at)
     (λ size.
     after (paramRows body (fieldOf q) at size n 0)
-    (outer body ds (at + size .taken) (es ++ (paramEntry body at (size .taken) ∷ [])) (n + length (paramRows body (fieldOf q) at size n 0))))
-    (outer body ds at es n)
-outer body (repeated line g qs ∷ ds) at es n =
+    (outer offsets body ds (at + size .taken) (es ++ (paramEntry body at (size .taken) ∷ [])) (n + length (paramRows body (fieldOf q) at size n 0))))
+    (outer offsets body ds at (es ++ unvalued offsets 0) n)
+outer offsets body (repeated line g qs ∷ ds) at es n =
     after (groupAt body line g qs es at n .rows)
-    (outer body ds (groupAt body line g qs es at n .end) (es ++ replicate (groupAt body line g qs es at n .times) NoValue)
+    (outer offsets body ds (groupAt body line g qs es at n .end) (es ++ unvalued offsets (groupAt body line g qs es at n .times))
     (n + length (groupAt body line g qs es at n .rows)))
 
 -- C17: the rows of a command by a definition, and where the remainder starts in the body
-unfoldable pub walk : List ℕ → List Entry → Walked
-walk body ds = outer body ds 0 [] 0
+unfoldable pub walk : Offsets → List ℕ → List Entry → Walked
+walk offsets body ds = outer offsets body ds 0 [] 0

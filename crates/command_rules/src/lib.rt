@@ -11,6 +11,12 @@ pub enum Earlier {
     NoEntry,
 }
 
+// How an offset counts in the outer list: over the entries answered so far, or by the position of a Q or G in the text.
+pub enum Offsets {
+    Answered,
+    Position,
+}
+
 // What a Q's own lines say of its length: a number of bytes, the rest, or that an entry counts it.
 pub enum Rule {
     Fixed(u16),

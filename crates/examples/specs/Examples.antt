@@ -15,6 +15,7 @@ use Rattle.header.specs.declared.Decoded.the-variants.{Header, Refused}
 use Rattle.header.specs.Decode.{decoded, toldOf, tableAfter}
 use Rattle.header.specs.Examples.{text, table, a5c3, a5c3-rows, a53c}
 use Rattle.command_class.specs.Definition.{definition}
+use Rattle.command_rules.specs.declared.Offsets.the-variants.{Answered}
 use Rattle.command.specs.Answer.{answered, answerOf, tableAfter as rowsAfter}
 use Rattle.command.specs.Examples.{text as command-text, payload, lent, starred as params-are, starred-rows as params-rows-are}
 
@@ -52,8 +53,8 @@ pub record Starred : Type 0 where
       ∷ 9 ∷ 9 ∷ []
   pub no-header : decoded text (0xA5 ∷ 0x3C ∷ []) 0 0 30 ≡ Refused NoCandidate
   -- E11
-  pub params : answerOf command-text payload 22 ≡ answered 2 5
-  pub params-rows : rowsAfter (definition command-text) payload lent (answerOf command-text payload 22)
+  pub params : answerOf Answered command-text payload 22 ≡ answered 2 5
+  pub params-rows : rowsAfter Answered (definition command-text) payload lent (answerOf Answered command-text payload 22)
       ≡ 0 ∷ 1 ∷ 0 ∷ 2 ∷ 3 ∷ 1 ∷ 2 ∷ 0 ∷ 0 ∷ 0
       ∷ 0 ∷ 2 ∷ 0 ∷ 3 ∷ 5 ∷ 1 ∷ 0xAABB ∷ 0 ∷ 0 ∷ 0
       ∷ 9 ∷ 9 ∷ []

@@ -1,5 +1,6 @@
 // The examples of docs/RULES.md: E1 to E11 are proved (specs/Examples.antt); all of them are run here, and what is written is held to the
 // file `stdout`.
+use command::Offsets;
 use command::Params;
 use command::decode_params;
 use crc::check_crc;
@@ -86,7 +87,7 @@ fn print_params(name: &[u8], payload: &[u8]) {
     let text = b"Q\t0\tBYTE\tLength\t-\t-\nQ\t0\tVARIANT\tData\t-\t-\nR\t0\t7\t0\t0\n";
     let names: &[u8] =
         b"  Length starts:\t  Length ends:\t  Length:\t  Data starts:\t  Data ends:\t  remainder starts:";
-    match decode_params(text, payload, &mut rows) {
+    match decode_params(text, payload, Offsets::Answered, &mut rows) {
         Params::Rows { count, remainder } => {
             print(name, count as u64);
             print_piece(names, 0, rows[3]);

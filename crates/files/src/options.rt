@@ -14,6 +14,8 @@ pub struct Options {
     pub colour: bool,
     pub picture: bool,
     pub progress: bool,
+    // Are offsets of command texts by position?
+    pub by_position: bool,
     // The folder of the definitions, 0 where none is named.
     pub folder: usize,
     // The firmware that wrote the capture.
@@ -47,6 +49,7 @@ impl Options {
             colour: false,
             picture: false,
             progress: false,
+            by_position: false,
             folder: 0,
             firmware: 2,
             count: 0,
@@ -109,6 +112,11 @@ impl Options {
         self
     }
 
+    fn with_position(mut self) -> Self {
+        self.by_position = true;
+        self
+    }
+
     fn opened(mut self, option: u8) -> Self {
         self.open = option;
         self
@@ -130,7 +138,7 @@ fn is_option(bytes: &[u8]) -> bool {
 
 fn take_option(options: Options, k: usize, bytes: &[u8]) -> Options {
     match find_field(
-        b"--definitions\t--plain\t--colour\t--picture\t--progress\t--firmware",
+        b"--definitions\t--plain\t--colour\t--picture\t--progress\t--firmware\t--by-position",
         bytes,
     ) {
         0 => options.opened(DEFINITIONS),
@@ -139,6 +147,7 @@ fn take_option(options: Options, k: usize, bytes: &[u8]) -> Options {
         3 => options.with_picture(),
         4 => options.with_progress(),
         5 => options.opened(FIRMWARE),
+        6 => options.with_position(),
         _ => options.with_wrong(k),
     }
 }

@@ -4,6 +4,7 @@ use crate::node_columns::put_no_nodes;
 use crate::node_columns::put_nodes;
 use command::Params;
 use command::decode_params;
+use command::offsets_by;
 use command_part::command_part;
 use command_rows::LACKING;
 use command_rows::ROW_WIDTH;
@@ -46,10 +47,11 @@ pub struct Radio {
     pub speed: u64,
 }
 
-// How a line is shown: in colour or not, and by the command texts of which folder, told by its argument's number.
+// How a line is shown: in colour or not, by the command texts of which folder, told by its argument's number, and with offsets by position or not.
 pub struct Look {
     pub colour: bool,
     pub folder: usize,
+    pub by_position: bool,
 }
 
 // A name in its column.
@@ -87,9 +89,9 @@ fn is_cut(rows: &[u64], n: usize) -> bool {
 }
 
 // Does a command lack bytes by its text? One that is refused has no rows to tell by.
-fn lacks(text: &[u8], payload: &[u8]) -> bool {
+fn lacks(text: &[u8], payload: &[u8], by_position: bool) -> bool {
     let mut rows = [0u64; PARAMS];
-    match decode_params(text, payload, &mut rows) {
+    match decode_params(text, payload, offsets_by(by_position), &mut rows) {
         Params::Rows {
             count,
             remainder: _,
@@ -99,12 +101,12 @@ fn lacks(text: &[u8], payload: &[u8]) -> bool {
 }
 
 // The same by its line in the catalog.
-fn lacks_by(line: &[u8], payload: &[u8], folder: usize) -> bool {
+fn lacks_by(line: &[u8], payload: &[u8], look: Look) -> bool {
     let mut text = io::large_buffer();
-    let Loaded::Bytes(n) = find_command(folder, readers::catalog::file(line), &mut text) else {
+    let Loaded::Bytes(n) = find_command(look.folder, readers::catalog::file(line), &mut text) else {
         return false;
     };
-    lacks(&text[..n], payload)
+    lacks(&text[..n], payload, look.by_position)
 }
 
 // Marks a command with a field that is cut.
@@ -112,7 +114,7 @@ fn put_cut(out: &mut Buffer, at: usize, line: &[u8], payload: &[u8], look: Look)
     if line.len() == 0 {
         return at;
     }
-    if lacks_by(line, payload, look.folder) {
+    if lacks_by(line, payload, look) {
         return put_painted(out, at, b"  (cut)", 7, Hue::Wrong, look.colour);
     }
     at

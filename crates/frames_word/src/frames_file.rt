@@ -87,6 +87,7 @@ fn show_file(name: &[u8], fd: i32, options: Options) {
             options.colour,
             options.progress,
             options.folder,
+            options.by_position,
         ),
     );
 }

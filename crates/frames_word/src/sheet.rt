@@ -42,10 +42,18 @@ pub struct Sheet {
     pub folder: usize,
     // Does standard error say how far it is?
     pub progress: bool,
+    // Are offsets of command texts by position?
+    pub by_position: bool,
 }
 
 impl Sheet {
-    pub fn new(firmware: usize, colour: bool, progress: bool, folder: usize) -> Self {
+    pub fn new(
+        firmware: usize,
+        colour: bool,
+        progress: bool,
+        folder: usize,
+        by_position: bool,
+    ) -> Self {
         Sheet {
             at: 0,
             frames: 0,
@@ -56,6 +64,7 @@ impl Sheet {
             colour,
             folder,
             progress,
+            by_position,
         }
     }
 
@@ -64,6 +73,7 @@ impl Sheet {
         Look {
             colour: self.colour,
             folder: self.folder,
+            by_position: self.by_position,
         }
     }
 
@@ -99,6 +109,7 @@ impl Sheet {
             colour: self.colour,
             folder: self.folder,
             progress: self.progress,
+            by_position: self.by_position,
         }
     }
 

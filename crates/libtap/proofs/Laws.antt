@@ -1,6 +1,6 @@
 -- Laws of the answers as C has them. Assumes nothing.
 use mathlib.Core.Path.{_≡_, refl, ap, _∙_}
-use mathlib.Core.Bool.{true, false}
+use mathlib.Core.Bool.{Bool, true, false}
 use mathlib.Core.List.{List}
 use Prim.Native.Nat.{ℕ, _+_, _-_}
 use native.Mathlib.Omega.{arith}
@@ -31,9 +31,10 @@ use Rattle.header.specs.declared.Decoded.{Decoded}
 use Rattle.header.specs.declared.Decoded.the-variants as header
 use Rattle.header.specs.Decode.{Decodes}
 use Rattle.records.specs.declared.PayloadOffset.{PayloadOffset}
+use Rattle.command_rules.specs.declared.Offsets.{Offsets}
 use Rattle.command.specs.declared.Params.{Params}
 use Rattle.command.specs.declared.Params.the-variants as command
-use Rattle.command.specs.Answer.{told as toldParams, Decodes as DecodesParams}
+use Rattle.command.specs.Answer.{offsetsBy, told as toldParams, Decodes as DecodesParams}
 use Rattle.command_part.specs.declared.Part.{Part}
 use Rattle.command_part.specs.Part.{commandPart, span}
 use Rattle.libtap.specs.declared.TapAnswer.{TapAnswer}
@@ -166,9 +167,10 @@ pub params-refusal : (p : Params) (x : Refusal) (number carried : ℕ) → p ≡
 unfolding toldBy toldParams
 params-refusal p x number carried e is-number is-carried = rw (e, is-number, is-carried) refl
 
-pub params-all : (text payload t : List ℕ) (p : Params) (r : TapParams) (t′ : List ℕ) → DecodesParams text payload t (toldParams p) t′
-    → toldBy r ≡ toldParams p → DecodesParams text payload t (toldBy r) t′
-params-all text payload t p r t′ so is-r = rw is-r so
+pub params-all : (position : Bool) (offsets : Offsets) (text payload t : List ℕ) (p : Params) (r : TapParams) (t′ : List ℕ)
+    → DecodesParams offsets text payload t (toldParams p) t′ → offsets ≡ offsetsBy position → toldBy r ≡ toldParams p
+    → DecodesParams (offsetsBy position) text payload t (toldBy r) t′
+params-all position offsets text payload t p r t′ so is is-r = rw (is-r, ← is) so
 
 -- ---- tap_command_part
 pub command-lies : (n payload speed : ℕ) (p : Part) → p ≡ commandPart n payload speed

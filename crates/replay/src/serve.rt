@@ -18,6 +18,7 @@ use request::Word;
 use request::find;
 use request::word_of;
 use walk_requests::command;
+use walk_requests::commandby;
 use walk_requests::header;
 use writer::Buffer;
 use writer::flush;
@@ -60,6 +61,7 @@ fn answer(line: &[u8], bytes: &mut [u8], rows: &mut [u64], out: &mut Buffer, use
         Word::Commandtext => commandtext(words, bytes, out, used),
         Word::Header => header(words, bytes, rows, out, used),
         Word::Command => command(words, bytes, rows, out, used),
+        Word::Commandby => commandby(words, bytes, rows, out, used),
         Word::Bits => bits(words, bytes, out, used),
         Word::Checksum => checksum(words, bytes, out, used),
         Word::Tidy => tidy(words, bytes, out, used),

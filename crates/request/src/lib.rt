@@ -20,6 +20,7 @@ pub enum Word {
     Commandtext,
     Header,
     Command,
+    Commandby,
     Bits,
     Checksum,
     Tidy,
@@ -66,7 +67,7 @@ pub fn find(s: &[u8], b: u8) -> usize
 
 pub fn word_of(word: &[u8]) -> Word {
     let words: &[u8] =
-        b"rate\tcount\tbody\trecord\tframes\tframetable\tframetext\tcommandtext\theader\tcommand\tbits\tchecksum\trecordby\tframesby\tframetableby\ttidy";
+        b"rate\tcount\tbody\trecord\tframes\tframetable\tframetext\tcommandtext\theader\tcommand\tbits\tchecksum\trecordby\tframesby\tframetableby\ttidy\tcommandby";
     match find_field(words, word) {
         0 => Word::Rate,
         1 => Word::Count,
@@ -84,6 +85,7 @@ pub fn word_of(word: &[u8]) -> Word {
         13 => Word::Framesby,
         14 => Word::Frametableby,
         15 => Word::Tidy,
+        16 => Word::Commandby,
         _ => Word::Unknown,
     }
 }

@@ -12,6 +12,7 @@ use crate::frame_search::Table;
 use crate::frame_search::find_frame;
 use command::Params;
 use command::decode_params;
+use command::offsets_by;
 use command_part::command_part;
 use files::capture::Opened;
 use files::folder::Loaded;
@@ -75,9 +76,9 @@ fn fail_number(name: &[u8], number: u64, frames: u64) {
 }
 
 // The parameters of a command by its text.
-fn show_params(text: &[u8], payload: &[u8], out: &mut Buffer, at: usize) {
+fn show_params(text: &[u8], payload: &[u8], by_position: bool, out: &mut Buffer, at: usize) {
     let mut rows = [0u64; PARAMS];
-    match decode_params(text, payload, &mut rows) {
+    match decode_params(text, payload, offsets_by(by_position), &mut rows) {
         Params::Rows { count, remainder } => {
             let place = put_command(out, at, text, payload, &rows, count, remainder.0);
             flush(out, place);
@@ -106,7 +107,7 @@ fn show_line(line: &[u8], payload: &[u8], out: &mut Buffer, at: usize, options: 
         fail(b"");
         return;
     };
-    show_params(&text[..n], payload, out, place);
+    show_params(&text[..n], payload, options.by_position, out, place);
 }
 
 // The command in these bytes of a frame, by the index of the folder.

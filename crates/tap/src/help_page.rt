@@ -43,6 +43,7 @@ whole.
   --progress              every 1000 frames a count on standard error
   --firmware N            which capture firmware wrote it: 2, as without this option, or 3, which
                           says regions in five bits
+  --by-position           offsets in command texts count the lines of the text, not what is there
 
 Where the frame text is missing or refused, no frame has a name. The last line of the output is
 failed then, or 'refused N V' with that refusal.

@@ -14,10 +14,11 @@ use Rattle.command_class.specs.Definition.{definition}
 use Rattle.command_rules.specs.Param.{inPayload}
 use Rattle.command_rules.specs.Rows.{rowWidth}
 use Rattle.command_rules.specs.Walk.{Walked, walk}
+use Rattle.command_rules.specs.declared.Offsets.{Offsets}
 use Rattle.command.specs.Answer.{Told, answered, refused, bodyOf, within, answerBy, onVerdict, answerOf, Decodes}
 use Rattle.walk_requests.specs.Walks.{StandParams}
 
-module _ (payload t t′ : List ℕ) (same : length t′ ≡ length t) where
+module _ (offsets : Offsets) (payload t t′ : List ℕ) (same : length t′ ≡ length t) where
   within-stands : (w : Walked) → StandParams t′ (within w (length t))
   unfolding within
   within-stands w = go (leb (length (w .rows)) (length t / rowWidth)) (leb-true (length (w .rows)) (length t / rowWidth))
@@ -34,12 +35,12 @@ module _ (payload t t′ : List ℕ) (same : length t′ ≡ length t) where
   judged-stands Accepted false true a s = omega arith
   judged-stands Accepted false false a s = s
 
-  answer-stands : (text : List ℕ) → StandParams t′ (answerOf text payload (length t))
+  answer-stands : (text : List ℕ) → StandParams t′ (answerOf offsets text payload (length t))
   unfolding answerOf answerBy
   answer-stands text =
-      judged-stands (verdict text) (ltb 2048 (length payload)) (ltb (length payload) 2) (within (walk (bodyOf payload) (definition text)) (length t))
-      (within-stands (walk (bodyOf payload) (definition text)))
+      judged-stands (verdict text) (ltb 2048 (length payload)) (ltb (length payload) 2) (within (walk offsets (bodyOf payload) (definition text)) (length t))
+      (within-stands (walk offsets (bodyOf payload) (definition text)))
 
-pub params-stand : (text payload t : List ℕ) (a : Told) (t′ : List ℕ) → Decodes text payload t a t′ → length t′ ≡ length t
+pub params-stand : (offsets : Offsets) (text payload t : List ℕ) (a : Told) (t′ : List ℕ) → Decodes offsets text payload t a t′ → length t′ ≡ length t
     → StandParams t′ a
-params-stand text payload t a t′ p same = rw (p .answer) (answer-stands payload t t′ same text)
+params-stand offsets text payload t a t′ p same = rw (p .answer) (answer-stands offsets payload t t′ same text)

@@ -9,6 +9,7 @@ use answer::table::put_refused;
 use answer::table::put_touched;
 use command::Params;
 use command::decode_params;
+use command::offsets_by;
 use frame_definition::Flags;
 use header::Decoded;
 use header::DecodedHeader;
@@ -43,6 +44,14 @@ struct Request {
     numbers: usize,
     region: u64,
     speed: u64,
+    n: usize,
+    end: usize,
+}
+
+// A request for a command: whether it names the offsets and whether they are by position, where the payload starts behind the text, and where it ends.
+struct CommandAsked {
+    by: bool,
+    by_position: bool,
     n: usize,
     end: usize,
 }
@@ -119,9 +128,11 @@ pub fn header(
     Answer::Put(answer_header(bytes, request, &mut rows[..numbers], out, used))
 }
 
-// `command CAP TEXT PAYLOAD`
-pub fn command(
+// `CAP TEXT PAYLOAD`, of `commandby` or of `command`
+fn answer_asked(
     words: &[u8],
+    by: bool,
+    by_position: bool,
     bytes: &mut [u8],
     rows: &mut [u64],
     out: &mut Buffer,
@@ -135,7 +146,45 @@ pub fn command(
     let Both::Are(n, end) = read_both(&words[at..], bytes) else {
         return Answer::Bad;
     };
-    Answer::Put(answer_command(bytes, n, end, &mut rows[..numbers], out, used))
+    let asked = CommandAsked {
+        by,
+        by_position,
+        n,
+        end,
+    };
+    Answer::Put(answer_command(bytes, asked, &mut rows[..numbers], out, used))
+}
+
+// `command CAP TEXT PAYLOAD`
+pub fn command(
+    words: &[u8],
+    bytes: &mut [u8],
+    rows: &mut [u64],
+    out: &mut Buffer,
+    used: usize,
+) -> Answer
+    requires { ⌜ Ample (now rows) ⌝ }
+{
+    answer_asked(words, false, false, bytes, rows, out, used)
+}
+
+// `commandby MODE CAP TEXT PAYLOAD`
+pub fn commandby(
+    words: &[u8],
+    bytes: &mut [u8],
+    rows: &mut [u64],
+    out: &mut Buffer,
+    used: usize,
+) -> Answer
+    requires { ⌜ Ample (now rows) ⌝ }
+{
+    let Leading::Is(mode, at) = read_leading(words) else {
+        return Answer::Bad;
+    };
+    if 1 < mode {
+        return Answer::Bad;
+    }
+    answer_asked(&words[at..], true, mode == 1, bytes, rows, out, used)
 }
 
 // The first n bytes are the text, those behind them up to the end the MPDU.
@@ -165,16 +214,17 @@ fn answer_header(
 // The first n bytes are the text, those behind them up to the end the payload.
 fn answer_command(
     bytes: &[u8],
-    n: usize,
-    end: usize,
+    asked: CommandAsked,
     rows: &mut [u64],
     out: &mut Buffer,
     used: usize,
 ) -> usize
-    requires { ⌜ (n ≤ end) × (end ≤ length (now bytes)) ⌝ }
+    requires { ⌜ (asked .n ≤ asked .end) × (asked .end ≤ length (now bytes)) ⌝ }
 {
+    let n = asked.n;
+    let end = asked.end;
     fill(rows);
-    walk_command(&bytes[..n], &bytes[n..end], rows, out, used)
+    walk_command(&bytes[..n], &bytes[n..end], asked, rows, out, used)
 }
 
 fn walk_header(
@@ -193,12 +243,21 @@ fn walk_header(
 fn walk_command(
     text: &[u8],
     payload: &[u8],
+    asked: CommandAsked,
     rows: &mut [u64],
     out: &mut Buffer,
     used: usize,
 ) -> usize {
-    let params = decode_params(text, payload, rows);
-    put_params(out, used, params, rows)
+    let params = decode_params(text, payload, offsets_by(asked.by_position), rows);
+    put_params(out, used, asked.by, params, rows)
+}
+
+// The word that answers a request on a command, and how many rows it has.
+fn put_counted(out: &mut Buffer, used: usize, by: bool, count: usize) -> usize {
+    if by {
+        return put_named(out, used, b"commandby", count as u64);
+    }
+    put_named(out, used, b"command", count as u64)
 }
 
 // The answer of `decode_header` and the table that it was lent.
@@ -212,12 +271,12 @@ fn put_decoded(out: &mut Buffer, used: usize, decoded: Decoded, table: &[u64]) -
 }
 
 // The answer of `decode_params` and the table that it was lent.
-fn put_params(out: &mut Buffer, used: usize, params: Params, table: &[u64]) -> usize
+fn put_params(out: &mut Buffer, used: usize, by: bool, params: Params, table: &[u64]) -> usize
     requires { ⌜ StandParams (now table) (told params) ⌝ }
 {
     match params {
         Params::Rows { count, remainder } => {
-            let mut n = put_named(out, used, b"command", count as u64);
+            let mut n = put_counted(out, used, by, count);
             n = put_value(out, n, remainder.0 as u64);
             put_table(out, n, table, count * command_rows::ROW_WIDTH)
         }

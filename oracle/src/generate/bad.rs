@@ -56,7 +56,11 @@ fn bad_number(random: &mut Random) -> Vec<u8> {
         6 => format!("header 4 {number} 0 - 0000"),
         7 => format!("header 4 0 {number} - 0000"),
         8 => format!("command {number} - 0000"),
-        9 => format!("{} {} - -", random.pick(&["header", "command"]), random.pick(CAPS)),
+        9 => format!(
+            "{} {} - -",
+            random.pick(&["header", "command", "commandby 0"]),
+            random.pick(CAPS)
+        ),
         10 => format!("tidy {number} -"),
         11 => format!("tidy {} -", random.pick(BUFFERS)),
         _ => format!("{} {} -", random.pick(&["frames", "frametable"]), random.pick(CAPS)),

@@ -37,6 +37,7 @@ pub const KINDS: &[Kind] = &[
     Kind { name: "commandtext", weight: 30, draw: texts::commandtext },
     Kind { name: "header", weight: 30, draw: header::header },
     Kind { name: "command", weight: 30, draw: command::command },
+    Kind { name: "commandby", weight: 30, draw: command::commandby },
     Kind { name: "bits", weight: 15, draw: bits::bits },
     Kind { name: "checksum", weight: 15, draw: bits::checksum },
     Kind { name: "tidy", weight: 20, draw: texts::tidy },
@@ -44,8 +45,7 @@ pub const KINDS: &[Kind] = &[
 ];
 
 /// What `today` stands for: what the replay program answers so far.
-pub const TODAY: &str =
-    "rate,count,body,record,frames,frametable,recordby,framesby,frametableby,frametext,commandtext,header,command,bits,checksum,tidy,bad";
+pub const TODAY: &str = "rate,count,body,record,frames,frametable,recordby,framesby,frametableby,frametext,commandtext,header,command,commandby,bits,checksum,tidy,bad";
 
 /// Draws requests of some kinds under a seed.
 #[derive(Clone)]

@@ -10,6 +10,16 @@ use crate::rows::{self, CommandRow};
 /// C2: an entry that was answered: its value, if it has one. A repetition is one without a value.
 pub type Entry = Option<u64>;
 
+/// D1: what an offset finds: an entry, or that there is no such one.
+pub type Found = Option<Entry>;
+
+/// D1: how offsets count in the outer list: over the entries answered so far, or by position in the text.
+#[derive(Debug, Clone, Copy, PartialEq, Eq)]
+pub enum Offsets {
+    Answered,
+    Position,
+}
+
 /// C1: where the body starts in the payload.
 const BEFORE_BODY: usize = 2;
 
@@ -22,6 +32,7 @@ const REPETITION: u64 = 2;
 pub fn decode_params(
     definition: &CommandDefinition,
     payload: &[u8],
+    offsets: Offsets,
 ) -> Result<rows::Command, Refusal> {
     if payload.len() > limits::COMMAND {
         return Err(Refusal { number: 4, carried: payload.len() });
@@ -29,7 +40,7 @@ pub fn decode_params(
     let Some(body) = payload.get(BEFORE_BODY..) else {
         return Err(Refusal { number: 5, carried: payload.len() });
     };
-    let mut walk = Walk::new(body);
+    let mut walk = Walk::new(body, offsets);
     definition.items.iter().for_each(|item| walk.take_item(item));
     Ok(rows::Command { remainder: BEFORE_BODY + walk.place, rows: walk.rows })
 }
@@ -38,35 +49,45 @@ pub fn decode_params(
 pub struct Walk<'a> {
     pub body: &'a [u8],
     pub place: usize,
-    /// Of the outer list.
-    pub entries: Vec<Entry>,
+    offsets: Offsets,
+    /// What offsets find, of the outer list.
+    pub entries: Vec<Found>,
     pub rows: Vec<CommandRow>,
 }
 
 impl<'a> Walk<'a> {
-    pub fn new(body: &'a [u8]) -> Walk<'a> {
-        Walk { body, place: 0, entries: Vec::new(), rows: Vec::new() }
+    pub fn new(body: &'a [u8], offsets: Offsets) -> Walk<'a> {
+        Walk { body, place: 0, offsets, entries: Vec::new(), rows: Vec::new() }
     }
 
     pub fn remaining(&self) -> usize {
         self.body.len() - self.place
     }
 
-    /// C9: a Q of the outer list, passed over where it does not exist.
+    /// C9: a Q of the outer list, passed over where it does not exist. D2, D3: by position each Q and G has
+    /// its place, but a Q that does not exist and a group are not found there.
     pub fn take_item(&mut self, item: &CmdItem) {
         match item {
             CmdItem::Param(q) => {
                 let entries = std::mem::take(&mut self.entries);
                 let entry = self.take_param(q, &entries, 0);
                 self.entries = entries;
-                self.entries.extend(entry);
+                if entry.is_some() || self.offsets == Offsets::Position {
+                    self.entries.push(entry);
+                }
             }
-            CmdItem::VariantGroup(group) => self.take_group(group),
+            CmdItem::VariantGroup(group) => {
+                let repetitions = self.take_group(group);
+                match self.offsets {
+                    Offsets::Answered => self.entries.extend(vec![Some(None); repetitions]),
+                    Offsets::Position => self.entries.push(None),
+                }
+            }
         }
     }
 
     /// Takes a Q, where it exists: its row, and those of its bit children.
-    fn take_param(&mut self, q: &Param, entries: &[Entry], parent: u64) -> Option<Entry> {
+    fn take_param(&mut self, q: &Param, entries: &[Found], parent: u64) -> Found {
         let length = length_if_it_exists(q, entries, self.remaining())?;
         let lacking = lacking(q, entries, self.remaining());
         let start = self.place;
@@ -93,17 +114,17 @@ impl<'a> Walk<'a> {
         }
     }
 
-    /// C13, C15: the repetitions of a group.
-    fn take_group(&mut self, group: &VariantGroup) {
+    /// C13, C15: the repetitions of a group: how many.
+    fn take_group(&mut self, group: &VariantGroup) -> usize {
         let count = repetitions(group, &self.entries);
         let mut number = 0;
         while count.map_or(self.remaining() > 0, |count| number < count) {
             if !self.take_repetition(group, number) {
                 break;
             }
-            self.entries.push(None);
             number += 1;
         }
+        number as usize
     }
 
     /// C14: a repetition. False where it takes nothing: it has no row.
@@ -113,9 +134,10 @@ impl<'a> Walk<'a> {
         self.push(start, Row { kind: REPETITION, line, repetition: number, ..Row::default() });
         let mut members = Vec::new();
         for q in &group.params {
-            let Some(entry) = self.take_param(q, &members, row as u64 + 1) else {
+            let entry = self.take_param(q, &members, row as u64 + 1);
+            if entry.is_none() {
                 break;
-            };
+            }
             members.push(entry);
         }
         match self.place > start {
@@ -158,32 +180,32 @@ struct Row {
 }
 
 /// C8: the length of a Q, if it exists.
-pub fn length_if_it_exists(q: &Param, entries: &[Entry], remaining: usize) -> Option<usize> {
+pub fn length_if_it_exists(q: &Param, entries: &[Found], remaining: usize) -> Option<usize> {
     let length = length(q, entries, remaining);
     (remaining > 0 && condition_holds(q, entries) && length > 0).then_some(length)
 }
 
 /// C3: does the condition hold?
-fn condition_holds(q: &Param, entries: &[Entry]) -> bool {
+fn condition_holds(q: &Param, entries: &[Found]) -> bool {
     let (Some(offset), Some(mask)) = (q.optional_offset, q.optional_mask) else {
         return true;
     };
-    let value = entries.get(usize::from(offset)).copied().flatten();
+    let value = found(entries, offset).flatten();
     value.is_some_and(|value| low_byte(value) & mask != 0)
 }
 
 /// C7: the length, cut to what is left.
-fn length(q: &Param, entries: &[Entry], remaining: usize) -> usize {
+fn length(q: &Param, entries: &[Found], remaining: usize) -> usize {
     wanted(q, entries).map_or(remaining, |length| length.min(remaining))
 }
 
 /// L2: how many bytes are wanted but not there; of the rest none.
-fn lacking(q: &Param, entries: &[Entry], remaining: usize) -> usize {
+fn lacking(q: &Param, entries: &[Found], remaining: usize) -> usize {
     wanted(q, entries).map_or(0, |length| length.saturating_sub(remaining))
 }
 
 /// C4 to C6, L1: how many bytes a Q wants. `None`: the rest.
-fn wanted(q: &Param, entries: &[Entry]) -> Option<usize> {
+fn wanted(q: &Param, entries: &[Found]) -> Option<usize> {
     match q.param_type {
         ParamType::Byte | ParamType::StructByte | ParamType::Const | ParamType::Marker => Some(1),
         ParamType::Word => Some(2),
@@ -197,22 +219,27 @@ fn wanted(q: &Param, entries: &[Entry]) -> Option<usize> {
 }
 
 /// C6: the length by the first R. `None`: the rest.
-fn length_by_r(q: &Param, entries: &[Entry]) -> Option<usize> {
+fn length_by_r(q: &Param, entries: &[Found]) -> Option<usize> {
     let (offset, mask, shift, _) = first_r(q)?;
     if offset == 255 || mask == 0 {
         return None;
     }
-    let entry = entries.get(usize::from(offset))?;
+    let entry = found(entries, offset)?;
     Some(usize::from((entry.map_or(0, low_byte) & mask) >> shift))
 }
 
 /// C13: how often a group repeats. `None`: to the end.
-pub fn repetitions(group: &VariantGroup, entries: &[Entry]) -> Option<u64> {
+pub fn repetitions(group: &VariantGroup, entries: &[Found]) -> Option<u64> {
     if group.offset == 255 || group.mask == 0 {
         return None;
     }
-    let entry = entries.get(usize::from(group.offset)).copied().flatten();
+    let entry = found(entries, group.offset).flatten();
     Some(entry.map_or(0, |value| u64::from((low_byte(value) & group.mask) >> group.shift)))
+}
+
+/// C2, D1: what an offset finds.
+pub fn found(entries: &[Found], offset: u8) -> Found {
+    entries.get(usize::from(offset)).copied().flatten()
 }
 
 fn low_byte(value: u64) -> u8 {

@@ -13,13 +13,18 @@ use crate::refusal::Refusal;
 use crate::request::Request;
 use crate::rows::within_table;
 
-/// The answer to a request on frames, to `header` or `command`; `None` to another.
+/// The answer to a request on frames, to `header`, `command` or `commandby`; `None` to another.
 pub fn answer(request: &Request) -> Option<String> {
     let answer = match request {
         Request::Header { cap, region, speed, text, mpdu } => {
             header_answer(*cap, *region, *speed, text, mpdu)
         }
-        Request::Command { cap, text, payload } => command_answer(*cap, text, payload),
+        Request::Command { cap, text, payload } => {
+            command_answer("command", command::Offsets::Answered, *cap, text, payload)
+        }
+        Request::Commandby { offsets, cap, text, payload } => {
+            command_answer("commandby", *offsets, *cap, text, payload)
+        }
         Request::Recordby { firmware, body } => record_answer("recordby", *firmware, body),
         Request::Record { body } => record_answer("frame", 2, body),
         Request::Framesby { firmware, cap, payload } => {
@@ -58,8 +63,14 @@ fn frames_answer(word: &str, firmware: u64, cap: u64, payload: &[u8]) -> Result<
     Ok(answer)
 }
 
-fn command_answer(cap: u64, text: &[u8], payload: &[u8]) -> Result<String, Refusal> {
-    let command = command::decode_params(&definition::read(text)?, payload)?;
+fn command_answer(
+    word: &str,
+    offsets: command::Offsets,
+    cap: u64,
+    text: &[u8],
+    payload: &[u8],
+) -> Result<String, Refusal> {
+    let command = command::decode_params(&definition::read(text)?, payload, offsets)?;
     within_table(&command.rows, cap)?;
-    Ok(command.to_string())
+    Ok(format!("{word} {command}"))
 }

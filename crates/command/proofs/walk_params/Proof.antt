@@ -7,21 +7,23 @@ use Rattle.command.proofs.walk_params.Statement.{statement}
 use Rattle.command.proofs.walk_params.Tie as tie
 
 abbrev Inv-loop : tie.InvT-loop
-Inv-loop text loaded count body rows₀ kept₀ have₀ at₀ next₀ j₀ rows kept have at next j = Outer text body rows₀ rows kept have (at .0) next j
+Inv-loop text loaded count offsets body rows₀ kept₀ have₀ at₀ next₀ j₀ rows kept have at next j = Outer offsets text body rows₀ rows kept have (at .0) next j
 
 abbrev μ-loop : tie.MeasureT-loop
-μ-loop text loaded count body rows₀ kept₀ have₀ at₀ next₀ j₀ rows kept have at next j = count - j
+μ-loop text loaded count offsets body rows₀ kept₀ have₀ at₀ next₀ j₀ rows kept have at next j = count - j
 
 missing : tie.Need-loop-again Inv-loop μ-loop
 missing c =
-    let by-if1 = c .before .before .before .before .before .before .before in
+    let by-param-at = c .before .before .before .before .before .before .before in
+    let by-if1 = by-param-at .before .before .before in
     let by-is-outer = by-if1 .before in
     let by-loaded-at = by-is-outer .before in
     let turn-test = by-loaded-at .before in
     let turn = turn-test .before in
     let start = turn .before .before .before .before .before in
-    outer-missing _ _ _ _ (start .pre .0) _ _ _ _ _ _ _ (turn .loop .inv) _ (by-loaded-at .loaded-at .ensures) (omega (arith, turn-test .loop-test)) _
-    (by-is-outer .is-outer .ensures) _ _ (c .before .before .before .before .param-at .ensures) (by-if1 .if1 .taken) (c .enum-told .given .1)
+    outer-missing _ _ _ _ _ (start .pre .0) _ _ _ _ _ _ _ (turn .loop .inv) _ (by-loaded-at .loaded-at .ensures) (omega (arith, turn-test .loop-test)) _
+    (by-is-outer .is-outer .ensures) _ _ (by-param-at .param-at .ensures) (by-if1 .if1 .taken) (c .before .before .before .enum-told .given .1) _ _
+    (c .before .keep-unvalued .ensures .0) (c .before .keep-unvalued .ensures .1)
 
 add-j-2 : tie.Need-add-j-2 Inv-loop μ-loop
 add-j-2 c =
@@ -31,25 +33,7 @@ add-j-2 c =
 
 add-next-2 : tie.Need-add-next-2 Inv-loop μ-loop
 add-next-2 c =
-    let by-repeats-at = c .before .before .before .before .before .before in
-    let by-if2 = by-repeats-at .before .before in
-    let by-is-outer = by-if2 .before .before .before in
-    let by-loaded-at = by-is-outer .before in
-    let turn-test = by-loaded-at .before in
-    let turn = turn-test .before in
-    let start = turn .before .before .before .before .before in
-    outer-group-fits _ _ _ _ (start .pre .0) _ _ _ _ _ _ _ (turn .loop .inv) _ (by-loaded-at .loaded-at .ensures) (omega (arith, turn-test .loop-test)) _
-    (by-is-outer .is-outer .ensures) _ _ _ (by-repeats-at .repeats-at .ensures) (c .before .before .before .before .read-group .ensures) (by-if2 .if2 .taken)
-
-add-j-3 : tie.Need-add-j-3 Inv-loop μ-loop
-add-j-3 c =
-    let turn-test = c .before .before .before .before .before .before .before .before .before .before .before .before .before .before in
-    let start = turn-test .before .before .before .before .before .before in
-    omega (arith, turn-test .loop-test, start .pre .0 .few)
-
-loop-again-3 : tie.Need-loop-again-3 Inv-loop μ-loop
-loop-again-3 c =
-    let by-read-group = c .before .before .before .before .before in
+    let by-read-group = c .before .before .before .before .before .before in
     let by-repeats-at = by-read-group .before .before in
     let by-if2 = by-repeats-at .before .before in
     let by-is-outer = by-if2 .before .before .before in
@@ -57,16 +41,36 @@ loop-again-3 c =
     let turn-test = by-loaded-at .before in
     let turn = turn-test .before in
     let start = turn .before .before .before .before .before in
-    outer-group _ _ _ _ (start .pre .0) _ _ _ _ _ _ _ (turn .loop .inv) _ (by-loaded-at .loaded-at .ensures) (omega (arith, turn-test .loop-test)) _
-    (by-is-outer .is-outer .ensures) _ _ _ (by-repeats-at .repeats-at .ensures) (by-read-group .read-group .ensures) (by-if2 .if2 .taken) _
-    (c .before .before .keep-repetitions .ensures)
+    outer-group-fits _ _ _ _ _ (start .pre .0) _ _ _ _ _ _ _ (turn .loop .inv) _ (by-loaded-at .loaded-at .ensures) (omega (arith, turn-test .loop-test)) _
+    (by-is-outer .is-outer .ensures) _ _ _ (by-repeats-at .repeats-at .ensures) (by-read-group .read-group .ensures) (by-if2 .if2 .taken)
+
+add-j-3 : tie.Need-add-j-3 Inv-loop μ-loop
+add-j-3 c =
+    let turn-test = c .before .before .before .before .before .before .before .before .before .before .before .before .before .before .before .before in
+    let start = turn-test .before .before .before .before .before .before in
+    omega (arith, turn-test .loop-test, start .pre .0 .few)
+
+loop-again-3 : tie.Need-loop-again-3 Inv-loop μ-loop
+loop-again-3 c =
+    let by-keep = c .before .before .before in
+    let by-read-group = by-keep .before .before .before .before in
+    let by-repeats-at = by-read-group .before .before in
+    let by-if2 = by-repeats-at .before .before in
+    let by-is-outer = by-if2 .before .before .before in
+    let by-loaded-at = by-is-outer .before in
+    let turn-test = by-loaded-at .before in
+    let turn = turn-test .before in
+    let start = turn .before .before .before .before .before in
+    outer-group _ _ _ _ _ (start .pre .0) _ _ _ _ _ _ _ (turn .loop .inv) _ (by-loaded-at .loaded-at .ensures) (omega (arith, turn-test .loop-test)) _
+    (by-is-outer .is-outer .ensures) _ _ _ (by-repeats-at .repeats-at .ensures) (by-read-group .read-group .ensures) (by-if2 .if2 .taken) _ _
+    (by-keep .keep-unvalued2 .ensures .0) (by-keep .keep-unvalued2 .ensures .1)
 
 loop-again-4 : tie.Need-loop-again-4 Inv-loop μ-loop
 loop-again-4 c =
     let turn-test = c .before .before .before .before .before in
     let turn = turn-test .before in
     let start = turn .before .before .before .before .before in
-    outer-pass _ _ _ _ (start .pre .0) _ _ _ _ _ _ _ (turn .loop .inv) _ (c .before .before .before .before .loaded-at .ensures)
+    outer-pass _ _ _ _ _ (start .pre .0) _ _ _ _ _ _ _ (turn .loop .inv) _ (c .before .before .before .before .loaded-at .ensures)
     (omega (arith, turn-test .loop-test)) _ (c .before .before .before .is-outer .ensures) (c .before .before .if1 .left) (c .if2 .left)
 
 pub walk-params-spec : {M : Type 1} → statement M
@@ -84,6 +88,8 @@ walk-params-spec =
     (λ c. search (needs, outer-laws))
     (λ c. search (needs, outer-laws))
     (λ c. search (needs, outer-laws))
+    (λ c κs. search (needs, outer-laws))
+    (λ c. search (needs, outer-laws))
     (λ c. search (needs, outer-laws))
     missing
     (λ c. search (needs, outer-laws))
@@ -97,6 +103,7 @@ walk-params-spec =
     (λ c. search (needs, outer-laws))
     (λ c κs. search (needs, outer-laws))
     (λ c κs. search (needs, outer-laws))
+    (λ c. search (needs, outer-laws))
     (λ c κs. search (needs, outer-laws))
     add-next-2
     add-j-3

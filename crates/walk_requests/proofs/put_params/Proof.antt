@@ -9,7 +9,6 @@ put-params-spec =
     tie.close
     (tie.spec
     (λ c. search (needs, laws))
-    (λ c. search (needs, laws))
     (λ c κs. search (needs, laws))
     (λ c κs. search (needs, laws))
     (λ c. search (needs, laws))

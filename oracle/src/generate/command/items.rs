@@ -6,7 +6,7 @@ use crate::definition::command::{CmdItem, ItemKind, Param, ParamItem, TYPES, Var
 use crate::generate::small_bytes;
 use crate::limits;
 use crate::random::Random;
-use crate::reading::command::{Entry, Walk};
+use crate::reading::command::{Found, Offsets, Walk, found};
 
 /// Types with a length of their own.
 const FIXED: &[ParamType] = &[
@@ -20,14 +20,14 @@ const FIXED: &[ParamType] = &[
 ];
 
 /// The items of a command.
-pub fn items(random: &mut Random, body: &[u8]) -> Vec<CmdItem> {
+pub fn items(random: &mut Random, body: &[u8], offsets: Offsets) -> Vec<CmdItem> {
     let (count, is_full) = match random.below(200) {
         0 => (limits::CMD_ITEMS, true),
         1..=4 => (random.from_to(12, 60), false),
         5..=8 => (0, false),
         _ => (random.pick(&[1, 2, 3, 4, 6, 8, 10, 14]), false),
     };
-    let mut walk = Walk::new(body);
+    let mut walk = Walk::new(body, offsets);
     let mut items = Vec::new();
     let mut left = count;
     while left > 0 {
@@ -51,11 +51,11 @@ pub fn items(random: &mut Random, body: &[u8]) -> Vec<CmdItem> {
 
 /// A payload and items: more than 250 repetitions, and behind them entries that offsets of 254 and
 /// 255 meet or miss.
-pub fn about_offset_255(random: &mut Random) -> (Vec<u8>, Vec<CmdItem>) {
+pub fn about_offset_255(random: &mut Random, offsets: Offsets) -> (Vec<u8>, Vec<CmdItem>) {
     let length = random.from_to(280, 400);
     let mut payload = small_bytes(random, length);
     payload[2] = random.from_to(248, 255) as u8;
-    let mut walk = Walk::new(&payload[2..]);
+    let mut walk = Walk::new(&payload[2..], offsets);
     let count = CmdItem::Param(plain(ParamType::Byte, Vec::new()));
     let group = CmdItem::VariantGroup(VariantGroup {
         line: 0,
@@ -107,7 +107,7 @@ fn group(random: &mut Random, walk: &Walk, most: usize) -> VariantGroup {
         2 => (254, 255, 0),
         _ => size(random, &walk.entries, 6),
     };
-    let mut repetition = Walk::new(&walk.body[walk.place..]);
+    let mut repetition = Walk::new(&walk.body[walk.place..], Offsets::Answered);
     let mut params = Vec::new();
     for _ in 0..random.pick(&[0, 1, 1, 2, 2, 3, 4]).min(most) {
         let q = param(random, &repetition);
@@ -153,7 +153,7 @@ fn param(random: &mut Random, walk: &Walk) -> Param {
 }
 
 /// Mostly none; else one that holds or not, or half of one.
-fn condition(random: &mut Random, entries: &[Entry]) -> (Option<u8>, Option<u8>) {
+fn condition(random: &mut Random, entries: &[Found]) -> (Option<u8>, Option<u8>) {
     let any = random.byte();
     match random.below(20) {
         0 => (Some(any), None),
@@ -170,14 +170,14 @@ fn condition(random: &mut Random, entries: &[Entry]) -> (Option<u8>, Option<u8>)
 }
 
 /// Mostly of an entry that has a value; else of one that has none, or past the list.
-fn offset(random: &mut Random, entries: &[Entry]) -> u8 {
+fn offset(random: &mut Random, entries: &[Found]) -> u8 {
     let has_value = random.below(8) > 0;
     offset_of(random, entries, has_value)
 }
 
 /// Of an entry that has a value or has none, mostly; past the list where there is none such.
-fn offset_of(random: &mut Random, entries: &[Entry], has_value: bool) -> u8 {
-    let of_sort = |place: &usize| entries[*place].is_some() == has_value;
+fn offset_of(random: &mut Random, entries: &[Found], has_value: bool) -> u8 {
+    let of_sort = |place: &usize| entries[*place].flatten().is_some() == has_value;
     let places: Vec<usize> = (0..entries.len().min(256)).filter(of_sort).collect();
     match places[..] {
         [] => (entries.len() + random.below(2)).min(255) as u8,
@@ -186,12 +186,12 @@ fn offset_of(random: &mut Random, entries: &[Entry], has_value: bool) -> u8 {
     }
 }
 
-fn low_byte_at(entries: &[Entry], offset: u8) -> u8 {
-    entries.get(usize::from(offset)).copied().flatten().unwrap_or(0) as u8
+fn low_byte_at(entries: &[Found], offset: u8) -> u8 {
+    found(entries, offset).flatten().unwrap_or(0) as u8
 }
 
 /// Offset, mask and shift, mostly such that the size is from 1 to about so much.
-fn size(random: &mut Random, entries: &[Entry], about: usize) -> (u8, u8, u8) {
+fn size(random: &mut Random, entries: &[Found], about: usize) -> (u8, u8, u8) {
     let mut drawn = (0, 255, 0);
     for _ in 0..6 {
         let offset = offset(random, entries);

@@ -6,4 +6,5 @@ use Rattle.libtap.proofs.commands.tap_decode_params.Tie as tie
 
 pub tap-decode-params-spec : {M : Type 1} → statement M
 tap-decode-params-spec =
-    tie.close (tie.spec (λ c κs. search (needs, laws)) (λ c κs. search (needs, laws)) (λ c. search (needs, laws)) (λ c. search (needs, laws)))
+    tie.close (tie.spec (λ c κs. search (needs, laws)) (λ c κs. search (needs, laws)) (λ c κs. search (needs, laws)) (λ c. search (needs, laws))
+    (λ c. search (needs, laws)))

@@ -1,21 +1,15 @@
--- `walk_requests::command` meets its contract, by the laws of the crate. Assumes nothing.
+-- `walk_requests::commandby` meets its contract, by the laws of the crate. Assumes nothing.
 use Rattle.walk_requests.proofs.Laws.{laws}
 use borrow.Author.Needs.{needs}
-use Rattle.walk_requests.proofs.command.Statement.{statement}
-use Rattle.walk_requests.proofs.command.Tie as tie
+use Rattle.walk_requests.proofs.commandby.Statement.{statement}
+use Rattle.walk_requests.proofs.commandby.Tie as tie
 
-pub command-spec : {M : Type 1} → statement M
-command-spec =
+pub commandby-spec : {M : Type 1} → statement M
+commandby-spec =
     tie.close
     (tie.spec
     (λ c κs. search (needs, laws))
     (λ c. search (needs, laws))
-    (λ c. search (needs, laws))
-    (λ c. search (needs, laws))
-    (λ c. search (needs, laws))
-    (λ c. search (needs, laws))
-    (λ c. search (needs, laws))
-    (λ c κs. search (needs, laws))
     (λ c. search (needs, laws))
     (λ c. search (needs, laws))
     (λ c. search (needs, laws))
