@@ -21,6 +21,7 @@ fn put_words(out: &mut Buffer, at: usize, refusal: Refusal, k: usize, width: usi
   - no header holds (7)\theaders that hold: \t
   - too many fields (8)\tit has \t frames, more than there is room for
   - not a frame (9)\tframes in it: \t
+  - no such field (11)\trow \t is no such field
   - text too long (12)\tit has \t bytes, more than there is room for
   - unknown firmware (13)\tthere is no capture firmware \t, only 2 and 3
 ";
@@ -34,8 +35,9 @@ fn put_words(out: &mut Buffer, at: usize, refusal: Refusal, k: usize, width: usi
         Refusal::NoCandidate => 7,
         Refusal::MoreRows(_) => 8,
         Refusal::NotAFrame => 9,
-        Refusal::MoreBytes(_) => 10,
-        Refusal::Firmware(_) => 11,
+        Refusal::NoSuchField(_) => 10,
+        Refusal::MoreBytes(_) => 11,
+        Refusal::Firmware(_) => 12,
     };
     put_left(out, at, field_of(numbered_line(words, line), k), width)
 }

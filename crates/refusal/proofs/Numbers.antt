@@ -4,7 +4,7 @@ use mathlib.Core.Bool.{false}
 use lib.Dec.{eqb}
 use Rattle.refusal.specs.Refusal.{numberOf}
 use Rattle.refusal.specs.declared.Refusal.{Refusal}
-use Rattle.refusal.specs.declared.Refusal.the-variants.{Form, Limit, Owner, TooLong, TooShort, NoBase, NoCandidate, MoreRows, NotAFrame, MoreBytes, Firmware}
+use Rattle.refusal.specs.declared.Refusal.the-variants.{Form, Limit, Owner, TooLong, TooShort, NoBase, NoCandidate, MoreRows, NotAFrame, NoSuchField, MoreBytes, Firmware}
 
 pub numbered : (r : Refusal) → eqb (numberOf r) 0 ≡ false
 numbered (Form line) = refl
@@ -16,5 +16,6 @@ numbered (NoBase key) = refl
 numbered NoCandidate = refl
 numbered (MoreRows rows) = refl
 numbered NotAFrame = refl
+numbered (NoSuchField row) = refl
 numbered (MoreBytes length) = refl
 numbered (Firmware firmware) = refl

@@ -1,9 +1,9 @@
--- R1 to R9, U5 and FV2 (docs/RULES.md): the number of each refusal, and what it carries.
+-- R1 to R9, BM3, U5 and FV2 (docs/RULES.md): the number of each refusal, and what it carries.
 use Prim.Native.Nat.{ℕ}
 use Rattle.refusal.specs.declared.Refusal.{Refusal}
-use Rattle.refusal.specs.declared.Refusal.the-variants.{Form, Limit, Owner, TooLong, TooShort, NoBase, NoCandidate, MoreRows, NotAFrame, MoreBytes, Firmware}
+use Rattle.refusal.specs.declared.Refusal.the-variants.{Form, Limit, Owner, TooLong, TooShort, NoBase, NoCandidate, MoreRows, NotAFrame, NoSuchField, MoreBytes, Firmware}
 
--- R1 to R9, U5, FV2: the case of refusal n has the number n
+-- R1 to R9, BM3, U5, FV2: the case of refusal n has the number n
 abbrev pub numberOf : Refusal → ℕ
 numberOf (Form line) = 1
 numberOf (Limit line) = 2
@@ -14,10 +14,11 @@ numberOf (NoBase key) = 6
 numberOf NoCandidate = 7
 numberOf (MoreRows rows) = 8
 numberOf NotAFrame = 9
+numberOf (NoSuchField row) = 11
 numberOf (MoreBytes length) = 12
 numberOf (Firmware number) = 13
 
--- R1 to R9, U5, FV2: a line, a length, a key, a count of rows, a firmware's number, or 0
+-- R1 to R9, BM3, U5, FV2: a line, a length, a key, a count of rows, a row's number, a firmware's, or 0
 abbrev pub carriedBy : Refusal → ℕ
 carriedBy (Form line) = line
 carriedBy (Limit line) = line
@@ -28,5 +29,6 @@ carriedBy (NoBase key) = key
 carriedBy NoCandidate = 0
 carriedBy (MoreRows rows) = rows
 carriedBy NotAFrame = 0
+carriedBy (NoSuchField row) = row
 carriedBy (MoreBytes length) = length
 carriedBy (Firmware number) = number

@@ -1,4 +1,4 @@
-// Why a call refuses: R1 to R9, U5 and FV2 of docs/RULES.md. One case a number, with what it carries.
+// Why a call refuses: R1 to R9, BM3, U5 and FV2 of docs/RULES.md. One case a number, with what it carries.
 // Every public call of the tap answers with its numbers or with one of these.
 ghost use mathlib.Core.Path.{_≡_};
 ghost use Rattle.refusal.specs.Refusal.{numberOf, carriedBy};
@@ -22,6 +22,8 @@ pub enum Refusal {
     MoreRows(usize),
     // 9: a body that was handed over by itself is no frame.
     NotAFrame,
+    // 11: the row is not such a field. Carries its number.
+    NoSuchField(usize),
     // 12: a text does not fit into the buffer. Carries how many bytes it has.
     MoreBytes(usize),
     // 13: there is no such capture firmware. Carries its number.
@@ -43,12 +45,13 @@ impl Refusal {
             Refusal::NoCandidate => 7,
             Refusal::MoreRows(_) => 8,
             Refusal::NotAFrame => 9,
+            Refusal::NoSuchField(_) => 11,
             Refusal::MoreBytes(_) => 12,
             Refusal::Firmware(_) => 13,
         }
     }
 
-    // What it carries: a line, a length, a key, a count of rows or a firmware's number; 0 where it carries nothing.
+    // What it carries: a line, a length, a key, a count of rows, a row's number or a firmware's; 0 where it carries nothing.
     pub fn carried(self) -> usize
         ensures { λ r. ⌜ r ≡ carriedBy self ⌝ }
     {
@@ -62,6 +65,7 @@ impl Refusal {
             Refusal::NoCandidate => 0,
             Refusal::MoreRows(rows) => rows,
             Refusal::NotAFrame => 0,
+            Refusal::NoSuchField(row) => row,
             Refusal::MoreBytes(length) => length,
             Refusal::Firmware(number) => number,
         }
