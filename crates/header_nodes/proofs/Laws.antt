@@ -23,7 +23,7 @@ use Rattle.node_mask.specs.declared.Listed.{Listed}
 use Rattle.node_mask.specs.declared.Listed.the-variants as listing
 use Rattle.node_mask.proofs.NodeLaws.{nodes-address}
 use Rattle.header_nodes.specs.Fields.{paramType, isTyped, isMask, numberAt, startAt, bitsAt, maskAt}
-use Rattle.header_nodes.specs.Answer.{RowNodes, answerOf, rowsOf, ofDecoded, HeaderNodes}
+use Rattle.header_nodes.specs.Answer.{RowNodes, LentNodes, answerOf, rowsOf, ofDecoded, HeaderNodes}
 
 -- ---- is_mask
 module _ (t : List ℕ) (number start bits : ℕ) where
@@ -39,7 +39,7 @@ module _ (t : List ℕ) (number start bits : ℕ) where
   unfolding isMask
   mask-typed x b e is s h = rw (eq-eqb (start % 8) 0 s, eq-eqb (bits % 8) 0 h, ← e) is
 
--- ---- row_nodes
+-- ---- nodes_of_row
 module _ (t d rows : List ℕ) (k : ℕ) (table : List ℕ) (b : Bool) (is : b ≡ isMask t (numberAt rows k) (startAt rows k) (bitsAt rows k)) where
   pub row-not : b ≡ false → RowNodes t d rows k table (listing.Refused (NoSuchField k)) table
   row-not e = record { answer = rw (← is, e) refl; leaves = refl }
@@ -47,6 +47,24 @@ module _ (t d rows : List ℕ) (k : ℕ) (table : List ℕ) (b : Bool) (is : b �
   pub row-lists : (m : List ℕ) (r : Listed) (table′ : List ℕ) → m ≡ take (bitsAt rows k / 8) (drop (startAt rows k / 8) d) → Lists m table r table′ → b ≡ true
       → RowNodes t d rows k table r table′
   row-lists m r table′ part l e = record { answer = rw (← is, e, ← part) (l .answer); leaves = rw (← part) (l .leaves) }
+
+-- ---- row_nodes
+module _ (t d rows : List ℕ) (k : ℕ) (table : List ℕ) (v : Verdict) (is : v ≡ verdict t) where
+  pub lent-not : (y : Refusal) → v ≡ text.Refused y → LentNodes t d rows k table (listing.Refused y) table
+  lent-not y e = let w : verdict t ≡ text.Refused y = sym is ∙ e in record { answer = rw w refl; leaves = refl }
+
+  module _ (e : v ≡ text.Accepted) where
+    accepted : verdict t ≡ text.Accepted
+    accepted = sym is ∙ e
+
+    pub lent-past : length rows / rowWidth ≤ k → LentNodes t d rows k table (listing.Refused (NoSuchField k)) table
+    lent-past h = record { answer = rw (accepted, le-leb (length rows / rowWidth) k h) refl; leaves = refl }
+
+    pub lent-row : (r : Listed) (table′ : List ℕ) → RowNodes t d rows k table r table′ → k < length rows / rowWidth → LentNodes t d rows k table r table′
+    lent-row r table′ l h = record { answer = rw (accepted, lt-leb (length rows / rowWidth) k h) (l .answer); leaves = l .leaves }
+
+pub lent-inside : (rows : List ℕ) (k : ℕ) → k < length rows / rowWidth → k * rowWidth + rowWidth ≤ length rows
+lent-inside rows k h = omega arith
 
 -- ---- nodes_accepted: behind `decode_header`'s answer x and its rows
 module _ (t d : List ℕ) (region speed : ℕ) (x : Decoded) (rows : List ℕ) (dec : Decodes t d region speed (replicate {A = ℕ} 896 0) x rows) where
@@ -109,6 +127,10 @@ pub ruleset laws = (
   mask-typed,
   row-not,
   row-lists,
+  lent-not,
+  lent-past,
+  lent-row,
+  lent-inside,
   told-refused,
   told-past,
   told-row,

@@ -1,11 +1,15 @@
 -- BM4 (docs/RULES.md): what listing the nodes of a header's row answers and leaves.
-use Prim.Native.Nat.{ℕ}
+use Prim.Native.Nat.{ℕ, _/_}
 use mathlib.Core.Path.{_≡_}
 use mathlib.Core.Bool.{cond}
 use mathlib.Core.List.{List}
 use lib.Dec.{leb}
 use lib.ListN.{length, replicate}
 use Rattle.refusal.specs.declared.Refusal.the-variants.{NoSuchField}
+use Rattle.text.specs.declared.Verdict.{Verdict}
+use Rattle.text.specs.declared.Verdict.the-variants as text
+use Rattle.frame_text.specs.Rules.{verdict}
+use Rattle.header_rules.specs.Table.{rowWidth}
 use Rattle.node_mask.specs.Nodes.{nodesOf, Addresses, listed, nodesAfter}
 use Rattle.node_mask.specs.declared.Listed.{Listed}
 use Rattle.node_mask.specs.declared.Listed.the-variants as listing
@@ -24,6 +28,15 @@ ofRow t d rows k room = cond (isMaskRow t rows k) (listed (maskAt d rows k) room
 
 pub record RowNodes (t d rows : List ℕ) (k : ℕ) (table : List ℕ) (r : Listed) (table′ : List ℕ) : Type 0 where
   pub answer : r ≡ ofRow t d rows k (length table)
+  pub leaves : table′ ≡ nodesAfter (maskAt d rows k) table r
+
+-- BM4: by a table of rows that is there: the text comes first, then 11 for a row that there is not
+abbrev pub ofLent : Verdict → List ℕ → List ℕ → List ℕ → ℕ → ℕ → Listed
+ofLent text.Accepted t d rows k room = cond (leb (length rows / rowWidth) k) (noSuchField k) (ofRow t d rows k room)
+ofLent (text.Refused x) t d rows k room = listing.Refused x
+
+pub record LentNodes (t d rows : List ℕ) (k : ℕ) (table : List ℕ) (r : Listed) (table′ : List ℕ) : Type 0 where
+  pub answer : r ≡ ofLent (verdict t) t d rows k (length table)
   pub leaves : table′ ≡ nodesAfter (maskAt d rows k) table r
 
 -- ---- the header is decoded first

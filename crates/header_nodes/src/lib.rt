@@ -24,7 +24,7 @@ ghost use Rattle.text.specs.declared.Verdict.the-variants.{Accepted};
 ghost use Rattle.frame_text.specs.Rules.{verdict};
 ghost use Rattle.header_rules.specs.Table.{rowWidth};
 ghost use Rattle.header_nodes.specs.Fields.{paramType, isBitmask, isTyped, isMask};
-ghost use Rattle.header_nodes.specs.Answer.{RowNodes, HeaderNodes};
+ghost use Rattle.header_nodes.specs.Answer.{RowNodes, LentNodes, HeaderNodes};
 
 // The type of the P line of this number.
 pub fn param_type(text: &[u8], number: u64) -> Typed
@@ -85,8 +85,8 @@ fn is_mask(text: &[u8], number: u64, start: u64, bits: u64) -> bool
     is_typed(param_type(text, number))
 }
 
-// The nodes of a row of a header; or refusal 11 or 8.
-pub fn row_nodes(text: &[u8], mpdu: &[u8], rows: &[u64], row: usize, nodes: &mut [u16]) -> Listed
+// The nodes of a row of a header by a text that is accepted; or refusal 11 or 8.
+fn nodes_of_row(text: &[u8], mpdu: &[u8], rows: &[u64], row: usize, nodes: &mut [u16]) -> Listed
     requires { ⌜ (verdict (now text) ≡ Accepted) × (row * rowWidth + rowWidth ≤ length (now rows)) ⌝ }
     ensures { λ r. ⌜ RowNodes (now (text .entry)) (now (mpdu .entry)) (now (rows .entry)) row (now (nodes .entry)) r (now (nodes .exit)) ⌝ }
 {
@@ -98,7 +98,22 @@ pub fn row_nodes(text: &[u8], mpdu: &[u8], rows: &[u64], row: usize, nodes: &mut
     Listed::Refused(Refusal::NoSuchField(row))
 }
 
-// The same by a text that is accepted; or refusal 4 to 7, 11 or 8.
+// The nodes of a row of a table that `decode_header` has filled; or refusal 1 to 3, 11 or 8.
+pub fn row_nodes(text: &[u8], mpdu: &[u8], rows: &[u64], row: usize, nodes: &mut [u16]) -> Listed
+    ensures { λ r. ⌜ LentNodes (now (text .entry)) (now (mpdu .entry)) (now (rows .entry)) row (now (nodes .entry)) r (now (nodes .exit)) ⌝ }
+{
+    match check_frame_text(text) {
+        Verdict::Accepted => {
+            if rows.len() / ROW_WIDTH <= row {
+                return Listed::Refused(Refusal::NoSuchField(row));
+            }
+            nodes_of_row(text, mpdu, rows, row, nodes)
+        }
+        Verdict::Refused(refusal) => Listed::Refused(refusal),
+    }
+}
+
+// The nodes of a row of the header by a text that is accepted; or refusal 4 to 7, 11 or 8.
 pub fn nodes_accepted(
     text: &[u8],
     mpdu: &[u8],
@@ -116,7 +131,7 @@ pub fn nodes_accepted(
             if header.rows <= row {
                 return Listed::Refused(Refusal::NoSuchField(row));
             }
-            row_nodes(text, mpdu, &rows, row, nodes)
+            nodes_of_row(text, mpdu, &rows, row, nodes)
         }
         Decoded::Refused(refusal) => Listed::Refused(refusal),
     }

@@ -1,3 +1,4 @@
 pub mod Answers
 pub mod Headers
 pub mod Commands
+pub mod Nodes

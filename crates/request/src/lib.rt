@@ -24,6 +24,7 @@ pub enum Word {
     Bits,
     Checksum,
     Tidy,
+    Headernodes,
     Unknown,
 }
 
@@ -67,7 +68,7 @@ pub fn find(s: &[u8], b: u8) -> usize
 
 pub fn word_of(word: &[u8]) -> Word {
     let words: &[u8] =
-        b"rate\tcount\tbody\trecord\tframes\tframetable\tframetext\tcommandtext\theader\tcommand\tbits\tchecksum\trecordby\tframesby\tframetableby\ttidy\tcommandby";
+        b"rate\tcount\tbody\trecord\tframes\tframetable\tframetext\tcommandtext\theader\tcommand\tbits\tchecksum\trecordby\tframesby\tframetableby\ttidy\tcommandby\theadernodes";
     match find_field(words, word) {
         0 => Word::Rate,
         1 => Word::Count,
@@ -86,6 +87,7 @@ pub fn word_of(word: &[u8]) -> Word {
         14 => Word::Frametableby,
         15 => Word::Tidy,
         16 => Word::Commandby,
+        17 => Word::Headernodes,
         _ => Word::Unknown,
     }
 }

@@ -1,0 +1,28 @@
+-- Laws of the answers on bit masks as C has them. Assumes nothing.
+use mathlib.Core.Path.{_≡_, refl}
+use mathlib.Core.List.{List}
+use Prim.Native.Nat.{ℕ}
+use Rattle.refusal.specs.declared.Refusal.{Refusal}
+use Rattle.refusal.specs.Refusal.{numberOf, carriedBy}
+use Rattle.node_mask.specs.declared.Listed.{Listed}
+use Rattle.node_mask.specs.declared.Listed.the-variants.{Nodes, Refused}
+use Rattle.node_mask.specs.Nodes.{Lists}
+use Rattle.header_nodes.specs.Answer.{HeaderNodes}
+use Rattle.libtap.specs.declared.TapAnswer.{TapAnswer}
+use Rattle.libtap.specs.Nodes.{toldListed, ToldMask, ToldHeaderNodes}
+
+pub tells-nodes : (x : Listed) (n : ℕ) → x ≡ Nodes n → record { refusal = 0; value = n } ≡ toldListed x
+tells-nodes x n e = rw e refl
+
+pub tells-unlisted : (x : Listed) (y : Refusal) (number carried : ℕ) → x ≡ Refused y → number ≡ numberOf y → carried ≡ carriedBy y
+    → record { refusal = number; value = carried } ≡ toldListed x
+tells-unlisted x y number carried e is-number is-carried = rw (e, is-number, is-carried) refl
+
+pub tells-mask : (mask t : List ℕ) (x : Listed) (r : TapAnswer) (t′ : List ℕ) → Lists mask t x t′ → r ≡ toldListed x → ToldMask mask t r t′
+tells-mask mask t x r t′ so is-r = record { answer = x; lists = so; told-so = is-r }
+
+pub tells-header-nodes : (text mpdu : List ℕ) (region speed row : ℕ) (t : List ℕ) (x : Listed) (r : TapAnswer) (t′ : List ℕ)
+    → HeaderNodes text mpdu region speed row t x t′ → r ≡ toldListed x → ToldHeaderNodes text mpdu region speed row t r t′
+tells-header-nodes text mpdu region speed row t x r t′ so is-r = record { answer = x; lists = so; told-so = is-r }
+
+pub ruleset node-laws = (tells-nodes, tells-unlisted, tells-mask, tells-header-nodes)

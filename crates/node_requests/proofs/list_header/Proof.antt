@@ -1,0 +1,15 @@
+-- `node_requests::list_header` meets its contract, by the laws of the crate. Assumes nothing.
+use Rattle.node_requests.proofs.Laws.{laws}
+use borrow.Author.Needs.{needs}
+use Rattle.node_requests.proofs.list_header.Statement.{statement}
+use Rattle.node_requests.proofs.list_header.Tie as tie
+
+pub list-header-spec : {M : Type 1} → statement M
+list-header-spec =
+    tie.close
+    (tie.spec
+    (λ c κs. search (needs, laws))
+    (λ c. search (needs, laws))
+    (λ c κs. search (needs, laws))
+    (λ c. search (needs, laws))
+    (λ c. search (needs, laws)))
