@@ -9,7 +9,7 @@
  *   - A table that is lent overlaps nothing else that the same call is lent: no bytes, no other table. Bytes may overlap bytes.
  *   - While a call runs nobody else writes what it is lent, or reads a table that it is lent.
  *
- * Refusals (docs/RULES.md, R1 to R9, U5 and FV2), and the `value` that each carries:
+ * Refusals (docs/RULES.md, R1 to R9, BM3, U5 and FV2), and the `value` that each carries:
  *
  *   0  none
  *   1  a line of the text has none of the forms                                     its number, from 1
@@ -21,8 +21,9 @@
  *   5  too short: an MPDU or a command of 0 or 1 byte                               its length
  *   6  no B has the base key that is sought                                         that key
  *   7  no candidate holds                                                           0
- *   8  the answer does not fit into the table                                       how many rows it has
+ *   8  the answer does not fit into the table                                       how many rows or nodes it has
  *   9  a body is not a frame                                                        0
+ *  11  the row is no mask of nodes                                                its number
  *  12  the text does not fit into the buffer                                        how many bytes it has
  *  13  there is no such capture firmware                                            its number
  */
@@ -102,6 +103,12 @@ TapAnswer tap_check_command_text(const uint8_t *text, size_t text_length);
  * refusal writes nothing, an answer nothing behind the text. Refuses by 1 to 3, then 12. */
 TapAnswer tap_tidy_command_text(const uint8_t *text, size_t text_length, uint8_t *buffer, size_t buffer_length);
 
+/* ---- masks of nodes ---- */
+
+/* The nodes whose bits are set in a mask, rising, each once: the lowest bit of the first byte is node 1. Answers how many. Refuses by 4, a mask of
+ * more than 8,191 bytes, and 8. `nodes_length` is how many nodes the table has room for. */
+TapAnswer tap_mask_nodes(const uint8_t *mask, size_t mask_length, uint16_t *nodes, size_t nodes_length);
+
 /* ---- headers ---- */
 
 /* `is_read` is false where there is no value. */
@@ -139,6 +146,11 @@ bool tap_check_crc(const uint8_t *mpdu, size_t mpdu_length, uint64_t speed);
  * of an F line, not a PTI region. Refuses by 1 to 8. At most 128 rows. */
 TapHeader tap_decode_header(const uint8_t *text, size_t text_length, const uint8_t *mpdu, size_t mpdu_length, uint64_t region,
                             uint64_t speed, uint64_t *rows, size_t rows_length);
+
+/* The nodes of row `row`, from 0, of what `tap_decode_header` answers, if that row is a field of type BITMASK, of whole bytes at a whole byte. It takes
+ * no table of rows. Answers how many. Refuses by 1 to 7 as `tap_decode_header` does, then 11, then 8. */
+TapAnswer tap_header_nodes(const uint8_t *text, size_t text_length, const uint8_t *mpdu, size_t mpdu_length, uint64_t region,
+                           uint64_t speed, size_t row, uint16_t *nodes, size_t nodes_length);
 
 /* Where the command lies in an MPDU whose header ends at byte `payload`, as its answer says: before the checksum. An empty part at 0 where the two
  * leave no room for one. */

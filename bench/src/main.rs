@@ -1,6 +1,6 @@
 //! What the library's calls cost, each against its measure, in one process, and the stack they take:
 //! `parse_payload`, `read_bits`, `decode_header` and `decode_params` against zniff-rs, the checks of
-//! definition texts against a C loop.
+//! definition texts and `mask_nodes` against loops in C.
 
 mod bits;
 mod check;
@@ -9,6 +9,7 @@ mod commands;
 mod counter;
 mod frames;
 mod headers;
+mod nodes;
 mod ours;
 mod params;
 mod parse;
@@ -20,6 +21,7 @@ fn main() {
     parse::run();
     check::run();
     bits::run();
+    nodes::run();
     headers::run();
     params::run();
 }

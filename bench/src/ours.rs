@@ -34,6 +34,7 @@ unsafe extern "C" {
     ) -> TapAnswer;
     pub fn tap_check_frame_text(text: *const u8, text_length: usize) -> TapAnswer;
     pub fn tap_check_command_text(text: *const u8, text_length: usize) -> TapAnswer;
+    fn tap_mask_nodes(mask: *const u8, mask_length: usize, nodes: *mut u16, nodes_length: usize) -> TapAnswer;
     fn tap_read_bits(data: *const u8, data_length: usize, start: u64, width: u64) -> TapBits;
 }
 
@@ -230,6 +231,22 @@ pub fn read_bits(data: &[u8], start: u64, width: u64) -> Option<u64> {
     // SAFETY: the slice is valid for the call, which only reads it.
     let bits = unsafe { tap_read_bits(data.as_ptr(), data.len(), start, width) };
     bits.is_read.then_some(bits.value)
+}
+
+/// How many nodes a mask addresses: all that a table of none is told.
+#[inline]
+pub fn count_nodes(mask: &[u8]) -> usize {
+    // SAFETY: the slices are valid for the call, which writes nothing into a table of no nodes.
+    let answer = unsafe { tap_mask_nodes(mask.as_ptr(), mask.len(), [].as_mut_ptr(), 0) };
+    answer.value as usize
+}
+
+/// The nodes of a mask into a table with room for them. Answers how many.
+#[inline]
+pub fn mask_nodes(mask: &[u8], nodes: &mut [u16]) -> usize {
+    // SAFETY: both slices are valid for the call, which writes inside the table alone.
+    let answer = unsafe { tap_mask_nodes(mask.as_ptr(), mask.len(), nodes.as_mut_ptr(), nodes.len()) };
+    answer.value as usize
 }
 
 /// The firmware whose payloads zniff-rs reads.

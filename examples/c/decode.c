@@ -9,7 +9,7 @@
 /* The capture firmware that wrote the payload. */
 enum { FIRMWARE = 2 };
 
-enum { LONGEST_TEXT = 60000, LONGEST_PAYLOAD = 65535, FRAMES = 2978, HEADER_ROWS = 128, COMMAND_ROWS = 4096 };
+enum { LONGEST_TEXT = 60000, LONGEST_PAYLOAD = 65535, FRAMES = 2978, HEADER_ROWS = 128, COMMAND_ROWS = 4096, NODES = 256 };
 
 static uint8_t frame_text[LONGEST_TEXT + 1];
 static uint8_t given_text[LONGEST_TEXT + 1];
@@ -18,6 +18,7 @@ static uint8_t payload[LONGEST_PAYLOAD + 1];
 static uint64_t frames[FRAMES * TAP_FRAME_WIDTH];
 static uint64_t header_rows[HEADER_ROWS * TAP_HEADER_WIDTH];
 static uint64_t command_rows[COMMAND_ROWS * TAP_COMMAND_WIDTH];
+static uint16_t nodes[NODES];
 
 /* A whole file: one byte more than the longest that a call takes, so that it can say that it is too long. */
 static size_t read_file(const char *name, uint8_t *bytes, size_t room) {
@@ -65,6 +66,19 @@ static void print_numbers(const char *what, const uint64_t *row, int count) {
     printf("\n");
 }
 
+/* The nodes that row `row` of a header addresses, if it is a mask of nodes. */
+static void show_nodes(const uint8_t *mpdu, size_t length, const uint64_t *frame, uint64_t row, size_t text_length) {
+    TapAnswer listed = tap_header_nodes(frame_text, text_length, mpdu, length, code_of(frame[1]), frame[3], row, nodes, NODES);
+    if (listed.refusal) {
+        return;
+    }
+    printf("      %llu nodes:", (unsigned long long)listed.value);
+    for (uint64_t i = 0; i < listed.value; i++) {
+        printf(" %u", nodes[i]);
+    }
+    printf("\n");
+}
+
 static void show_command(const uint8_t *bytes, size_t length, size_t text_length) {
     TapParams params = tap_decode_params(command_text, text_length, bytes, length, false, command_rows, sizeof command_rows / sizeof *command_rows);
     if (params.refusal) {
@@ -95,6 +109,7 @@ static void show_frame(const uint64_t *frame, size_t frame_text_length, size_t c
            header.right ? "right" : "wrong");
     for (uint64_t i = 0; i < header.rows; i++) {
         print_numbers("    field", header_rows + i * TAP_HEADER_WIDTH, TAP_HEADER_WIDTH);
+        show_nodes(mpdu, length, frame, i, frame_text_length);
     }
     TapPart command = tap_command_part(mpdu, length, header.payload, rate);
     if (2 <= command.length) {

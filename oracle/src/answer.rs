@@ -69,6 +69,9 @@ pub fn full_answer(line: &[u8]) -> Answer {
         Request::Bits { place, width, bytes } => Ok(bits(*place, *width, bytes)),
         Request::Checksum { speed, mpdu } => Ok(checksum(*speed, mpdu)),
         Request::Tidy { cap, text } => tidy(*cap, text),
+        Request::Headernodes { cap, row, region, speed, text, mpdu } => {
+            headernodes(*cap, *row, *region, *speed, text, mpdu)
+        }
     };
     answer.into()
 }
@@ -267,4 +270,18 @@ fn tidy(cap: u64, text: &[u8]) -> Result<String, Refusal> {
     let mut answer = "tidy ".to_string();
     push_hex(&tidied, &mut answer);
     Ok(answer)
+}
+
+/// BM4: the nodes of a header's row, by the second reading: the Rust lists none.
+fn headernodes(
+    cap: u64,
+    row: u64,
+    region: u64,
+    speed: u64,
+    text: &[u8],
+    mpdu: &[u8],
+) -> Result<String, Refusal> {
+    let definition: FrameDefinition = definition::read(text)?;
+    let mask = reading::nodes::header_mask(&definition, mpdu, region, speed, row)?;
+    reading::nodes::listed("headernodes", mask, cap)
 }

@@ -24,6 +24,7 @@ pub enum Request {
     Bits { place: u64, width: u64, bytes: Vec<u8> },
     Checksum { speed: u64, mpdu: Vec<u8> },
     Tidy { cap: u64, text: Vec<u8> },
+    Headernodes { cap: u64, row: u64, region: u64, speed: u64, text: Vec<u8>, mpdu: Vec<u8> },
 }
 
 impl Request {
@@ -75,6 +76,14 @@ impl Request {
             },
             b"checksum" => Request::Checksum { speed: words.number()?, mpdu: words.bytes()? },
             b"tidy" => Request::Tidy { cap: words.buffer()?, text: words.bytes()? },
+            b"headernodes" => Request::Headernodes {
+                cap: words.cap()?,
+                row: words.number()?,
+                region: words.number()?,
+                speed: words.number()?,
+                text: words.bytes()?,
+                mpdu: words.bytes()?,
+            },
             _ => return None,
         };
         words.end()?;
@@ -109,6 +118,9 @@ impl Request {
             Request::Bits { place, width, bytes } => ("bits", vec![*place, *width], vec![bytes]),
             Request::Checksum { speed, mpdu } => ("checksum", vec![*speed], vec![mpdu]),
             Request::Tidy { cap, text } => ("tidy", vec![*cap], vec![text]),
+            Request::Headernodes { cap, row, region, speed, text, mpdu } => {
+                ("headernodes", vec![*cap, *row, *region, *speed], vec![text, mpdu])
+            }
         }
     }
 

@@ -12,7 +12,7 @@ const DRAWN: usize = 2_000;
 const DRAWN_LENGTH: usize = 300;
 /// The same of each walk, whose requests have a text.
 const WALKS: &[(&str, usize, usize)] =
-    &[("header", 300, 1_600), ("command", 300, 800), ("commandby", 200, 800)];
+    &[("header", 300, 1_600), ("command", 300, 800), ("commandby", 200, 800), ("headernodes", 200, 900)];
 
 /// The sample of a seed, line by line: requests of those kinds, and lines that are no request.
 pub fn sample(seed: u64, kinds: &str) -> Result<Vec<Vec<u8>>, String> {
@@ -31,6 +31,7 @@ pub fn sample(seed: u64, kinds: &str) -> Result<Vec<Vec<u8>>, String> {
     requests.extend(about_commands());
     requests.extend(about_bits());
     requests.extend(about_tidied());
+    requests.extend(about_nodes());
     lines.extend(requests.iter().map(Request::line));
 
     let generator = Generator::new(seed, kinds)?;
@@ -471,6 +472,28 @@ fn about_tidied() -> Vec<Request> {
         tidy(0, &text[1..]),
         tidy(0, b""),
     ]
+}
+
+/// Masks of eight, nine and 255 bytes, tables of as many nodes, one more and one less, and rows that are none.
+fn about_nodes() -> Vec<Request> {
+    let text = "B|0\nP|0|0|8|NUMBER|n|-|-|-\nP|0|1|0|BITMASK|m|-|-|n\nP|0|2|12|BITMASK|odd|-|-|-\nP|0|3|4|HEX|x|-|-|-\n\
+        P|0|4|16|HEX|o|-|-|-\nP|1|0|8|BITMASK|i|-|-|-\nH|0|0|0010|x\nV|n|9\nH|0|0|0010|x\nV|n|8\nH|0|0|0010|x\nV|n|255\n";
+    let text = text.replace('|', "\t").into_bytes();
+    let nodes = |cap: u64, row: u64, length: u8, byte: u8| Request::Headernodes {
+        cap,
+        row,
+        region: 0,
+        speed: 0,
+        text: text.clone(),
+        mpdu: [&[length][..], &vec![byte; usize::from(length)], &[0x12, 0x34, 0x56, 0x78]].concat(),
+    };
+    let rows = (0..8).map(|row| nodes(8, row, 8, 0x11));
+    let caps = [(8, 8), (9, 9), (255, 255)].into_iter().flat_map(|(length, byte)| {
+        let set = u64::from(length) * u64::from(u8::count_ones(byte));
+        [set - 1, set, set + 1, 0].map(|cap| nodes(cap, 1, length, byte))
+    });
+    let others = [(0, 1, 7), (0, 1, 8), (limits::CAP, 1, 255), (0, u64::MAX, 8), (0, u64::MAX, 7)];
+    rows.chain(caps).chain(others.map(|(cap, row, length)| nodes(cap, row, length, 0))).collect()
 }
 
 /// A count of 253 and as many repetitions: then b is entry 254, by which c has its length, and c is

@@ -46,7 +46,7 @@ fn bad_number(random: &mut Random) -> Vec<u8> {
     const CAPS: &[&str] = &["16385", "16386", "65536", "4294967296", "18446744073709551615"];
     let number = random.pick(NUMBERS);
     const BUFFERS: &[&str] = &["196609", "4294967296", "18446744073709551615"];
-    match random.below(13) {
+    match random.below(17) {
         0 => format!("rate {number} 1"),
         1 => format!("rate 1 {number}"),
         2 => format!("body {number} 5b02005d00"),
@@ -63,6 +63,10 @@ fn bad_number(random: &mut Random) -> Vec<u8> {
         ),
         10 => format!("tidy {number} -"),
         11 => format!("tidy {} -", random.pick(BUFFERS)),
+        12 => format!("headernodes {number} 0 0 0 - 0000"),
+        13 => format!("headernodes 4 {number} 0 0 - 0000"),
+        14 => format!("headernodes 4 0 0 {number} - 0000"),
+        15 => format!("headernodes {} 0 0 0 - 0000", random.pick(CAPS)),
         _ => format!("{} {} -", random.pick(&["frames", "frametable"]), random.pick(CAPS)),
     }
     .into_bytes()
@@ -104,8 +108,9 @@ fn bad_bytes(random: &mut Random) -> Vec<u8> {
         "header 4 0 0 -",
         "command 4 -",
         "tidy 100",
+        "headernodes 4 0 0 0 -",
     ];
-    const WALKS: &[&str] = &["header 4 0 0", "command 4"];
+    const WALKS: &[&str] = &["header 4 0 0", "command 4", "headernodes 4 0 0 0"];
     match random.below(8) {
         0 => format!("{} {} 0000", random.pick(WALKS), random.pick(BYTES)),
         _ => format!("{} {}", random.pick(WORDS), random.pick(BYTES)),

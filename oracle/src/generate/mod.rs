@@ -6,6 +6,7 @@ mod bits;
 mod cap;
 mod command;
 mod header;
+mod nodes;
 mod pti;
 mod texts;
 
@@ -41,11 +42,12 @@ pub const KINDS: &[Kind] = &[
     Kind { name: "bits", weight: 15, draw: bits::bits },
     Kind { name: "checksum", weight: 15, draw: bits::checksum },
     Kind { name: "tidy", weight: 20, draw: texts::tidy },
+    Kind { name: "headernodes", weight: 30, draw: nodes::headernodes },
     Kind { name: "bad", weight: 5, draw: bad::line },
 ];
 
 /// What `today` stands for: what the replay program answers so far.
-pub const TODAY: &str = "rate,count,body,record,frames,frametable,recordby,framesby,frametableby,frametext,commandtext,header,command,commandby,bits,checksum,tidy,bad";
+pub const TODAY: &str = "rate,count,body,record,frames,frametable,recordby,framesby,frametableby,frametext,commandtext,header,command,commandby,bits,checksum,tidy,headernodes,bad";
 
 /// Draws requests of some kinds under a seed.
 #[derive(Clone)]

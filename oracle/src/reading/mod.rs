@@ -5,6 +5,7 @@
 
 pub mod command;
 pub mod header;
+pub mod nodes;
 pub mod pti;
 
 use crate::answer::push_row;
