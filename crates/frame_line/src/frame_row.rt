@@ -19,7 +19,7 @@ pub fn put_header(out: &mut Buffer, at: usize) -> usize {
     put(
         out,
         at,
-        b"   No  Dir  Rate  RSSI  Header                      Home id    Src   Dst  Len  Sum    Command\n",
+        b"   No  Dir  Rate  RSSI  Header                      Home id    Src             Dst  Len  Sum    Command\n",
     )
 }
 

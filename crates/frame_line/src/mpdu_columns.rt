@@ -165,7 +165,7 @@ fn put_header(
     let named = header.name;
     let name = part(text, named.start, named.len);
     let mut place = put_name(out, at, name, colour);
-    place = put_nodes(out, place, text, rows, header.rows);
+    place = put_nodes(out, place, text, mpdu, rows, header.rows);
     put_size(out, place, mpdu, header.right, colour)
 }
 

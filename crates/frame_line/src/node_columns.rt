@@ -1,4 +1,6 @@
 // Who speaks to whom: the columns of home id, source and destination, from a header's rows.
+use crate::mask_column::WIDTH;
+use crate::mask_column::put_mask;
 use header_rows::NUMBER;
 use header_rows::ROW_WIDTH;
 use header_rows::VALUE;
@@ -18,6 +20,9 @@ use writer::put_marked;
 use writer::put_right;
 ghost use Prim.Native.Nat.{_<_};
 ghost use lib.ListN.{length};
+
+// The bytes of the column of the source, with the two before it.
+const SOURCE: usize = 6;
 
 // The first of n rows for the P line at a place, if that has a name; n where there is none.
 fn row_at(text: &[u8], at: usize, rows: &[u64], n: usize, number: u64, name: &[u8]) -> usize
@@ -81,37 +86,64 @@ fn put_home(out: &mut Buffer, at: usize, home: Value) -> usize {
     put_digits(out, place, n, 8)
 }
 
-fn put_node(out: &mut Buffer, at: usize, node: Value) -> usize {
+fn put_node(out: &mut Buffer, at: usize, node: Value, width: usize) -> usize {
     let Value::Is(n) = node else {
-        return put_right(out, at, b"-", 6);
+        return put_right(out, at, b"-", width);
     };
-    put_marked(out, at, b"", n, 6)
+    put_marked(out, at, b"", n, width)
 }
 
 // The nodes that a multicast is for are a mask.
-fn put_mask(out: &mut Buffer, at: usize, mask: Value) -> usize {
-    let Value::Nothing = mask else {
-        return put_right(out, at, b"mask", 6);
-    };
-    put_right(out, at, b"-", 6)
+fn put_multicast(
+    out: &mut Buffer,
+    at: usize,
+    text: &[u8],
+    mpdu: &[u8],
+    rows: &[u64],
+    n: usize,
+) -> usize {
+    let i = find_row(text, rows, n, b"NodeMask");
+    if n <= i {
+        return put_right(out, at, b"-", WIDTH);
+    }
+    put_mask(out, at, text, mpdu, rows, i)
 }
 
-fn put_destination(out: &mut Buffer, at: usize, text: &[u8], rows: &[u64], n: usize) -> usize {
+fn put_destination(
+    out: &mut Buffer,
+    at: usize,
+    text: &[u8],
+    mpdu: &[u8],
+    rows: &[u64],
+    n: usize,
+) -> usize {
     let node = value_named(text, rows, n, b"DestinationNodeID");
     let Value::Nothing = node else {
-        return put_node(out, at, node);
+        return put_node(out, at, node, WIDTH);
     };
-    put_mask(out, at, value_named(text, rows, n, b"NodeMask"))
+    put_multicast(out, at, text, mpdu, rows, n)
 }
 
 // Home id, source and destination, by the n rows of a header.
-pub fn put_nodes(out: &mut Buffer, at: usize, text: &[u8], rows: &[u64], n: usize) -> usize {
+pub fn put_nodes(
+    out: &mut Buffer,
+    at: usize,
+    text: &[u8],
+    mpdu: &[u8],
+    rows: &[u64],
+    n: usize,
+) -> usize {
     let mut place = put_home(out, at, value_named(text, rows, n, b"HomeID"));
-    place = put_node(out, place, value_named(text, rows, n, b"SourceNodeID"));
-    put_destination(out, place, text, rows, n)
+    place = put_node(
+        out,
+        place,
+        value_named(text, rows, n, b"SourceNodeID"),
+        SOURCE,
+    );
+    put_destination(out, place, text, mpdu, rows, n)
 }
 
 // The same columns where nothing is known.
 pub fn put_no_nodes(out: &mut Buffer, at: usize) -> usize {
-    put(out, at, b"  -            -     -")
+    put(out, at, b"  -            -               -")
 }

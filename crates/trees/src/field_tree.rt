@@ -1,8 +1,11 @@
 // The fields of a header as a tree: name, bits, value and symbol of each, and its letter where a picture of the bits follows.
+use crate::node_lines::MOST_NODES;
+use crate::node_lines::put_first;
 use crate::ruler::letter;
 use frame_text::ParamType;
 use frame_text::Typed;
 use frame_text::read_type;
+use header_nodes::row_nodes;
 use header_rows::BITS;
 use header_rows::NUMBER;
 use header_rows::PARENT;
@@ -11,6 +14,7 @@ use header_rows::START;
 use header_rows::SYMBOL;
 use header_rows::VALUE;
 use header_rows::VALUED;
+use node_mask::Listed;
 use readers::cells::cell;
 use readers::cells::depth_of;
 use readers::cells::part;
@@ -145,7 +149,41 @@ fn put_head(
     put_range(out, place, start, end)
 }
 
-// The line of row i, by its P line.
+fn is_bitmask(kind: &[u8]) -> bool {
+    let Typed::Is(known) = read_type(kind) else {
+        return false;
+    };
+    match known {
+        ParamType::Hex => false,
+        ParamType::Number => false,
+        ParamType::NumberSigned => false,
+        ParamType::NodeNumber => false,
+        ParamType::Boolean => false,
+        ParamType::Bitmask => true,
+    }
+}
+
+// The nodes of row i, whose P line has this type, if they are a mask.
+fn put_mask(
+    out: &mut Buffer,
+    at: usize,
+    kind: &[u8],
+    text: &[u8],
+    mpdu: &[u8],
+    rows: &[u64],
+    i: usize,
+) -> usize {
+    if is_bitmask(kind) {
+        let mut nodes = [0u16; MOST_NODES];
+        return match row_nodes(text, mpdu, rows, i, &mut nodes) {
+            Listed::Nodes(n) => put_first(out, at, &nodes, n),
+            Listed::Refused(_) => at,
+        };
+    }
+    at
+}
+
+// The lines of row i, by its P line.
 fn put_field(
     out: &mut Buffer,
     at: usize,
@@ -158,13 +196,14 @@ fn put_field(
     let line = find_line(text, b'P', cell(rows, ROW_WIDTH, i, NUMBER) as usize);
     let mut place = put_head(out, at, field_of(line, 5), rows, i, picture);
     place = put_value(out, place, field_of(line, 4), mpdu, rows, i);
-    put_symbol(
+    place = put_symbol(
         out,
         place,
         text,
         field_of(line, 6),
         cell(rows, ROW_WIDTH, i, SYMBOL),
-    )
+    );
+    put_mask(out, place, field_of(line, 4), text, mpdu, rows, i)
 }
 
 // The lines of the n rows of a header.

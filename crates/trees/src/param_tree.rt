@@ -1,6 +1,9 @@
 // The parameters of a command as a tree: name, bytes, value and symbol of each.
 use crate::field_tree::put_deep;
 use crate::field_tree::put_range;
+use crate::node_lines::MOST_NODES;
+use crate::node_lines::put_first;
+use command_nodes::row_nodes;
 use command_rows::END;
 use command_rows::KIND;
 use command_rows::LACKING;
@@ -12,6 +15,10 @@ use command_rows::ROW_WIDTH;
 use command_rows::START;
 use command_rows::VALUE;
 use command_rows::VALUED;
+use command_text::ParamType;
+use command_text::Typed;
+use command_text::read_type;
+use node_mask::Listed;
 use readers::cells::cell;
 use readers::cells::depth_of;
 use readers::cells::part;
@@ -147,6 +154,46 @@ fn put_said(
     )
 }
 
+// Is this the name of the type of a Q that may be a mask?
+fn is_bitmask(kind: &[u8]) -> bool {
+    let Typed::Is(known) = read_type(kind) else {
+        return false;
+    };
+    match known {
+        ParamType::Byte => false,
+        ParamType::StructByte => false,
+        ParamType::Const => false,
+        ParamType::Marker => false,
+        ParamType::Word => false,
+        ParamType::Bit24 => false,
+        ParamType::Dword => false,
+        ParamType::Array => false,
+        ParamType::Variant => false,
+        ParamType::Bitmask => true,
+        ParamType::MultiArray => false,
+    }
+}
+
+// The nodes of row i, if they are a mask.
+fn put_mask(
+    out: &mut Buffer,
+    at: usize,
+    text: &[u8],
+    payload: &[u8],
+    rows: &[u64],
+    i: usize,
+) -> usize {
+    if is_bitmask(field_of(numbered_line(text, cell(rows, ROW_WIDTH, i, LINE)), 2)) {
+        let mut nodes = [0u16; MOST_NODES];
+        return match row_nodes(text, payload, rows, i, &mut nodes) {
+            Listed::Nodes(n) => put_first(out, at, &nodes, n),
+            Listed::Refused(_) => at,
+        };
+    }
+    at
+}
+
+// The lines of row i.
 fn put_param(
     out: &mut Buffer,
     at: usize,
@@ -157,7 +204,8 @@ fn put_param(
 ) -> usize {
     let mut place = put_head(out, at, text, rows, i);
     place = put_said(out, place, text, payload, rows, i);
-    put(out, place, b"\n")
+    place = put(out, place, b"\n");
+    put_mask(out, place, text, payload, rows, i)
 }
 
 // The lines of the n rows of a command.

@@ -1,0 +1,9 @@
+-- `trees::node_lines::put_first` meets its contract, by the laws of the crate. Assumes nothing.
+use borrow.Author.Needs.{needs}
+use Rattle.text.proofs.Laws.{front-count}
+use Rattle.trees.proofs.node_lines.put_first.Statement.{statement}
+use Rattle.trees.proofs.node_lines.put_first.Tie as tie
+
+pub put-first-spec : {M : Type 1} → statement M
+put-first-spec =
+    tie.close (tie.spec (λ c. search needs) (λ c. search (needs, front-count)) (λ c κs. search needs) (λ c. search needs))
