@@ -31,8 +31,8 @@ fn help_frames() {
 the header's name, home id, source, destination, length, is the checksum right, and the command's
 name, or its first two bytes where no definition names it; behind it (cut) where not all bytes of a
 field are there. A beam says how often it was heard. A frame without a name says by which refusal,
-in words and with its number. The nodes that a multicast is for are a mask, which tap show gives
-whole.
+in words and with its number. Of a multicast the destination is how many nodes it is for, and then
+which, with .. where there is no room for all; tap show gives them all.
 
   --definitions FOLDER    the definitions that name frames and commands: frames.txt and commands/
                           in it. Without it that is definitions below the current folder; bin/tap
@@ -64,8 +64,9 @@ fn help_show() {
         b"tap show FILE N: frame N of a capture, by the number that tap frames gives it. First how it was
 heard, and its bytes. Then the fields of its header as a tree: name, bits, value and symbol of each.
 Then its command's parameters as a tree: name, bytes in the command, value and symbol of each, how
-many bytes a field has of those that it wants where it is cut, and the bytes that they leave. Where
-no header holds it says by which refusal, and so does the last line.
+many bytes a field has of those that it wants where it is cut, and the bytes that they leave. Below a
+bit mask stand the nodes that it addresses. Where no header holds it says by which refusal, and so
+does the last line.
 
   --picture    a letter before each field, and behind the fields the header's bits as a picture, with
                the letter of its field below each; bin/tap begins with --picture for a terminal
