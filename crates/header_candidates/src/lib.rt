@@ -67,7 +67,7 @@ pub fn read_base(
 }
 
 // Reads a candidate's fields behind the base's.
-fn read_own(
+pub fn read_own(
     text: &[u8],
     mpdu: &[u8],
     start: Place,

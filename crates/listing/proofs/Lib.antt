@@ -1,0 +1,4 @@
+pub mod Naming
+pub mod Owning
+pub mod Laws
+pub mod Listings

@@ -1,0 +1,3 @@
+pub mod Judge
+pub mod Write
+pub mod Steps

@@ -1,0 +1,6 @@
+pub mod Decimals
+pub mod Lining
+pub mod Forming
+pub mod Differing
+pub mod Written
+pub mod Laws

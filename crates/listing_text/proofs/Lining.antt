@@ -1,0 +1,214 @@
+-- Laws of lines that are written. Assumes nothing.
+use mathlib.Core.Path.{_≡_, refl, sym, ap, _∙_}
+use mathlib.Core.Bool.{Bool, true, false, cond}
+use mathlib.Core.List.{List, [], _∷_, _++_, append-nil, append-assoc}
+use Prim.Native.Nat.{ℕ, zero, suc, _+_, _-_, _*_, _≤_, _<_}
+use native.Mathlib.Nat.{add-zero}
+use native.Mathlib.Omega.{arith}
+use lib.Dec.{eqb}
+use lib.ListN.{length, getD, set, take, drop, replicate, length-append, length-drop, length-set}
+use lib.Seq.{sets, sets-eq, length-sets, take-at, drop-drop, length-take-le}
+use borrow.Author.Tests.{eq-eqb, ne-eqb}
+use Rattle.laws.proofs.Lists.{next, done, tail}
+use Rattle.rows.specs.Rows.{put}
+use Rattle.rows.proofs.Laws.{sets-append, put-room}
+use Rattle.rows.proofs.Parts.{length-put}
+use Rattle.text.specs.Print.{Every, shown}
+use Rattle.listing_text.specs.Listing.{most, stopOf, lineOf, textOf, closed}
+use Rattle.listing_text.specs.Steps.{Shows, Small, PutsNumber, Writes, stopBefore, rowsIn, puts, Puts, PutsAll}
+use Rattle.listing_text.specs.declared.numbers.Digits.{Digits}
+
+-- ---- a number and the byte behind it
+module _ (n stop : ℕ) (line : List ℕ) (at : ℕ) (r : Digits) (shows : Shows n r) (room : at + 21 ≤ length line) where
+  long : length (shown n) ≡ 20 - r .start
+  long = ap length (sym (shows .says)) ∙ length-drop (r .start) (r .bytes) ∙ rw (shows .size) refl
+
+  pub number-put : (line₁ : List ℕ) → line₁ ≡ put line at (take (20 - r .start) (drop (r .start) (r .bytes)))
+      → PutsNumber n stop line at (at + (20 - r .start) + 1) (set line₁ (at + (20 - r .start)) stop)
+  number-put line₁ e =
+      let is : line₁ ≡ sets line at (shown n) =
+      e ∙ ap (put line at) (ap (λ (k : ℕ). take (k - r .start) (drop (r .start) (r .bytes))) (sym (shows .size)) ∙ tail (r .bytes) (r .start) ∙ shows .says)
+      ∙ (put-room line (shown n) at (omega (arith, long))) in
+      record {
+        says = rw (is, ← long) (sym (sets-append line at (shown n) (stop ∷ [])));
+        count = omega (arith, length-append (shown n) (stop ∷ []), long);
+        few = omega (arith, shows .inside);
+        fits = shows .fits;
+      }
+
+  pub number-room : (line₁ : List ℕ) → line₁ ≡ put line at (take (20 - r .start) (drop (r .start) (r .bytes)))
+      → at + (20 - r .start) < length line₁
+  number-room line₁ e = omega (arith, ap length e ∙ length-put line at (take (20 - r .start) (drop (r .start) (r .bytes))))
+
+pub digits-start : (n : ℕ) (r : Digits) → Shows n r → r .start ≤ length (r .bytes)
+digits-start n r s = omega (arith, s .inside, s .size)
+
+pub digits-inside : (n : ℕ) (r : Digits) → Shows n r → r .start < 20
+digits-inside n r s = s .inside
+
+-- ---- the byte behind a number
+pub stop-last : (n : ℕ) → n ≡ 0 → 10 ≡ stopBefore n
+stop-last n e = rw (eq-eqb n 0 e)
+
+pub stop-more : (n : ℕ) → (n ≡ 0 → ⊥) → 9 ≡ stopBefore n
+stop-more n e = rw (ne-eqb n 0 e)
+
+stop-is : (xs : List ℕ) → stopOf xs ≡ stopBefore (length xs)
+stop-is [] = refl
+stop-is (x ∷ xs) = rw (ne-eqb (suc (length xs)) 0 (λ e. omega arith))
+
+-- ---- a line, number by number
+pub record Lining (numbers line₀ line : List ℕ) (at i : ℕ) : Type 0 where
+  pub within : i ≤ length numbers
+  pub size : length line ≡ 147
+  pub rest : sets line at (lineOf (drop i numbers)) ≡ sets line₀ 0 (lineOf numbers)
+  pub count : at + length (lineOf (drop i numbers)) ≡ length (lineOf numbers)
+  pub few : at ≤ 21 * i
+  pub small : Small (drop i numbers) → Small numbers
+
+pub lining-starts : (numbers line : List ℕ) → length line ≡ 147 → Lining numbers line line 0 0
+lining-starts numbers line h =
+    record { within = omega arith; size = h; rest = refl; count = omega arith; few = omega arith; small = λ s. s }
+
+module _ (numbers line₀ line : List ℕ) (at i : ℕ) (w : Lining numbers line₀ line at i) (more : i < length numbers) where
+  abbrev x : ℕ
+  x = getD numbers i 0
+
+  abbrev xs : List ℕ
+  xs = drop (i + 1) numbers
+
+  pub lining-room : length numbers ≤ 7 → at + 21 ≤ length line
+  lining-room h = omega (arith, w .few, w .size)
+
+  pub lining-more : (stop r : ℕ) (line′ : List ℕ) → PutsNumber x stop line at r line′ → stop ≡ stopBefore (length numbers - (i + 1))
+      → Lining numbers line₀ line′ r (i + 1)
+  lining-more stop r line′ p is-stop =
+      let e : drop i numbers ≡ x ∷ xs = next numbers i more in
+      let s : stopOf xs ≡ stop = stop-is xs ∙ rw (length-drop, is-stop) refl in
+      let l : lineOf (drop i numbers) ≡ (shown x ++ stop ∷ []) ++ lineOf xs =
+      rw (e, s) (sym (append-assoc (shown x) (stop ∷ []) (lineOf xs))) in
+      let n : length (lineOf (drop i numbers)) ≡ length (shown x ++ stop ∷ []) + length (lineOf xs) =
+      ap length l ∙ length-append (shown x ++ stop ∷ []) (lineOf xs) in
+      record {
+        within = omega arith;
+        size = ap length (p .says) ∙ length-sets line at (shown x ++ stop ∷ []) ∙ w .size;
+        rest = rw (p .says, p .count) (sym (sets-append line at (shown x ++ stop ∷ []) (lineOf xs))) ∙ rw l at (w .rest);
+        count = omega (arith, w .count, p .count);
+        few = omega (arith, w .few, p .few);
+        small = λ m. w .small (rw e (p .fits, m));
+      }
+
+pub lining-done : (numbers line₀ line : List ℕ) (at i : ℕ) → Lining numbers line₀ line at i → length numbers ≤ i → length numbers ≤ 7
+    → Writes numbers line₀ at line
+lining-done numbers line₀ line at i w h seven =
+    let e : drop i numbers ≡ [] = done numbers i h in
+    record {
+      says = rw e at (w .rest);
+      count = let n : at + 0 ≡ length (lineOf numbers) = rw e at (w .count) in omega arith;
+      few = omega (arith, w .few, w .within);
+      small = w .small (rw e tt);
+    }
+
+-- ---- a line in a buffer
+pub line-front : (numbers line₀ : List ℕ) (n : ℕ) (line : List ℕ) → Writes numbers line₀ n line → length line₀ ≡ 147 → take n line ≡ lineOf numbers
+line-front numbers line₀ n line w size =
+    let room : 0 + length (lineOf numbers) ≤ length line₀ = omega (arith, w .count, w .few) in
+    rw (w .says, sets-eq (lineOf numbers) line₀ 0 room) (take-at (lineOf numbers) _ n (sym (w .count)))
+
+pub line-count : (numbers line₀ : List ℕ) (n : ℕ) (line : List ℕ) → Writes numbers line₀ n line → length line ≡ 147 → n ≡ length (take n line)
+line-count numbers line₀ n line w size = sym (length-take-le n line (omega (arith, w .few)))
+
+pub line-put : (numbers line₀ : List ℕ) (n : ℕ) (line b : List ℕ) (at : ℕ) (b′ : List ℕ) → Writes numbers line₀ n line → length line₀ ≡ 147
+    → b′ ≡ put b at (take n line)
+    → Puts numbers b at (at + n) b′
+line-put numbers line₀ n line b at b′ w size e =
+    record {
+      says = e ∙ ap (put b at) (line-front numbers line₀ n line w size);
+      count = ap (λ (k : ℕ). at + k) (w .count);
+      few = omega (arith, w .few);
+      small = w .small;
+    }
+
+-- ---- line after line
+pub record Filling (rows : List ℕ) (count number : ℕ) (b₀ b : List ℕ) (at k : ℕ) : Type 0 where
+  pub within : k ≤ count
+  pub size : length b ≡ length b₀
+  pub rest : puts b at (closed (rowsIn (count - k) (drop (k * 7) rows)) number) ≡ puts b₀ 0 (closed (rowsIn count rows) number)
+  pub total : at + length (textOf (closed (rowsIn (count - k) (drop (k * 7) rows)) number)) ≡ length (textOf (closed (rowsIn count rows) number))
+  pub few : at ≤ 147 * k
+  pub small : Every Small (closed (rowsIn (count - k) (drop (k * 7) rows)) number) → Every Small (closed (rowsIn count rows) number)
+
+pub filling-starts : (rows : List ℕ) (count number : ℕ) (b : List ℕ) → Filling rows count number b b 0 0
+filling-starts rows count number b =
+    let e : count - 0 ≡ count = omega arith in
+    record { within = omega arith; size = refl; rest = rw e refl; total = rw e (omega arith); few = omega arith; small = rw e (λ s. s) }
+
+-- the rows from row k on
+pub rows-next : (rows : List ℕ) (count k : ℕ) → k < count
+    → rowsIn (count - k) (drop (k * 7) rows) ≡ take 7 (drop (k * 7) rows) ∷ rowsIn (count - (k + 1)) (drop ((k + 1) * 7) rows)
+rows-next rows count k h =
+    let e : count - k ≡ suc (count - (k + 1)) = omega arith in
+    let d : k * 7 + 7 ≡ (k + 1) * 7 = omega arith in
+    rw (e, drop-drop 7 (k * 7) rows, d) refl
+
+pub rows-none : (rows : List ℕ) (count k : ℕ) → count ≤ k → rowsIn (count - k) (drop (k * 7) rows) ≡ []
+rows-none rows count k h = let e : count - k ≡ 0 = omega arith in rw e refl
+
+module _ (rows : List ℕ) (count number : ℕ) (b₀ b : List ℕ) (at k : ℕ) (w : Filling rows count number b₀ b at k) where
+  pub filling-few : count ≤ 128 → at < 65536
+  filling-few h = omega (arith, w .few, w .within)
+
+  pub filling-more : (r : ℕ) (b′ : List ℕ) → Puts (take (k * 7 + 7 - k * 7) (drop (k * 7) rows)) b at r b′ → k < count
+      → Filling rows count number b₀ b′ r (k + 1)
+  filling-more r b′ p h =
+      let s : k * 7 + 7 - k * 7 ≡ 7 = omega arith in
+      let q : Puts (take 7 (drop (k * 7) rows)) b at r b′ = rw s at p in
+      let line : List ℕ = lineOf (take 7 (drop (k * 7) rows)) in
+      let e = rows-next rows count k h in
+      let rest : List (List ℕ) = closed (rowsIn (count - (k + 1)) (drop ((k + 1) * 7) rows)) number in
+      let n : at + (length (lineOf (take 7 (drop (k * 7) rows))) + length (textOf rest)) ≡ length (textOf (closed (rowsIn count rows) number)) =
+      rw (e, length-append) at (w .total) in
+      record {
+        within = omega arith;
+        size = ap length (q .says) ∙ length-put b at (lineOf (take 7 (drop (k * 7) rows))) ∙ w .size;
+        rest = rw (q .says, q .count) (rw e at (w .rest));
+        total = omega (arith, q .count);
+        few = omega (arith, w .few, q .few);
+        small = λ m. w .small (rw e (q .small, m));
+      }
+
+  pub filling-done : (r : ℕ) (b′ : List ℕ) → Puts (number ∷ []) b at r b′ → count ≤ k → PutsAll (closed (rowsIn count rows) number) b₀ r b′
+  filling-done r b′ p h =
+      let e = rows-none rows count k h in
+      let n : at + length (textOf ((number ∷ []) ∷ [])) ≡ length (textOf (closed (rowsIn count rows) number)) = rw e at (w .total) in
+      record {
+        says = p .says ∙ rw e at (w .rest);
+        count = p .count ∙ ap (λ (l : List ℕ). at + length l) (sym (append-nil (lineOf (number ∷ [])))) ∙ n;
+        small = w .small (rw e (p .small, tt));
+      }
+
+pub slice-seven : (rows : List ℕ) (k : ℕ) → (k + 1) * 7 ≤ length rows → length (take (k * 7 + 7 - k * 7) (drop (k * 7) rows)) ≤ 7
+slice-seven rows k h =
+    let s : k * 7 + 7 - k * 7 ≡ 7 = omega arith in
+    let n : length (drop (k * 7) rows) ≡ length rows - k * 7 = length-drop (k * 7) rows in
+    rw s (omega (arith, length-take-le 7 (drop (k * 7) rows) (omega arith)))
+
+pub ruleset laws = (
+  number-put,
+  number-room,
+  digits-start,
+  digits-inside,
+  stop-last,
+  stop-more,
+  lining-starts,
+  lining-room,
+  lining-more,
+  lining-done,
+  line-count,
+  line-put,
+  filling-starts,
+  filling-few,
+  filling-more,
+  filling-done,
+  slice-seven,
+)
