@@ -9,7 +9,7 @@
  *   - A table that is lent overlaps nothing else that the same call is lent: no bytes, no other table. Bytes may overlap bytes.
  *   - While a call runs nobody else writes what it is lent, or reads a table that it is lent.
  *
- * Refusals (docs/RULES.md, R1 to R9, BM3, U5 and FV2), and the `value` that each carries:
+ * Refusals (docs/RULES.md, R1 to R9, BM3, U5, FV2 and LS2), and the `value` that each carries:
  *
  *   0  none
  *   1  a line of the text has none of the forms                                     its number, from 1
@@ -26,6 +26,7 @@
  *  11  the row is no mask of nodes                                                its number
  *  12  the text does not fit into the buffer                                        how many bytes it has
  *  13  there is no such capture firmware                                            its number
+ *  16  a line of a listing is not of its form                                       its number, from 1
  */
 #ifndef LIBTAP_H
 #define LIBTAP_H
@@ -151,6 +152,21 @@ TapHeader tap_decode_header(const uint8_t *text, size_t text_length, const uint8
  * no table of rows. Answers how many. Refuses by 1 to 7 as `tap_decode_header` does, then 11, then 8. */
 TapAnswer tap_header_nodes(const uint8_t *text, size_t text_length, const uint8_t *mpdu, size_t mpdu_length, uint64_t region,
                            uint64_t speed, size_t row, uint16_t *nodes, size_t nodes_length);
+
+/* ---- listings of a header ---- */
+
+/* The longest listing: 128 rows of seven numbers, and the header's number. */
+#define TAP_LISTING_LENGTH 18837
+
+/* What `tap_decode_header` answers, as a listing: a line for each row, its seven numbers in decimal, parted by tabs, and last the header's number. It takes
+ * the same arguments but for the table. Answers the listing's length. Refuses by 1 to 7, then 12. */
+TapAnswer tap_write_listing(const uint8_t *text, size_t text_length, const uint8_t *mpdu, size_t mpdu_length, uint64_t region, uint64_t speed,
+                            uint8_t *buffer, size_t buffer_length);
+
+/* Is this listing the one that `tap_write_listing` writes, byte by byte? Answers 0 for yes, else the first of its lines that differs, from 1: its rows are
+ * held against those of the header that its last line names, whether that holds or not. Refuses by 1 to 7, then 16. */
+TapAnswer tap_judge_listing(const uint8_t *text, size_t text_length, const uint8_t *mpdu, size_t mpdu_length, uint64_t region, uint64_t speed,
+                            const uint8_t *listing, size_t listing_length);
 
 /* Where the command lies in an MPDU whose header ends at byte `payload`, as its answer says: before the checksum. An empty part at 0 where the two
  * leave no room for one. */

@@ -134,12 +134,12 @@ fn measure_stack() {
     println!("\nstack of decode_header: {most} bytes at most (allowed: {STACK})");
 }
 
-fn asked<'a>(text: &'a [u8], frame: &'a Frame) -> Asked<'a> {
+pub fn asked<'a>(text: &'a [u8], frame: &'a Frame) -> Asked<'a> {
     let (region, speed) = (u64::from(frames::REGION), u64::from(frame.speed));
     Asked { text, mpdu: &frame.mpdu, region, speed }
 }
 
-fn header<'a>(text: &'a [u8], frame: &'a Frame, call: Decode) -> Side<'a> {
+pub fn header<'a>(text: &'a [u8], frame: &'a Frame, call: Decode) -> Side<'a> {
     let mut table = [0; TABLE];
     Box::new(move |times| {
         black_box(asked(black_box(text), frame).decode(call, &mut table, times));

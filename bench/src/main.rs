@@ -1,6 +1,6 @@
 //! What the library's calls cost, each against its measure, in one process, and the stack they take:
 //! `parse_payload`, `read_bits`, `decode_header` and `decode_params` against zniff-rs, the checks of
-//! definition texts and `mask_nodes` against loops in C.
+//! definition texts and `mask_nodes` against loops in C, listings against `decode_header`.
 
 mod bits;
 mod check;
@@ -9,6 +9,7 @@ mod commands;
 mod counter;
 mod frames;
 mod headers;
+mod listings;
 mod nodes;
 mod ours;
 mod params;
@@ -23,5 +24,6 @@ fn main() {
     bits::run();
     nodes::run();
     headers::run();
+    listings::run();
     params::run();
 }

@@ -35,6 +35,26 @@ unsafe extern "C" {
     pub fn tap_check_frame_text(text: *const u8, text_length: usize) -> TapAnswer;
     pub fn tap_check_command_text(text: *const u8, text_length: usize) -> TapAnswer;
     fn tap_mask_nodes(mask: *const u8, mask_length: usize, nodes: *mut u16, nodes_length: usize) -> TapAnswer;
+    fn tap_judge_listing(
+        text: *const u8,
+        text_length: usize,
+        mpdu: *const u8,
+        mpdu_length: usize,
+        region: u64,
+        speed: u64,
+        listing: *const u8,
+        listing_length: usize,
+    ) -> TapAnswer;
+    fn tap_write_listing(
+        text: *const u8,
+        text_length: usize,
+        mpdu: *const u8,
+        mpdu_length: usize,
+        region: u64,
+        speed: u64,
+        buffer: *mut u8,
+        buffer_length: usize,
+    ) -> TapAnswer;
     fn tap_read_bits(data: *const u8, data_length: usize, start: u64, width: u64) -> TapBits;
 }
 
@@ -231,6 +251,32 @@ pub fn read_bits(data: &[u8], start: u64, width: u64) -> Option<u64> {
     // SAFETY: the slice is valid for the call, which only reads it.
     let bits = unsafe { tap_read_bits(data.as_ptr(), data.len(), start, width) };
     bits.is_read.then_some(bits.value)
+}
+
+/// What is said of a listing: 0 and the line that differs, 0 for none, or the refusal's number and what it carries.
+#[inline]
+pub fn judge_listing(asked: Asked, listing: &[u8]) -> (u64, u64) {
+    let Asked { text, mpdu, region, speed } = asked;
+    let (text, length) = (text.as_ptr(), text.len());
+    let (listing, listed) = (listing.as_ptr(), listing.len());
+    // SAFETY: the slices are valid for the call, which only reads them.
+    let answer = unsafe {
+        tap_judge_listing(text, length, mpdu.as_ptr(), mpdu.len(), region, speed, listing, listed)
+    };
+    (answer.refusal, answer.value)
+}
+
+/// Our own listing into a buffer with room for it. Answers its length.
+#[inline]
+pub fn write_listing(asked: Asked, buffer: &mut [u8]) -> usize {
+    let Asked { text, mpdu, region, speed } = asked;
+    let (text, length) = (text.as_ptr(), text.len());
+    let (buffer, room) = (buffer.as_mut_ptr(), buffer.len());
+    // SAFETY: the slices are valid for the call, which writes inside the buffer alone.
+    let answer = unsafe {
+        tap_write_listing(text, length, mpdu.as_ptr(), mpdu.len(), region, speed, buffer, room)
+    };
+    answer.value as usize
 }
 
 /// How many nodes a mask addresses: all that a table of none is told.

@@ -19,6 +19,7 @@ static uint64_t frames[FRAMES * TAP_FRAME_WIDTH];
 static uint64_t header_rows[HEADER_ROWS * TAP_HEADER_WIDTH];
 static uint64_t command_rows[COMMAND_ROWS * TAP_COMMAND_WIDTH];
 static uint16_t nodes[NODES];
+static uint8_t listing[TAP_LISTING_LENGTH];
 
 /* A whole file: one byte more than the longest that a call takes, so that it can say that it is too long. */
 static size_t read_file(const char *name, uint8_t *bytes, size_t room) {
@@ -79,6 +80,15 @@ static void show_nodes(const uint8_t *mpdu, size_t length, const uint64_t *frame
     printf("\n");
 }
 
+/* Our own listing of a header, which is judged right, and with its last line cut off is not. */
+static void show_listing(const uint8_t *mpdu, size_t length, const uint64_t *frame, size_t text_length) {
+    TapAnswer written = tap_write_listing(frame_text, text_length, mpdu, length, code_of(frame[1]), frame[3], listing, sizeof listing);
+    TapAnswer whole = tap_judge_listing(frame_text, text_length, mpdu, length, code_of(frame[1]), frame[3], listing, written.value);
+    TapAnswer cut = tap_judge_listing(frame_text, text_length, mpdu, length, code_of(frame[1]), frame[3], listing, written.value - 1);
+    printf("    listing of %llu bytes: %s, without its line end refused %llu %llu\n", (unsigned long long)written.value,
+           whole.refusal || whole.value ? "no" : "yes", (unsigned long long)cut.refusal, (unsigned long long)cut.value);
+}
+
 static void show_command(const uint8_t *bytes, size_t length, size_t text_length) {
     TapParams params = tap_decode_params(command_text, text_length, bytes, length, false, command_rows, sizeof command_rows / sizeof *command_rows);
     if (params.refusal) {
@@ -111,6 +121,7 @@ static void show_frame(const uint64_t *frame, size_t frame_text_length, size_t c
         print_numbers("    field", header_rows + i * TAP_HEADER_WIDTH, TAP_HEADER_WIDTH);
         show_nodes(mpdu, length, frame, i, frame_text_length);
     }
+    show_listing(mpdu, length, frame, frame_text_length);
     TapPart command = tap_command_part(mpdu, length, header.payload, rate);
     if (2 <= command.length) {
         show_command(mpdu + command.start, command.length, command_text_length);

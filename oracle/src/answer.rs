@@ -72,6 +72,9 @@ pub fn full_answer(line: &[u8]) -> Answer {
         Request::Headernodes { cap, row, region, speed, text, mpdu } => {
             headernodes(*cap, *row, *region, *speed, text, mpdu)
         }
+        Request::Listing { region, speed, text, mpdu, listing } => {
+            judge(*region, *speed, text, mpdu, listing)
+        }
     };
     answer.into()
 }
@@ -284,4 +287,11 @@ fn headernodes(
     let definition: FrameDefinition = definition::read(text)?;
     let mask = reading::nodes::header_mask(&definition, mpdu, region, speed, row)?;
     reading::nodes::listed("headernodes", mask, cap)
+}
+
+/// LS4: a listing, judged by the second reading: the Rust judges none.
+fn judge(region: u64, speed: u64, text: &[u8], mpdu: &[u8], listing: &[u8]) -> Result<String, Refusal> {
+    let definition: FrameDefinition = definition::read(text)?;
+    let differing = reading::listing::judge(&definition, mpdu, region, speed, listing)?;
+    Ok(differing.map_or("yes".to_string(), |line| format!("differs {line}")))
 }

@@ -25,6 +25,7 @@ pub enum Request {
     Checksum { speed: u64, mpdu: Vec<u8> },
     Tidy { cap: u64, text: Vec<u8> },
     Headernodes { cap: u64, row: u64, region: u64, speed: u64, text: Vec<u8>, mpdu: Vec<u8> },
+    Listing { region: u64, speed: u64, text: Vec<u8>, mpdu: Vec<u8>, listing: Vec<u8> },
 }
 
 impl Request {
@@ -84,6 +85,13 @@ impl Request {
                 text: words.bytes()?,
                 mpdu: words.bytes()?,
             },
+            b"listing" => Request::Listing {
+                region: words.number()?,
+                speed: words.number()?,
+                text: words.bytes()?,
+                mpdu: words.bytes()?,
+                listing: words.bytes()?,
+            },
             _ => return None,
         };
         words.end()?;
@@ -120,6 +128,9 @@ impl Request {
             Request::Tidy { cap, text } => ("tidy", vec![*cap], vec![text]),
             Request::Headernodes { cap, row, region, speed, text, mpdu } => {
                 ("headernodes", vec![*cap, *row, *region, *speed], vec![text, mpdu])
+            }
+            Request::Listing { region, speed, text, mpdu, listing } => {
+                ("listing", vec![*region, *speed], vec![text, mpdu, listing])
             }
         }
     }

@@ -12,7 +12,7 @@ const DRAWN: usize = 2_000;
 const DRAWN_LENGTH: usize = 300;
 /// The same of each walk, whose requests have a text.
 const WALKS: &[(&str, usize, usize)] =
-    &[("header", 300, 1_600), ("command", 300, 800), ("commandby", 200, 800), ("headernodes", 200, 900)];
+    &[("header", 300, 1_600), ("command", 300, 800), ("commandby", 200, 800), ("headernodes", 200, 900), ("listing", 200, 1_600)];
 
 /// The sample of a seed, line by line: requests of those kinds, and lines that are no request.
 pub fn sample(seed: u64, kinds: &str) -> Result<Vec<Vec<u8>>, String> {
@@ -32,6 +32,7 @@ pub fn sample(seed: u64, kinds: &str) -> Result<Vec<Vec<u8>>, String> {
     requests.extend(about_bits());
     requests.extend(about_tidied());
     requests.extend(about_nodes());
+    requests.extend(about_listings());
     lines.extend(requests.iter().map(Request::line));
 
     let generator = Generator::new(seed, kinds)?;
@@ -494,6 +495,54 @@ fn about_nodes() -> Vec<Request> {
     });
     let others = [(0, 1, 7), (0, 1, 8), (limits::CAP, 1, 255), (0, u64::MAX, 8), (0, u64::MAX, 7)];
     rows.chain(caps).chain(others.map(|(cap, row, length)| nodes(cap, row, length, 0))).collect()
+}
+
+/// Listings by a text of three headers of which the last two hold for it: our own and what is wrong by one byte or line.
+fn about_listings() -> Vec<Request> {
+    let text = "B|0\nP|0|0|8|NUMBER|n|-|-|-\nP|0|1|8|HEX|x|-|-|-\nP|1|0|4|HEX|low|-|-|-\n\
+        H|0|0|0000|a\nV|n|8\nH|0|0|0000|b\nV|n|9\nP|0|0|0|HEX|m|-|-|n\nH|0|0|0000|c\nV|n|9\nH|0|1|0000|d\nV|n|9\nH|0|0|0000|e\n";
+    let text = text.replace('|', "\t").into_bytes();
+    let base = "0|0|0|8|1|9|0\n1|0|8|8|1|18|0\n2|2|12|4|1|2|0\n";
+    let mask = "3|0|16|72|0|0|0\n";
+    let listings = [
+        format!("{base}{mask}1\n"),
+        format!("{base}0\n"),
+        format!("{base}2\n"),
+        format!("{base}1\n"),
+        format!("{base}3\n"),
+        format!("{base}4\n"),
+        format!("{base}5\n"),
+        format!("{base}18446744073709551615\n"),
+        format!("{base}18446744073709551616\n"),
+        format!("{base}{mask}01\n"),
+        format!("{base}{mask}1"),
+        format!("{base}{mask}1\n\n"),
+        format!("{base}{mask}1\n1\n"),
+        format!("{base}{mask}{mask}1\n"),
+        format!("{base}\n{mask}1\n"),
+        format!("{base}{mask}"),
+        format!("{mask}1\n"),
+        "1\n".to_string(),
+        "1".to_string(),
+        String::new(),
+    ];
+    let mut listings: Vec<Vec<u8>> = listings.iter().map(|l| l.replace('|', "\t").into_bytes()).collect();
+    let ours = listings[0].clone();
+    for at in 0..ours.len() {
+        let mut other = ours.clone();
+        other[at] = if other[at] == b'7' { b'6' } else { b'7' };
+        listings.push(other);
+    }
+    let listing = |listing: Vec<u8>, mpdu: Vec<u8>| Request::Listing {
+        region: 0,
+        speed: 0,
+        text: text.clone(),
+        mpdu,
+        listing,
+    };
+    let mpdu = [&[9, 0x12][..], &[0xA5; 12]].concat();
+    let refused = [vec![], vec![9], vec![7, 0x12, 0], vec![0; 2_049]].map(|mpdu| listing(Vec::new(), mpdu));
+    listings.into_iter().map(|l| listing(l, mpdu.clone())).chain(refused).collect()
 }
 
 /// A count of 253 and as many repetitions: then b is entry 254, by which c has its length, and c is

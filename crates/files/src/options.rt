@@ -20,10 +20,11 @@ pub struct Options {
     pub folder: usize,
     // The firmware that wrote the capture.
     pub firmware: usize,
-    // How many arguments are no options, and the first two of them.
+    // How many arguments are no options, and the first three of them.
     pub count: usize,
     pub file: usize,
     pub second: usize,
+    pub third: usize,
     // The option that the next argument is for: 0, DEFINITIONS or FIRMWARE.
     open: u8,
     // An option that there isn't, 0 where there is none.
@@ -55,6 +56,7 @@ impl Options {
             count: 0,
             file: 0,
             second: 0,
+            third: 0,
             open: 0,
             wrong: 0,
             is_unnumbered: false,
@@ -82,10 +84,16 @@ impl Options {
 
     // One more argument that is no option.
     fn with_other(mut self, k: usize) -> Self {
-        if self.count == 0 {
-            self.file = k;
-        } else {
-            self.second = k;
+        match self.count {
+            0 => {
+                self.file = k;
+            }
+            1 => {
+                self.second = k;
+            }
+            _ => {
+                self.third = k;
+            }
         }
         self.count = wrapping_add_usize(self.count, 1);
         self

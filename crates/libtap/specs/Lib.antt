@@ -2,3 +2,4 @@ pub mod Answers
 pub mod Headers
 pub mod Commands
 pub mod Nodes
+pub mod Listings

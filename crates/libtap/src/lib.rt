@@ -2,11 +2,12 @@
 mod commands;
 mod frames;
 mod headers;
+mod listings;
 mod nodes;
 mod texts;
 
-// An answer as C has it: `refusal` is 0 and `value` the number that the call answers, or `refusal` is one of R1 to R9, BM3 and U5 (docs/RULES.md) and `value`
-// what it carries.
+// An answer as C has it: `refusal` is 0 and `value` the number that the call answers, or `refusal` is one of R1 to R9, BM3, U5 and LS2 (docs/RULES.md)
+// and `value` what it carries.
 #[repr(C)]
 pub struct TapAnswer {
     pub refusal: u64,

@@ -9,7 +9,7 @@ use native.Mathlib.Omega.{arith}
 use lib.ListN.{length, drop}
 use borrow.Author.Tests.{le-leb, lt-leb}
 use Rattle.refusal.specs.declared.Refusal.{Refusal}
-use Rattle.refusal.specs.declared.Refusal.the-variants.{MoreBytes}
+use Rattle.refusal.specs.declared.Refusal.the-variants.{MoreBytes, Listing}
 use Rattle.rows.specs.Rows.{flat}
 use Rattle.text.specs.Text.{lines}
 use Rattle.text.specs.Print.{Every}
@@ -38,7 +38,6 @@ use Rattle.listing_text.specs.declared.form.Form.the-variants.{Names, Wrong}
 use Rattle.listing_text.proofs.Written.{rows-laid, puts-front, names-written, form-written, differs-none, differs-same}
 use Rattle.listing.specs.declared.Judgement.{Judgement}
 use Rattle.listing.specs.declared.Judgement.the-variants.{Yes, Differs, Refused}
-use Rattle.listing.specs.declared.Judgement.the-variants as judgement
 use Rattle.listing.specs.declared.Written.{Written}
 use Rattle.listing.specs.declared.Written.the-variants as written
 use Rattle.listing.specs.Judge.{room, orYes, orLast, Against, Judges}
@@ -147,7 +146,7 @@ module _ (t d : List ℕ) (key own-number count : ℕ) (table : List ℕ) (own :
   named-own : named (own .one .number) cs ≡ some (own .one)
   named-own = named-at t key (own .first .front) (own .one) (own .first .back) (own .first .place)
 
-  pub beside-wrong : (l : List ℕ) (x : Form) (k : ℕ) → x ≡ formOf 1 (lines l) → x ≡ Wrong k → ByForm t d key l (formOf 1 (lines l)) (judgement.Wrong k)
+  pub beside-wrong : (l : List ℕ) (x : Form) (k : ℕ) → x ≡ formOf 1 (lines l) → x ≡ Wrong k → ByForm t d key l (formOf 1 (lines l)) (Refused (Listing k))
   beside-wrong l x k e q = rw (sym e ∙ q) refl
 
   module _ (l : List ℕ) (x : Form) (number last : ℕ) (is-form : x ≡ formOf 1 (lines l)) (names : x ≡ Names number last) where

@@ -7,6 +7,8 @@ use native.Mathlib.Omega.{arith}
 use lib.Dec.{ltb}
 use lib.ListN.{length, drop, replicate, length-append, length-drop, length-replicate}
 use borrow.Author.Tests.{ltb-false}
+use Rattle.refusal.specs.Refusal.{numberOf}
+use Rattle.refusal.specs.declared.Refusal.{Refusal}
 use Rattle.refusal.specs.declared.Refusal.the-variants.{TooLong, TooShort}
 use Rattle.rows.specs.Rows.{flat, laid}
 use Rattle.rows.specs.Parts.{Wide}
@@ -126,3 +128,9 @@ owns t d region speed h q =
     header-own t d region speed h fresh (Header h) (filled t d region speed h)
     (decodes t d region speed fresh (Header h) (filled t d region speed h) (sym q ∙ ap (decoded t d region speed) (sym n))
     (ap (λ (k : ℕ). tableAfter fresh (toldOf t d region speed k) (Header h)) (sym n))) refl n
+
+-- R8 does not come: the table has rows enough
+pub never-eight : (t d : List ℕ) (region speed : ℕ) (x : Refusal) → Within t d → decoded t d region speed room ≡ Refused x → numberOf x ≡ 8 → ⊥
+never-eight t d region speed x w q e =
+    let n : length fresh ≡ room = length-replicate {A = ℕ} room 0 in
+    decodes t d region speed fresh (Refused x) fresh (sym q ∙ ap (decoded t d region speed) (sym n)) refl .by-readings w .enough (omega arith) e

@@ -5,6 +5,7 @@ use mathlib.Core.List.{List}
 use mathlib.Core.Option.{none, some}
 use Prim.Native.Nat.{ℕ, zero, suc, _*_}
 use Rattle.refusal.specs.declared.Refusal.{Refusal}
+use Rattle.refusal.specs.declared.Refusal.the-variants.{Listing}
 use Rattle.text.specs.Text.{lines}
 use Rattle.frame_definition.specs.Definition.{Definition, Base, definition, firstBase}
 use Rattle.header_rules.specs.Data.{Field, Candidate}
@@ -21,7 +22,6 @@ use Rattle.listing_text.specs.Listing.{closed, listingOf, formOf, differs}
 use Rattle.listing_text.specs.declared.form.Form.the-variants.{Names, Wrong}
 use Rattle.listing.specs.declared.Judgement.{Judgement}
 use Rattle.listing.specs.declared.Judgement.the-variants.{Yes, Differs, Refused}
-use Rattle.listing.specs.declared.Judgement.the-variants as judgement
 
 -- the numbers of a table that has rows enough for every header: refusal 8 does not come
 abbrev pub room : ℕ
@@ -56,7 +56,7 @@ pub record Against (def : Definition) (d : List ℕ) (key : ℕ) (b : Base) (l :
 -- LS4: what `judge_listing` answers: first as the header's call refuses, then by the listing's form, then by its lines
 pub record Judges (t d : List ℕ) (region speed : ℕ) (l : List ℕ) (r : Judgement) : Type 0 where
   pub refused : (x : Refusal) → decoded t d region speed room ≡ header.Refused x → r ≡ Refused x
-  pub wrong : (h : DecodedHeader) (k : ℕ) → decoded t d region speed room ≡ header.Header h → formOf 1 (lines l) ≡ Wrong k → r ≡ judgement.Wrong k
+  pub wrong : (h : DecodedHeader) (k : ℕ) → decoded t d region speed room ≡ header.Header h → formOf 1 (lines l) ≡ Wrong k → r ≡ Refused (Listing k)
   pub judged : (h : DecodedHeader) (number last : ℕ) → decoded t d region speed room ≡ header.Header h → formOf 1 (lines l) ≡ Names number last
       → (b : Base) → firstBase (keyOf t region speed) (definition t .bases) ≡ some b
       → Against (definition t) d (keyOf t region speed) b l number last r

@@ -4,7 +4,7 @@ use mathlib.Core.List.{List}
 use mathlib.Core.Option.{none, some}
 use Prim.Native.Nat.{ℕ, _*_, _≤_}
 use lib.ListN.{length}
-use Rattle.rows.specs.Parts.{Wide}
+use Rattle.refusal.specs.declared.Refusal.the-variants.{Listing}
 use Rattle.text.specs.Print.{Every}
 use Rattle.text.specs.declared.Verdict.the-variants.{Accepted}
 use Rattle.frame_text.specs.Rules.{verdict}
@@ -20,8 +20,7 @@ use Rattle.listing_text.specs.Steps.{Small, rowsIn}
 use Rattle.listing_text.specs.declared.form.Form.{Form}
 use Rattle.listing_text.specs.declared.form.Form.the-variants.{Names, Wrong}
 use Rattle.listing.specs.declared.Judgement.{Judgement}
-use Rattle.listing.specs.declared.Judgement.the-variants.{Differs}
-use Rattle.listing.specs.declared.Judgement.the-variants as judgement
+use Rattle.listing.specs.declared.Judgement.the-variants.{Differs, Refused}
 use Rattle.listing.specs.declared.Written.{Written}
 use Rattle.listing.specs.Judge.{room, orLast, Against}
 use Rattle.listing.specs.Write.{Gives}
@@ -50,7 +49,7 @@ pub record Other (t d : List ℕ) (key : ℕ) (l : List ℕ) (number last : ℕ)
 -- by the listing's form
 abbrev pub ByForm : List ℕ → List ℕ → ℕ → List ℕ → Form → Judgement → Type 0
 ByForm t d key l (Names number last) r = (b : Base) → firstBase key (definition t .bases) ≡ some b → Against (definition t) d key b l number last r
-ByForm t d key l (Wrong k) r = r ≡ judgement.Wrong k
+ByForm t d key l (Wrong k) r = r ≡ Refused (Listing k)
 
 -- the listing of the first rows of a table and of a number that fit into a listing
 pub record WritesRows (rows : List (List ℕ)) (b : List ℕ) (r : Written) (b′ : List ℕ) : Type 0 where

@@ -28,8 +28,6 @@ pub enum Judgement {
     Yes,
     // The first line that differs.
     Differs(usize),
-    // The first line that is not of the form.
-    Wrong(usize),
     Refused(Refusal),
 }
 
@@ -105,7 +103,7 @@ fn judge_beside(
         (formOf 1 (lines (now (listing .entry)))) r ⌝ }
 {
     match read_form(listing) {
-        Form::Wrong(line) => Judgement::Wrong(line),
+        Form::Wrong(line) => Judgement::Refused(Refusal::Listing(line)),
         Form::Names { number, line } => {
             if number == answered.number as u64 {
                 return or_yes(first_difference(listing, &rows[..], answered.rows, number));

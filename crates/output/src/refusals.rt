@@ -24,6 +24,7 @@ fn put_words(out: &mut Buffer, at: usize, refusal: Refusal, k: usize, width: usi
   - no such field (11)\trow \t is no such field
   - text too long (12)\tit has \t bytes, more than there is room for
   - unknown firmware (13)\tthere is no capture firmware \t, only 2 and 3
+  - not a listing (16)\tline \t is not a line of a listing
 ";
     let line: u64 = match refusal {
         Refusal::Form(_) => 1,
@@ -38,6 +39,7 @@ fn put_words(out: &mut Buffer, at: usize, refusal: Refusal, k: usize, width: usi
         Refusal::NoSuchField(_) => 10,
         Refusal::MoreBytes(_) => 11,
         Refusal::Firmware(_) => 12,
+        Refusal::Listing(_) => 13,
     };
     put_left(out, at, field_of(numbered_line(words, line), k), width)
 }

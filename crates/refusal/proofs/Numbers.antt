@@ -4,7 +4,8 @@ use mathlib.Core.Bool.{false}
 use lib.Dec.{eqb}
 use Rattle.refusal.specs.Refusal.{numberOf}
 use Rattle.refusal.specs.declared.Refusal.{Refusal}
-use Rattle.refusal.specs.declared.Refusal.the-variants.{Form, Limit, Owner, TooLong, TooShort, NoBase, NoCandidate, MoreRows, NotAFrame, NoSuchField, MoreBytes, Firmware}
+use Rattle.refusal.specs.declared.Refusal.the-variants.{Form, Limit, Owner, TooLong, TooShort, NoBase, NoCandidate, MoreRows, NotAFrame}
+use Rattle.refusal.specs.declared.Refusal.the-variants.{NoSuchField, MoreBytes, Firmware, Listing}
 
 pub numbered : (r : Refusal) → eqb (numberOf r) 0 ≡ false
 numbered (Form line) = refl
@@ -19,3 +20,4 @@ numbered NotAFrame = refl
 numbered (NoSuchField row) = refl
 numbered (MoreBytes length) = refl
 numbered (Firmware firmware) = refl
+numbered (Listing line) = refl

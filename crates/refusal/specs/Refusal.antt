@@ -1,9 +1,10 @@
--- R1 to R9, BM3, U5 and FV2 (docs/RULES.md): the number of each refusal, and what it carries.
+-- R1 to R9, BM3, U5, FV2 and LS2 (docs/RULES.md): the number of each refusal, and what it carries.
 use Prim.Native.Nat.{ℕ}
 use Rattle.refusal.specs.declared.Refusal.{Refusal}
-use Rattle.refusal.specs.declared.Refusal.the-variants.{Form, Limit, Owner, TooLong, TooShort, NoBase, NoCandidate, MoreRows, NotAFrame, NoSuchField, MoreBytes, Firmware}
+use Rattle.refusal.specs.declared.Refusal.the-variants.{Form, Limit, Owner, TooLong, TooShort, NoBase, NoCandidate, MoreRows, NotAFrame}
+use Rattle.refusal.specs.declared.Refusal.the-variants.{NoSuchField, MoreBytes, Firmware, Listing}
 
--- R1 to R9, BM3, U5, FV2: the case of refusal n has the number n
+-- R1 to R9, BM3, U5, FV2, LS2: the case of refusal n has the number n
 abbrev pub numberOf : Refusal → ℕ
 numberOf (Form line) = 1
 numberOf (Limit line) = 2
@@ -17,8 +18,9 @@ numberOf NotAFrame = 9
 numberOf (NoSuchField row) = 11
 numberOf (MoreBytes length) = 12
 numberOf (Firmware number) = 13
+numberOf (Listing line) = 16
 
--- R1 to R9, BM3, U5, FV2: a line, a length, a key, a count of rows, a row's number, a firmware's, or 0
+-- R1 to R9, BM3, U5, FV2, LS2: a line, a length, a key, a count of rows, a row's number, a firmware's, or 0
 abbrev pub carriedBy : Refusal → ℕ
 carriedBy (Form line) = line
 carriedBy (Limit line) = line
@@ -32,3 +34,4 @@ carriedBy NotAFrame = 0
 carriedBy (NoSuchField row) = row
 carriedBy (MoreBytes length) = length
 carriedBy (Firmware number) = number
+carriedBy (Listing line) = line

@@ -1,4 +1,4 @@
-// Why a call refuses: R1 to R9, BM3, U5 and FV2 of docs/RULES.md. One case a number, with what it carries.
+// Why a call refuses: R1 to R9, BM3, U5, FV2 and LS2 of docs/RULES.md. One case a number, with what it carries.
 // Every public call of the tap answers with its numbers or with one of these.
 ghost use mathlib.Core.Path.{_≡_};
 ghost use Rattle.refusal.specs.Refusal.{numberOf, carriedBy};
@@ -28,6 +28,8 @@ pub enum Refusal {
     MoreBytes(usize),
     // 13: there is no such capture firmware. Carries its number.
     Firmware(usize),
+    // 16: a line of a listing is not of its form. Carries the line, from 1.
+    Listing(usize),
 }
 
 impl Refusal {
@@ -48,6 +50,7 @@ impl Refusal {
             Refusal::NoSuchField(_) => 11,
             Refusal::MoreBytes(_) => 12,
             Refusal::Firmware(_) => 13,
+            Refusal::Listing(_) => 16,
         }
     }
 
@@ -68,6 +71,7 @@ impl Refusal {
             Refusal::NoSuchField(row) => row,
             Refusal::MoreBytes(length) => length,
             Refusal::Firmware(number) => number,
+            Refusal::Listing(line) => line,
         }
     }
 }

@@ -25,6 +25,7 @@ pub enum Word {
     Checksum,
     Tidy,
     Headernodes,
+    Listing,
     Unknown,
 }
 
@@ -68,7 +69,7 @@ pub fn find(s: &[u8], b: u8) -> usize
 
 pub fn word_of(word: &[u8]) -> Word {
     let words: &[u8] =
-        b"rate\tcount\tbody\trecord\tframes\tframetable\tframetext\tcommandtext\theader\tcommand\tbits\tchecksum\trecordby\tframesby\tframetableby\ttidy\tcommandby\theadernodes";
+        b"rate\tcount\tbody\trecord\tframes\tframetable\tframetext\tcommandtext\theader\tcommand\tbits\tchecksum\trecordby\tframesby\tframetableby\ttidy\tcommandby\theadernodes\tlisting";
     match find_field(words, word) {
         0 => Word::Rate,
         1 => Word::Count,
@@ -88,6 +89,7 @@ pub fn word_of(word: &[u8]) -> Word {
         15 => Word::Tidy,
         16 => Word::Commandby,
         17 => Word::Headernodes,
+        18 => Word::Listing,
         _ => Word::Unknown,
     }
 }

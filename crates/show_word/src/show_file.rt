@@ -40,7 +40,7 @@ ghost use Rattle.show_word.specs.Search.{Holds};
 const PARAMS: usize = 10240;
 
 // The frame after so many of the capture behind a descriptor.
-fn search(fd: i32, firmware: usize, before: u64, mpdu: &mut [u8; 4096]) -> Search
+pub fn search(fd: i32, firmware: usize, before: u64, mpdu: &mut [u8; 4096]) -> Search
     ensures { λ r. ⌜ Holds (now (mpdu .exit)) r ⌝ }
 {
     let mut block = io::buffer();
@@ -61,7 +61,7 @@ fn search(fd: i32, firmware: usize, before: u64, mpdu: &mut [u8; 4096]) -> Searc
 }
 
 // A capture with fewer frames.
-fn fail_number(name: &[u8], number: u64, frames: u64) {
+pub fn fail_number(name: &[u8], number: u64, frames: u64) {
     io::write_all(STDERR_FILENO, b"tap: there is no frame ");
     io::print_decimal(STDERR_FILENO, number);
     io::write_all(STDERR_FILENO, b" in ");
@@ -191,7 +191,7 @@ fn show_file(name: &[u8], fd: i32, number: u64, options: Options) {
 }
 
 // The number that argument k says, from 1.
-fn read_number(k: usize) -> Numeral {
+pub fn read_number(k: usize) -> Numeral {
     let mut bytes = io::buffer();
     let n = os::arg(k, &mut bytes);
     read_numeral(&bytes[..n])

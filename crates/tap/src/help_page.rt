@@ -14,12 +14,15 @@ fn help_all() {
   tap show FILE N    frame N of a capture whole
   tap check FILE     is a definition text accepted, and if not, what is wrong with it
   tap tidy FILE      a command text with S for U
+  tap list FILE N    the listing of frame N's header, as a dealer's program writes it
+  tap judge FILE N LISTING
+                     is a dealer's listing ours, and if not, which line differs
   tap help           this page
   tap help WORD      what a word does, and what its FILE is
 
 FILE may be -, which means standard input. The last line of the output is ok, or 'refused N V' (a
 refusal: its number N and the value V that it carries), or failed, after a line on standard error
-that says why. bin/tap ends with status 0, 1 or 2 accordingly.
+that says why, or for judge 'differs L'. bin/tap ends with status 0, 1 or 2, for differs with 1.
 ",
     );
     succeed();
@@ -116,14 +119,49 @@ A text that is refused, as tap check says it, gives no text: the last line is 'r
     succeed();
 }
 
+fn help_list() {
+    say(
+        b"tap list FILE N: the listing of frame N's header: a line for each of its rows, seven decimal numbers
+parted by tabs, and last the number of its header among the H lines of the frame text, from 0. The
+seven are the P line's number, the row of the field that it is inside of, plus 1, or 0, its first
+bit, how many bits it has, whether it has a value, the value, and its symbol's number or 0. bin/tap
+puts the listing on standard output and the last line on standard error, so it can go into a file:
+
+  bin/tap list house.hex 7 >ours.txt
+
+A frame whose header is refused gives no listing: the last line is 'refused N V' then. It takes
+--definitions and --firmware as tap frames does.
+",
+    );
+    succeed();
+}
+
+fn help_judge() {
+    say(
+        b"tap judge FILE N LISTING: is the listing in a file that of frame N's header, byte by byte? It says yes,
+or which of its lines is the first that differs and what ours has there, and which header is ours.
+The rows are held against those of the header that the listing's last line names, whether that
+header holds or not; the last line differs where only the header is wrong, where there is no such
+header, or where rows are missing. LISTING may be -, and 65536 bytes of it are read.
+
+The last line of the output is ok for yes, 'differs L' where line L differs, with status 1, or
+'refused N V': 1 to 7 as tap show says them, or 16 with the first line that is not of the form.
+docs/SUPPORT.md has examples. It takes --definitions and --firmware as tap frames does.
+",
+    );
+    succeed();
+}
+
 // The page of a word.
 fn help_word(word: &[u8]) {
-    match find_field(b"frames\tshow\tcheck\ttidy\thelp", word) {
+    match find_field(b"frames\tshow\tcheck\ttidy\tlist\tjudge\thelp", word) {
         0 => help_frames(),
         1 => help_show(),
         2 => help_check(),
         3 => help_tidy(),
-        4 => help_all(),
+        4 => help_list(),
+        5 => help_judge(),
+        6 => help_all(),
         _ => fail_word(word),
     }
 }

@@ -6,6 +6,8 @@ mod help_page;
 use check_word::check_file::check_definition;
 use frames_word::frames_file::show_frames;
 use help_page::help;
+use listing_word::listing_file::judge_frame;
+use listing_word::listing_file::list_frame;
 use output::outcome::fail;
 use output::outcome::fail_word;
 use readers::line_fields::find_field;
@@ -14,12 +16,14 @@ use tidy_word::tidy_file::tidy_definition;
 
 // Does what a word asks for.
 fn obey(word: &[u8]) {
-    match find_field(b"frames\tshow\tcheck\ttidy\thelp", word) {
+    match find_field(b"frames\tshow\tcheck\ttidy\tlist\tjudge\thelp", word) {
         0 => show_frames(),
         1 => show_frame(),
         2 => check_definition(),
         3 => tidy_definition(),
-        4 => help(),
+        4 => list_frame(),
+        5 => judge_frame(),
+        6 => help(),
         _ => fail_word(word),
     }
 }

@@ -184,7 +184,7 @@ fn put_mask(
 }
 
 // The lines of row i, by its P line.
-fn put_field(
+pub fn put_field(
     out: &mut Buffer,
     at: usize,
     text: &[u8],

@@ -46,7 +46,7 @@ fn bad_number(random: &mut Random) -> Vec<u8> {
     const CAPS: &[&str] = &["16385", "16386", "65536", "4294967296", "18446744073709551615"];
     let number = random.pick(NUMBERS);
     const BUFFERS: &[&str] = &["196609", "4294967296", "18446744073709551615"];
-    match random.below(17) {
+    match random.below(19) {
         0 => format!("rate {number} 1"),
         1 => format!("rate 1 {number}"),
         2 => format!("body {number} 5b02005d00"),
@@ -67,6 +67,8 @@ fn bad_number(random: &mut Random) -> Vec<u8> {
         13 => format!("headernodes 4 {number} 0 0 - 0000"),
         14 => format!("headernodes 4 0 0 {number} - 0000"),
         15 => format!("headernodes {} 0 0 0 - 0000", random.pick(CAPS)),
+        16 => format!("listing {number} 0 - 0000 310a"),
+        17 => format!("listing 0 {number} - 0000 310a"),
         _ => format!("{} {} -", random.pick(&["frames", "frametable"]), random.pick(CAPS)),
     }
     .into_bytes()
@@ -109,6 +111,8 @@ fn bad_bytes(random: &mut Random) -> Vec<u8> {
         "command 4 -",
         "tidy 100",
         "headernodes 4 0 0 0 -",
+        "listing 0 0 - 0000",
+        "listing 0 0 -",
     ];
     const WALKS: &[&str] = &["header 4 0 0", "command 4", "headernodes 4 0 0 0"];
     match random.below(8) {

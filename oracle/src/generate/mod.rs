@@ -6,6 +6,7 @@ mod bits;
 mod cap;
 mod command;
 mod header;
+mod listing;
 mod nodes;
 mod pti;
 mod texts;
@@ -43,11 +44,12 @@ pub const KINDS: &[Kind] = &[
     Kind { name: "checksum", weight: 15, draw: bits::checksum },
     Kind { name: "tidy", weight: 20, draw: texts::tidy },
     Kind { name: "headernodes", weight: 30, draw: nodes::headernodes },
+    Kind { name: "listing", weight: 30, draw: listing::listing },
     Kind { name: "bad", weight: 5, draw: bad::line },
 ];
 
 /// What `today` stands for: what the replay program answers so far.
-pub const TODAY: &str = "rate,count,body,record,frames,frametable,recordby,framesby,frametableby,frametext,commandtext,header,command,commandby,bits,checksum,tidy,headernodes,bad";
+pub const TODAY: &str = "rate,count,body,record,frames,frametable,recordby,framesby,frametableby,frametext,commandtext,header,command,commandby,bits,checksum,tidy,headernodes,listing,bad";
 
 /// Draws requests of some kinds under a seed.
 #[derive(Clone)]

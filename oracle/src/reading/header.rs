@@ -53,6 +53,20 @@ pub fn decode_header(
     })
 }
 
+/// LS4: the rows of the candidate of that number, whether it holds or not.
+pub fn candidate_rows(
+    definition: &FrameDefinition,
+    mpdu: &[u8],
+    region: u64,
+    speed: u64,
+    number: u64,
+) -> Option<Vec<HeaderRow>> {
+    let key = base_key(definition, region, speed);
+    let base = definition.base_headers.iter().find(|base| base.key == key)?;
+    let (_, header) = candidates(definition, key).find(|(at, _)| *at as u64 == number)?;
+    Some(Rows::of(definition, &read(base, header, mpdu)))
+}
+
 /// H1: the base key.
 pub fn base_key(definition: &FrameDefinition, region: u64, speed: u64) -> u8 {
     let mut frequencies = definition.radio_frequencies.iter();

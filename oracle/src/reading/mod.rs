@@ -5,6 +5,7 @@
 
 pub mod command;
 pub mod header;
+pub mod listing;
 pub mod nodes;
 pub mod pti;
 

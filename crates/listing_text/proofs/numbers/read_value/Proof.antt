@@ -7,4 +7,10 @@ use Rattle.listing_text.proofs.numbers.read_value.Tie as tie
 pub read-value-spec : {M : Type 1} → statement M
 read-value-spec =
     tie.close
-    (tie.spec (λ c. search (needs, laws)) (λ c. search (needs, laws)) (λ c. search (needs, laws)) (λ c. search (needs, laws)) (λ c κs. search (needs, laws)) (λ c. search (needs, laws)))
+    (tie.spec
+    (λ c. search (needs, laws))
+    (λ c. search (needs, laws))
+    (λ c. search (needs, laws))
+    (λ c. search (needs, laws))
+    (λ c κs. search (needs, laws))
+    (λ c. search (needs, laws)))
