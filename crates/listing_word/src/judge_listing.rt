@@ -10,7 +10,9 @@ use output::outcome::refuse;
 use output::outcome::succeed;
 use output::refusals::put_reason;
 use readers::cells::part;
+use readers::lines::numbered_line;
 use refusal::Refusal;
+use std::num::wrapping_sub_usize;
 use trees::field_tree::put_field;
 use writer::Buffer;
 use writer::flush;
@@ -49,7 +51,7 @@ fn put_last(out: &mut Buffer, at: usize, number: usize) -> usize {
     put(out, place, b"\n")
 }
 
-// What ours has at a line, from 0.
+// What ours has at a line, from 1.
 fn put_there(
     out: &mut Buffer,
     at: usize,
@@ -59,32 +61,23 @@ fn put_there(
     rows: &[u64],
     line: usize,
 ) -> usize {
-    if line < header.rows {
-        return put_field(out, at, text, mpdu, rows, line, false);
+    let row = wrapping_sub_usize(line, 1);
+    if row < header.rows {
+        return put_field(out, at, text, mpdu, rows, row, false);
     }
-    if line == header.rows {
+    if row == header.rows {
         return put_last(out, at, header.number);
     }
     put(out, at, b"    nothing: it ends before\n")
 }
 
-// That a line differs, from 1, and what ours has there.
-fn put_differs(
-    out: &mut Buffer,
-    at: usize,
-    text: &[u8],
-    mpdu: &[u8],
-    header: DecodedHeader,
-    rows: &[u64],
-    line: usize,
-) -> usize {
+// That a line differs, from 1, and what the listing has there.
+fn put_differs(out: &mut Buffer, at: usize, listing: &[u8], line: usize) -> usize {
     let mut place = put(out, at, b"no, line ");
     place = put_number(out, place, line as u64);
-    place = put(out, place, b" differs; ours has there\n");
-    if line == 0 {
-        return place;
-    }
-    put_there(out, place, text, mpdu, header, rows, line - 1)
+    place = put(out, place, b" differs. The listing has there\n    ");
+    place = put(out, place, numbered_line(listing, line as u64));
+    put(out, place, b"\nand ours\n")
 }
 
 // The last line of the output where a line differs.
@@ -116,6 +109,7 @@ fn say_yes(text: &[u8], header: DecodedHeader, number: u64) {
 fn say_differs(
     text: &[u8],
     mpdu: &[u8],
+    listing: &[u8],
     header: DecodedHeader,
     rows: &[u64],
     number: u64,
@@ -123,14 +117,15 @@ fn say_differs(
 ) {
     let mut out = io::buffer();
     let mut at = put_frame(&mut out, 0, number);
-    at = put_differs(&mut out, at, text, mpdu, header, rows, line);
+    at = put_differs(&mut out, at, listing, line);
+    at = put_there(&mut out, at, text, mpdu, header, rows, line);
     at = put_ours(&mut out, at, text, header);
     flush(&out, at);
     end_differing(line);
 }
 
 // A line that differs, from 1, or none, beside our own header.
-fn say_beside(text: &[u8], mpdu: &[u8], frame: Frame, line: usize) {
+fn say_beside(text: &[u8], mpdu: &[u8], listing: &[u8], frame: Frame, line: usize) {
     let mut rows = [0u64; MOST_NUMBERS];
     match decode_header(text, mpdu, frame.region, frame.rate, &mut rows) {
         Decoded::Header(header) => {
@@ -138,7 +133,15 @@ fn say_beside(text: &[u8], mpdu: &[u8], frame: Frame, line: usize) {
                 say_yes(text, header, frame.number);
                 return;
             }
-            say_differs(text, mpdu, header, &rows, frame.number, line);
+            say_differs(
+                text,
+                mpdu,
+                listing,
+                header,
+                &rows,
+                frame.number,
+                line,
+            );
         }
         Decoded::Refused(refusal) => say_refused(frame.number, refusal),
     }
@@ -147,8 +150,8 @@ fn say_beside(text: &[u8], mpdu: &[u8], frame: Frame, line: usize) {
 // Judges a listing of an MPDU by a frame text.
 pub fn judge_mpdu(text: &[u8], mpdu: &[u8], frame: Frame, listing: &[u8]) {
     match judge_listing(text, mpdu, frame.region, frame.rate, listing) {
-        Judgement::Yes => say_beside(text, mpdu, frame, 0),
-        Judgement::Differs(line) => say_beside(text, mpdu, frame, line),
+        Judgement::Yes => say_beside(text, mpdu, listing, frame, 0),
+        Judgement::Differs(line) => say_beside(text, mpdu, listing, frame, line),
         Judgement::Refused(refusal) => say_refused(frame.number, refusal),
     }
 }
