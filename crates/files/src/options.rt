@@ -84,7 +84,8 @@ impl Options {
 
     // One more argument that is no option.
     fn with_other(mut self, k: usize) -> Self {
-        match self.count {
+        let count = self.count;
+        match count {
             0 => {
                 self.file = k;
             }
@@ -95,7 +96,7 @@ impl Options {
                 self.third = k;
             }
         }
-        self.count = wrapping_add_usize(self.count, 1);
+        self.count = wrapping_add_usize(count, 1);
         self
     }
 
