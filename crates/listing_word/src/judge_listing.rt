@@ -133,15 +133,7 @@ fn say_beside(text: &[u8], mpdu: &[u8], listing: &[u8], frame: Frame, line: usiz
                 say_yes(text, header, frame.number);
                 return;
             }
-            say_differs(
-                text,
-                mpdu,
-                listing,
-                header,
-                &rows,
-                frame.number,
-                line,
-            );
+            say_differs(text, mpdu, listing, header, &rows, frame.number, line);
         }
         Decoded::Refused(refusal) => say_refused(frame.number, refusal),
     }

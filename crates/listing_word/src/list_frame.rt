@@ -14,11 +14,15 @@ fn write_text(listing: &[u8]) {
     fail(b"tap: the listing could not be written\n");
 }
 
-// The listing of an MPDU by a frame text, for a region of the frame text and a rate.
-pub fn list_mpdu(text: &[u8], mpdu: &[u8], region: u64, rate: u64) {
-    let mut buffer = io::large_buffer();
-    match write_listing(text, mpdu, region, rate, &mut buffer) {
+fn list_into(text: &[u8], mpdu: &[u8], region: u64, rate: u64, buffer: &mut [u8]) {
+    match write_listing(text, mpdu, region, rate, buffer) {
         Written::Length(n) => write_text(&buffer[..n]),
         Written::Refused(refusal) => refuse(refusal),
     }
+}
+
+// The listing of an MPDU by a frame text, for a region of the frame text and a rate.
+pub fn list_mpdu(text: &[u8], mpdu: &[u8], region: u64, rate: u64) {
+    let mut buffer = io::large_buffer();
+    list_into(text, mpdu, region, rate, &mut buffer);
 }

@@ -1,0 +1,21 @@
+-- `listing_word::listing_file::judge_file` meets its contract, by the laws of the crate. Assumes nothing.
+use Rattle.listing_word.proofs.Laws.{laws}
+use borrow.Author.Needs.{needs}
+use Rattle.listing_word.proofs.listing_file.judge_file.Statement.{statement}
+use Rattle.listing_word.proofs.listing_file.judge_file.Tie as tie
+
+pub judge-file-spec : {M : Type 1} → statement M
+judge-file-spec =
+    tie.close
+    (tie.spec
+    (λ c κs. search (needs, laws))
+    (λ c. search (needs, laws))
+    (λ c κs. search (needs, laws))
+    (λ c. search (needs, laws))
+    (λ c. search (needs, laws))
+    (λ c κs. search (needs, laws))
+    (λ c. search (needs, laws))
+    (λ c. search (needs, laws))
+    (λ c. search (needs, laws))
+    (λ c κs. search (needs, laws))
+    (λ c. search (needs, laws)))
