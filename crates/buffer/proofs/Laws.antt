@@ -1,0 +1,62 @@
+-- Laws of bytes put into a buffer. Assumes nothing.
+use mathlib.Core.Path.{_≡_, refl, sym, ap, _∙_}
+use mathlib.Core.Bool.{Bool, true, false, cond}
+use mathlib.Core.List.{List, [], _∷_, _++_}
+use Prim.Native.Nat.{ℕ, suc, _+_, _≤_, _<_}
+use native.Mathlib.Omega.{arith}
+use lib.Dec.{leb}
+use lib.ListN.{length, getD, set, drop, length-set, length-append}
+use lib.Seq.{sets, sets-eq, length-sets}
+use borrow.Author.Tests.{le-leb, lt-leb}
+use Rattle.laws.proofs.Lists.{next, done}
+use Rattle.buffer.specs.Buffer.{answerIn, Writes}
+use Rattle.buffer.specs.declared.Written.{Written}
+use Rattle.buffer.specs.declared.Written.the-variants.{Length, Longer}
+
+-- one text put behind another
+pub sets-append : (to : List ℕ) (n : ℕ) (a b : List ℕ) → sets to n (a ++ b) ≡ sets (sets to n a) (n + length a) b
+sets-append to n [] b = let z : n + 0 ≡ n = omega arith in rw z
+sets-append to n (x ∷ a) b = let z : n + suc (length a) ≡ suc n + length a = omega arith in rw z (sets-append (set to n x) (suc n) a b)
+
+-- ---- byte by byte: with what is left of them put, the buffer is the one that is asked for
+pub record Puts (to to₀ bytes : List ℕ) (at i : ℕ) : Type 0 where
+  pub in-bytes : i ≤ length bytes
+  pub same : length to ≡ length to₀
+  pub fill : sets to (at + i) (drop i bytes) ≡ sets to₀ at bytes
+
+pub put-start : (to bytes : List ℕ) (at : ℕ) → Puts to to bytes at 0
+put-start to bytes at =
+    let z : at + 0 ≡ at = omega arith in
+    record { in-bytes = omega arith; same = refl; fill = rw z }
+
+module _ (to to₀ bytes : List ℕ) (at i : ℕ) (inv : Puts to to₀ bytes at i) where
+  pub put-more : i < length bytes → Puts (set to (at + i) (getD bytes i 0)) to₀ bytes at (i + 1)
+  put-more h =
+      let z : at + (i + 1) ≡ suc (at + i) = omega arith in
+      record { in-bytes = omega arith; same = rw length-set (inv .same); fill = rw z (rw (next bytes i h) at (inv .fill)) }
+
+  pub put-done : length bytes ≤ i → to ≡ sets to₀ at bytes
+  put-done h = rw (done bytes i h) at (inv .fill)
+
+-- ---- the answer
+module _ (l b : List ℕ) (n : ℕ) (is : n ≡ length l) where
+  pub writes-short : length b < n → Writes l b (Longer n) b
+  writes-short h = record { answer = rw (is, lt-leb (length l) (length b) (omega arith)); buffer = refl }
+
+  pub writes-room : (b′ : List ℕ) → b′ ≡ sets b 0 l → n ≤ length b → Writes l b (Length n) b′
+  writes-room b′ e h =
+      let z : 0 + length l ≡ length l = omega arith in
+      record { answer = rw (is, le-leb (length l) (length b) (omega arith)); buffer = e ∙ sets-eq l b 0 (omega arith) ∙ rw z }
+
+-- for callers: so many bytes stand in the buffer
+pub length-written : (l b : List ℕ) (r : Written) (b′ : List ℕ) (n : ℕ) → Writes l b r b′ → r ≡ Length n → n ≤ length b′
+length-written l b r b′ n so e =
+    let q : n ≡ length l = written (leb (length l) (length b)) (sym e ∙ so .answer) in
+    let c : length b′ ≡ length l + length (drop (length l) b) = ap length (rw e at (so .buffer)) ∙ length-append l (drop (length l) b) in
+    omega arith
+  where
+    written : (fits : Bool) → Length n ≡ cond fits (Length (length l)) (Longer (length l)) → n ≡ length l
+    written true h = cc
+    written false h = absurd (let z : _≡_ {A = ℕ} 0 1 = cc in omega arith)
+
+pub ruleset laws = (put-start, put-more, put-done, writes-short, writes-room)

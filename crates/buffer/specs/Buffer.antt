@@ -1,0 +1,23 @@
+-- VT8 (docs/RULES.md): a text in a lent buffer.
+use mathlib.Core.Bool.{cond}
+use mathlib.Core.Path.{_≡_}
+use mathlib.Core.List.{List, _++_}
+use Prim.Native.Nat.{ℕ}
+use lib.Dec.{leb}
+use lib.ListN.{length, drop}
+use Rattle.buffer.specs.declared.Written.{Written}
+use Rattle.buffer.specs.declared.Written.the-variants.{Length, Longer}
+
+-- VT8: the answer for a text of so many bytes, in room for so many
+abbrev pub answerIn : ℕ → ℕ → Written
+answerIn needed room = cond (leb needed room) (Length needed) (Longer needed)
+
+-- VT8: the buffer b after the answer for the text l
+abbrev pub bufferAfter : List ℕ → List ℕ → Written → List ℕ
+bufferAfter l b (Length n) = l ++ drop (length l) b
+bufferAfter l b (Longer n) = b
+
+-- VT8: what is answered for the text l, and left in the buffer b
+pub record Writes (l b : List ℕ) (r : Written) (b′ : List ℕ) : Type 0 where
+  pub answer : r ≡ answerIn (length l) (length b)
+  pub buffer : b′ ≡ bufferAfter l b r

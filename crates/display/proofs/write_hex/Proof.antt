@@ -1,0 +1,18 @@
+-- `display::write_hex` meets its contract, by the laws of the crate. Assumes nothing.
+use Rattle.display.proofs.Laws.{laws}
+use borrow.Author.Needs.{needs}
+use Rattle.display.proofs.write_hex.Statement.{statement}
+use Rattle.display.proofs.write_hex.Tie as tie
+
+pub write-hex-spec : {M : Type 1} → statement M
+write-hex-spec =
+    tie.close
+    (tie.spec
+    (λ c. search (needs, laws))
+    (λ c κs. search (needs, laws))
+    (λ c. search (needs, laws))
+    (λ c. search (needs, laws))
+    (λ c. search (needs, laws))
+    (λ c κs. search (needs, laws))
+    (λ c. search (needs, laws))
+    (λ c. search (needs, laws)))
