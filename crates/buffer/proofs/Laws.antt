@@ -9,9 +9,10 @@ use lib.ListN.{length, getD, set, drop, length-set, length-append}
 use lib.Seq.{sets, sets-eq, length-sets}
 use borrow.Author.Tests.{le-leb, lt-leb}
 use Rattle.laws.proofs.Lists.{next, done}
+use Rattle.refusal.specs.declared.Refusal.the-variants.{MoreBytes}
 use Rattle.buffer.specs.Buffer.{answerIn, Writes}
 use Rattle.buffer.specs.declared.Written.{Written}
-use Rattle.buffer.specs.declared.Written.the-variants.{Length, Longer}
+use Rattle.buffer.specs.declared.Written.the-variants.{Length, Refused}
 
 -- one text put behind another
 pub sets-append : (to : List ℕ) (n : ℕ) (a b : List ℕ) → sets to n (a ++ b) ≡ sets (sets to n a) (n + length a) b
@@ -40,7 +41,7 @@ module _ (to to₀ bytes : List ℕ) (at i : ℕ) (inv : Puts to to₀ bytes at 
 
 -- ---- the answer
 module _ (l b : List ℕ) (n : ℕ) (is : n ≡ length l) where
-  pub writes-short : length b < n → Writes l b (Longer n) b
+  pub writes-short : length b < n → Writes l b (Refused (MoreBytes n)) b
   writes-short h = record { answer = rw (is, lt-leb (length l) (length b) (omega arith)); buffer = refl }
 
   pub writes-room : (b′ : List ℕ) → b′ ≡ sets b 0 l → n ≤ length b → Writes l b (Length n) b′
@@ -55,7 +56,7 @@ length-written l b r b′ n so e =
     let c : length b′ ≡ length l + length (drop (length l) b) = ap length (rw e at (so .buffer)) ∙ length-append l (drop (length l) b) in
     omega arith
   where
-    written : (fits : Bool) → Length n ≡ cond fits (Length (length l)) (Longer (length l)) → n ≡ length l
+    written : (fits : Bool) → Length n ≡ cond fits (Length (length l)) (Refused (MoreBytes (length l))) → n ≡ length l
     written true h = cc
     written false h = absurd (let z : _≡_ {A = ℕ} 0 1 = cc in omega arith)
 

@@ -1,21 +1,22 @@
--- VT8 (docs/RULES.md): a text in a lent buffer.
+-- VT8, U5 and R12 (docs/RULES.md): a text in a lent buffer.
 use mathlib.Core.Bool.{cond}
 use mathlib.Core.Path.{_≡_}
 use mathlib.Core.List.{List, _++_}
 use Prim.Native.Nat.{ℕ}
 use lib.Dec.{leb}
 use lib.ListN.{length, drop}
+use Rattle.refusal.specs.declared.Refusal.the-variants.{MoreBytes}
 use Rattle.buffer.specs.declared.Written.{Written}
-use Rattle.buffer.specs.declared.Written.the-variants.{Length, Longer}
+use Rattle.buffer.specs.declared.Written.the-variants.{Length, Refused}
 
--- VT8: the answer for a text of so many bytes, in room for so many
+-- VT8, U5: the answer for a text of so many bytes, in room for so many
 abbrev pub answerIn : ℕ → ℕ → Written
-answerIn needed room = cond (leb needed room) (Length needed) (Longer needed)
+answerIn needed room = cond (leb needed room) (Length needed) (Refused (MoreBytes needed))
 
--- VT8: the buffer b after the answer for the text l
+-- VT8, R12: the buffer b after the answer for the text l
 abbrev pub bufferAfter : List ℕ → List ℕ → Written → List ℕ
 bufferAfter l b (Length n) = l ++ drop (length l) b
-bufferAfter l b (Longer n) = b
+bufferAfter l b (Refused x) = b
 
 -- VT8: what is answered for the text l, and left in the buffer b
 pub record Writes (l b : List ℕ) (r : Written) (b′ : List ℕ) : Type 0 where

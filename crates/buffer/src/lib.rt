@@ -1,4 +1,5 @@
 // Text in a lent buffer: written if there is room, else only counted.
+use refusal::Refusal;
 ghost use mathlib.Core.Path.{_≡_};
 ghost use Prim.Native.Nat.{_+_, _≤_};
 ghost use lib.ListN.{length};
@@ -9,8 +10,8 @@ ghost use Rattle.buffer.specs.Buffer.{Writes};
 pub enum Written {
     // So many bytes are written.
     Length(usize),
-    // There is no room for so many; nothing is written.
-    Longer(usize),
+    // There is no room, by 12; or what the text is written for refuses.
+    Refused(Refusal),
 }
 
 // Puts bytes into a buffer that has room for them, from `at` on.
@@ -31,7 +32,7 @@ pub fn write(bytes: &[u8], buffer: &mut [u8]) -> Written
 {
     let size = bytes.len();
     if buffer.len() < size {
-        return Written::Longer(size);
+        return Written::Refused(Refusal::MoreBytes(size));
     }
     put(buffer, 0, bytes);
     Written::Length(size)

@@ -56,7 +56,7 @@ fn write_hex(value: u64, buffer: &mut [u8]) -> Written
     write(&digits[at..], buffer)
 }
 
-fn write_nothing(buffer: &mut [u8]) -> Written
+pub fn write_nothing(buffer: &mut [u8]) -> Written
     ensures { λ r. ⌜ Writes [] (now (buffer .entry)) r (now (buffer .exit)) ⌝ }
 {
     Written::Length(0)

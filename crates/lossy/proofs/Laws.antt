@@ -10,8 +10,9 @@ use borrow.Author.Tests.{ne-eqb}
 use mir.Val.{Fits}
 use mir.Syntax.{w64}
 use Rattle.laws.proofs.Lists.{next, done, tail}
+use Rattle.refusal.specs.declared.Refusal.the-variants.{MoreBytes}
 use Rattle.buffer.specs.Buffer.{Writes}
-use Rattle.buffer.specs.declared.Written.the-variants.{Length, Longer}
+use Rattle.buffer.specs.declared.Written.the-variants.{Length, Refused}
 use Rattle.buffer.proofs.Laws.{sets-append, writes-room, writes-short}
 use Rattle.utf8.specs.declared.Piece.{Piece}
 use Rattle.utf8.specs.Table.{cut}
@@ -179,7 +180,7 @@ module _ (s : List ℕ) (e : ℕ) (ends : take e s ≡ trim s) where
       → Writes (shown s) to (Length n) to′
   whole-written n to to′ q h f = writes-room (shown s) to n (counted n q) to′ (f ∙ ap (sets to 0) is-shown) h
 
-  pub whole-longer : (n : ℕ) (to : List ℕ) → n ≡ length (replaced (take e s)) → length to < n → Writes (shown s) to (Longer n) to
+  pub whole-longer : (n : ℕ) (to : List ℕ) → n ≡ length (replaced (take e s)) → length to < n → Writes (shown s) to (Refused (MoreBytes n)) to
   whole-longer n to q h = writes-short (shown s) to n (counted n q) h
 
 pub ruleset whole-laws = (trimmed-in, whole-room, whole-written, whole-longer)

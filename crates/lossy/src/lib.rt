@@ -2,6 +2,7 @@
 // `String::from_utf8_lossy` and `trim_end_matches('\0')`.
 use buffer::Written;
 use buffer::put;
+use refusal::Refusal;
 use utf8::Piece;
 ghost use mathlib.Core.Path.{_≡_};
 ghost use Prim.Native.Nat.{_+_, _*_, _^_, _≤_, _<_};
@@ -92,7 +93,7 @@ pub fn write_lossy(bytes: &[u8], buffer: &mut [u8]) -> Written
     let e = end_of(bytes);
     let needed = count(&bytes[..e]);
     if buffer.len() < needed {
-        return Written::Longer(needed);
+        return Written::Refused(Refusal::MoreBytes(needed));
     }
     put_all(buffer, &bytes[..e]);
     Written::Length(needed)

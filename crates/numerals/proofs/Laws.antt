@@ -13,8 +13,9 @@ use lib.Seq.{sets, length-sets, drop-cons, drop-set-lt, set-split, drop-at, leng
 use borrow.Author.Tests.{eq-eqb, ne-eqb, eqb-true, lt-ltb, le-ltb}
 use Rattle.laws.proofs.Bools.{and-left, and-right}
 use Rattle.laws.proofs.Lists.{next, done}
+use Rattle.refusal.specs.declared.Refusal.the-variants.{MoreBytes}
 use Rattle.buffer.specs.Buffer.{Writes}
-use Rattle.buffer.specs.declared.Written.the-variants.{Length, Longer}
+use Rattle.buffer.specs.declared.Written.the-variants.{Length, Refused}
 use Rattle.buffer.proofs.Laws.{sets-append, writes-room, writes-short}
 use Rattle.numerals.specs.Numerals.{glyph, spelled, decimal, signed, hex, pairs, Spells}
 
@@ -184,7 +185,7 @@ module _ (mark bytes b : List ℕ) where
   counted = rw length-append (omega (arith, length-pairs 65 bytes))
 
   pub pairs-longer : length b < length mark + 2 * length bytes
-      → Writes (mark ++ pairs 65 bytes) b (Longer (length mark + 2 * length bytes)) b
+      → Writes (mark ++ pairs 65 bytes) b (Refused (MoreBytes (length mark + 2 * length bytes))) b
   pairs-longer h = writes-short (mark ++ pairs 65 bytes) b (length mark + 2 * length bytes) counted h
 
   pub pairs-room : (b₁ : List ℕ) → b₁ ≡ sets b 0 mark → length mark + 2 * length bytes ≤ length b → length mark + 2 * length bytes ≤ length b₁

@@ -1,6 +1,7 @@
 // Numbers and bytes as text: decimal, signed, hexadecimal.
 use buffer::Written;
 use buffer::put;
+use refusal::Refusal;
 ghost use mathlib.Core.Path.{_≡_};
 ghost use mathlib.Core.Bool.{_&&_};
 ghost use mathlib.Core.List.{[], _∷_, _++_};
@@ -123,7 +124,7 @@ pub fn write_pairs(mark: &[u8], bytes: &[u8], buffer: &mut [u8]) -> Written
 {
     let size = mark.len() + 2 * bytes.len();
     if buffer.len() < size {
-        return Written::Longer(size);
+        return Written::Refused(Refusal::MoreBytes(size));
     }
     put(buffer, 0, mark);
     put_pairs(buffer, mark.len(), bytes);
