@@ -1,0 +1,79 @@
+-- VT2 (docs/RULES.md): what is shown of a row of a command.
+use Prim.Native.Nat.{ℕ, _-_}
+use mathlib.Core.Bool.{Bool, true, false, cond, _||_}
+use mathlib.Core.List.{List, [], _∷_}
+use lib.Dec.{eqb}
+use lib.ListN.{take, drop}
+use Rattle.text.specs.Text.{lines}
+use Rattle.text.specs.Records.{records}
+use Rattle.command_text.specs.Form.{Record, param, group, item, variant, array, bitFlag, bitField, const, bitmask, form}
+use Rattle.command_class.specs.Definition.{Item, numbered, under, letter}
+use Rattle.command_rules.specs.Field.{first, asArray, asVariant, arrayAscii, variantAscii}
+use Rattle.command_rules.specs.declared.Row.{Row}
+use Rattle.display.specs.Display.{display, displayBit}
+
+-- ---- the line of a row
+
+-- the lines of a text, with their numbers
+abbrev pub linesOf : List ℕ → List Item
+linesOf t = numbered 1 (records form (lines t))
+
+-- of these lines those from the number n on
+unfoldable pub since : ℕ → List Item → List Item
+since n [] = []
+since n (i ∷ is) = cond (eqb (i .line) n) (i ∷ is) (since n is)
+
+-- those behind the first
+abbrev pub behind : List Item → List Item
+behind [] = []
+behind (i ∷ is) = is
+
+-- C12: are the lines under a Q those of an ascii field: by its first A, or by its first R
+unfoldable pub isAscii : List Item → Bool
+isAscii is = arrayAscii (first asArray is) || variantAscii (first asVariant is)
+
+-- VT2: is the Q of line n ascii
+abbrev pub asciiAt : List ℕ → ℕ → Bool
+asciiAt t n = isAscii (under (behind (since n (linesOf t))))
+
+abbrev pub constOf : Record → List ℕ
+constOf (param q) = []
+constOf (group g) = []
+constOf (item (variant s)) = []
+constOf (item (array length ascii)) = []
+constOf (item (bitFlag mask name)) = []
+constOf (item (bitField b)) = []
+constOf (item (const value name)) = name
+constOf (item (bitmask length)) = []
+
+abbrev pub constIn : List Item → List ℕ
+constIn [] = []
+constIn (i ∷ is) = constOf (i .says)
+
+-- C12: the name of the K of line n, or none
+abbrev pub constName : List ℕ → ℕ → List ℕ
+constName t n = constIn (since n (linesOf t))
+
+abbrev pub flagIn : List Item → Bool
+flagIn [] = false
+flagIn (i ∷ is) = eqb (letter (i .says)) 0x54
+
+-- C11: is the line n a T
+abbrev pub isFlag : List ℕ → ℕ → Bool
+isFlag t n = flagIn (since n (linesOf t))
+
+-- ---- a row
+
+-- VT2: the bytes of the payload p from a place up to another, end excluded
+abbrev pub bytesBetween : List ℕ → ℕ → ℕ → List ℕ
+bytesBetween p start end = take (end - start) (drop start p)
+
+-- VT2: what is shown of a parameter, a bit child, a repetition
+unfoldable pub paramText : List ℕ → List ℕ → Row → List ℕ
+paramText t p r = display (asciiAt t (r .line)) (constName t (r .named)) (bytesBetween p (r .start) (r .end))
+
+unfoldable pub bitText : List ℕ → Row → List ℕ
+bitText t r = displayBit (isFlag t (r .line)) (r .value)
+
+unfoldable pub rowText : List ℕ → List ℕ → Row → List ℕ
+rowText t p r = cond (eqb (r .kind) 0) (paramText t p r) (cond (eqb (r .kind) 1) (bitText t r) [])

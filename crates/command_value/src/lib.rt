@@ -1,0 +1,70 @@
+// What is shown of a parameter of a command: VT2 and VT9 of docs/RULES.md. The row that is asked for names the lines that say how.
+mod lookup;
+
+use buffer::Written;
+use command_rules::Row;
+use display::display;
+use display::display_bit;
+use display::write_nothing;
+use lookup::ascii_at;
+use lookup::const_name;
+use lookup::is_flag;
+ghost use mathlib.Core.Path.{_≡_};
+ghost use Prim.Native.Nat.{_≤_};
+ghost use lib.ListN.{length};
+ghost use Rattle.text.specs.declared.Verdict.the-variants.{Accepted};
+ghost use Rattle.command_text.specs.Rules.{verdict};
+ghost use Rattle.buffer.specs.Buffer.{Writes};
+ghost use Rattle.command_value.specs.Params.{bytesBetween, paramText, bitText, rowText};
+
+// The bytes of a payload from a place up to another, as far as they are there.
+fn bytes_between(payload: &[u8], start: u64, end: u64) -> &[u8]
+    ensures { λ r. ⌜ now r ≡ bytesBetween (now (payload .entry)) start end ⌝ }
+{
+    let length = payload.len() as u64;
+    if end <= start {
+        return &payload[..0];
+    }
+    if length <= start {
+        return &payload[..0];
+    }
+    let a = start as usize;
+    if length < end {
+        return &payload[a..];
+    }
+    let e = end as usize;
+    &payload[a..e]
+}
+
+// What is shown of a parameter.
+fn param_value(text: &[u8], payload: &[u8], row: Row, buffer: &mut [u8]) -> Written
+    requires { ⌜ (verdict (now text) ≡ Accepted) × (length (now payload) ≤ 2048) ⌝ }
+    ensures { λ r. ⌜ Writes (paramText (now (text .entry)) (now (payload .entry)) row) (now (buffer .entry)) r (now (buffer .exit)) ⌝ }
+{
+    let ascii = ascii_at(text, row.line);
+    let name = const_name(text, row.named);
+    let bytes = bytes_between(payload, row.start, row.end);
+    display(ascii, name, bytes, buffer)
+}
+
+// What is shown of a bit child.
+fn bit_value(text: &[u8], row: Row, buffer: &mut [u8]) -> Written
+    requires { ⌜ verdict (now text) ≡ Accepted ⌝ }
+    ensures { λ r. ⌜ Writes (bitText (now (text .entry)) row) (now (buffer .entry)) r (now (buffer .exit)) ⌝ }
+{
+    display_bit(is_flag(text, row.line), row.value, buffer)
+}
+
+// What is shown of a row of a command.
+pub fn row_value(text: &[u8], payload: &[u8], row: Row, buffer: &mut [u8]) -> Written
+    requires { ⌜ (verdict (now text) ≡ Accepted) × (length (now payload) ≤ 2048) ⌝ }
+    ensures { λ r. ⌜ Writes (rowText (now (text .entry)) (now (payload .entry)) row) (now (buffer .entry)) r (now (buffer .exit)) ⌝ }
+{
+    if row.kind == 0 {
+        return param_value(text, payload, row, buffer);
+    }
+    if row.kind == 1 {
+        return bit_value(text, row, buffer);
+    }
+    write_nothing(buffer)
+}
