@@ -153,6 +153,11 @@ TapHeader tap_decode_header(const uint8_t *text, size_t text_length, const uint8
 TapAnswer tap_header_nodes(const uint8_t *text, size_t text_length, const uint8_t *mpdu, size_t mpdu_length, uint64_t region,
                            uint64_t speed, size_t row, uint16_t *nodes, size_t nodes_length);
 
+/* Row `row`, from 0, of what `tap_decode_header` answers, as people read it (VT1): UTF-8, no zero byte behind it. It takes no table of rows. Answers its
+ * length; 4,096 bytes are enough for every field. Refuses by 1 to 7 as `tap_decode_header` does, then 11, then 12. */
+TapAnswer tap_header_value(const uint8_t *text, size_t text_length, const uint8_t *mpdu, size_t mpdu_length, uint64_t region,
+                           uint64_t speed, size_t row, uint8_t *buffer, size_t buffer_length);
+
 /* ---- listings of a header ---- */
 
 /* The longest listing: 128 rows of seven numbers, and the header's number. */

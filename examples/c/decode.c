@@ -9,7 +9,7 @@
 /* The capture firmware that wrote the payload. */
 enum { FIRMWARE = 2 };
 
-enum { LONGEST_TEXT = 60000, LONGEST_PAYLOAD = 65535, FRAMES = 2978, HEADER_ROWS = 128, COMMAND_ROWS = 4096, NODES = 256 };
+enum { LONGEST_TEXT = 60000, LONGEST_PAYLOAD = 65535, FRAMES = 2978, HEADER_ROWS = 128, COMMAND_ROWS = 4096, NODES = 256, LONGEST_VALUE = 4096 };
 
 static uint8_t frame_text[LONGEST_TEXT + 1];
 static uint8_t given_text[LONGEST_TEXT + 1];
@@ -20,6 +20,7 @@ static uint64_t header_rows[HEADER_ROWS * TAP_HEADER_WIDTH];
 static uint64_t command_rows[COMMAND_ROWS * TAP_COMMAND_WIDTH];
 static uint16_t nodes[NODES];
 static uint8_t listing[TAP_LISTING_LENGTH];
+static uint8_t value[LONGEST_VALUE];
 
 /* A whole file: one byte more than the longest that a call takes, so that it can say that it is too long. */
 static size_t read_file(const char *name, uint8_t *bytes, size_t room) {
@@ -65,6 +66,16 @@ static void print_numbers(const char *what, const uint64_t *row, int count) {
         printf(" %llu", (unsigned long long)row[i]);
     }
     printf("\n");
+}
+
+/* Row `row` of a header as people read it. */
+static void show_value(const uint8_t *mpdu, size_t length, const uint64_t *frame, uint64_t row, size_t text_length) {
+    TapAnswer shown = tap_header_value(frame_text, text_length, mpdu, length, code_of(frame[1]), frame[3], row, value, sizeof value);
+    if (shown.refusal) {
+        print_refusal(shown.refusal, shown.value);
+        return;
+    }
+    printf("      reads %.*s\n", (int)shown.value, (const char *)value);
 }
 
 /* The nodes that row `row` of a header addresses, if it is a mask of nodes. */
@@ -119,6 +130,7 @@ static void show_frame(const uint64_t *frame, size_t frame_text_length, size_t c
            header.right ? "right" : "wrong");
     for (uint64_t i = 0; i < header.rows; i++) {
         print_numbers("    field", header_rows + i * TAP_HEADER_WIDTH, TAP_HEADER_WIDTH);
+        show_value(mpdu, length, frame, i, frame_text_length);
         show_nodes(mpdu, length, frame, i, frame_text_length);
     }
     show_listing(mpdu, length, frame, frame_text_length);

@@ -75,6 +75,10 @@ pub fn full_answer(line: &[u8]) -> Answer {
         Request::Listing { region, speed, text, mpdu, listing } => {
             judge(*region, *speed, text, mpdu, listing)
         }
+        Request::Headervalue { cap, row, region, speed, text, mpdu } => {
+            return headervalue(*cap, *row, *region, *speed, text, mpdu)
+                .unwrap_or_else(|refusal| Err(refusal).into());
+        }
     };
     answer.into()
 }
@@ -294,4 +298,40 @@ fn judge(region: u64, speed: u64, text: &[u8], mpdu: &[u8], listing: &[u8]) -> R
     let definition: FrameDefinition = definition::read(text)?;
     let differing = reading::listing::judge(&definition, mpdu, region, speed, listing)?;
     Ok(differing.map_or("yes".to_string(), |line| format!("differs {line}")))
+}
+
+/// VT9: a row of a header by the Rust's own string, or by the second reading where the Rust has none.
+fn headervalue(
+    cap: u64,
+    row: u64,
+    region: u64,
+    speed: u64,
+    text: &[u8],
+    mpdu: &[u8],
+) -> Result<Answer, Refusal> {
+    let definition: FrameDefinition = definition::read(text)?;
+    within(limits::MPDU, mpdu)?;
+    let (values, is_past_the_rust) =
+        match source::header::display_values(&definition, mpdu, region, speed) {
+            Some(values) => (values?, false),
+            None => {
+                let header = reading::header::decode_header(&definition, mpdu, region, speed)?;
+                let value = |row| reading::values::header_value(&definition, mpdu, row);
+                (header.rows.iter().map(value).collect(), true)
+            }
+        };
+    let answer = written("headervalue", &values, row, cap);
+    Ok(Answer { is_past_the_rust, ..answer.into() })
+}
+
+/// VT9: the value of a row, if there is such a one and the buffer has room for it.
+fn written(word: &str, values: &[String], row: u64, cap: u64) -> Result<String, Refusal> {
+    let value = usize::try_from(row).ok().and_then(|row| values.get(row));
+    let value = value.ok_or(Refusal { number: 11, carried: row as usize })?;
+    if value.len() as u64 > cap {
+        return Err(Refusal { number: 12, carried: value.len() });
+    }
+    let mut answer = format!("{word} ");
+    push_hex(value.as_bytes(), &mut answer);
+    Ok(answer)
 }

@@ -26,6 +26,7 @@ pub enum Request {
     Tidy { cap: u64, text: Vec<u8> },
     Headernodes { cap: u64, row: u64, region: u64, speed: u64, text: Vec<u8>, mpdu: Vec<u8> },
     Listing { region: u64, speed: u64, text: Vec<u8>, mpdu: Vec<u8>, listing: Vec<u8> },
+    Headervalue { cap: u64, row: u64, region: u64, speed: u64, text: Vec<u8>, mpdu: Vec<u8> },
 }
 
 impl Request {
@@ -92,6 +93,14 @@ impl Request {
                 mpdu: words.bytes()?,
                 listing: words.bytes()?,
             },
+            b"headervalue" => Request::Headervalue {
+                cap: words.buffer()?,
+                row: words.number()?,
+                region: words.number()?,
+                speed: words.number()?,
+                text: words.bytes()?,
+                mpdu: words.bytes()?,
+            },
             _ => return None,
         };
         words.end()?;
@@ -131,6 +140,9 @@ impl Request {
             }
             Request::Listing { region, speed, text, mpdu, listing } => {
                 ("listing", vec![*region, *speed], vec![text, mpdu, listing])
+            }
+            Request::Headervalue { cap, row, region, speed, text, mpdu } => {
+                ("headervalue", vec![*cap, *row, *region, *speed], vec![text, mpdu])
             }
         }
     }

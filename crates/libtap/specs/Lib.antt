@@ -3,3 +3,4 @@ pub mod Headers
 pub mod Commands
 pub mod Nodes
 pub mod Listings
+pub mod Values

@@ -5,6 +5,7 @@ mod headers;
 mod listings;
 mod nodes;
 mod texts;
+mod values;
 
 // An answer as C has it: `refusal` is 0 and `value` the number that the call answers, or `refusal` is one of R1 to R9, BM3, U5 and LS2 (docs/RULES.md)
 // and `value` what it carries.

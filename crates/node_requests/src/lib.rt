@@ -21,7 +21,7 @@ ghost use Rattle.node_requests.specs.Nodes.{Leads, Stand};
 const FRESH: u16 = 0xA5A5;
 
 // Two numbers, and where the other words start.
-enum Two {
+pub enum Two {
     Are(u64, u64, usize),
     Not,
 }
@@ -35,7 +35,7 @@ struct Asked {
     end: usize,
 }
 
-fn read_two(words: &[u8]) -> Two
+pub fn read_two(words: &[u8]) -> Two
     ensures { λ r. ⌜ Leads (now (words .entry)) r ⌝ }
 {
     let Leading::Is(first, at) = read_leading(words) else {

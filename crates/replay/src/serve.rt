@@ -19,6 +19,7 @@ use node_requests::headernodes;
 use request::Word;
 use request::find;
 use request::word_of;
+use value_requests::headervalue;
 use walk_requests::command;
 use walk_requests::commandby;
 use walk_requests::header;
@@ -69,6 +70,7 @@ fn answer(line: &[u8], bytes: &mut [u8], rows: &mut [u64], out: &mut Buffer, use
         Word::Tidy => tidy(words, bytes, out, used),
         Word::Headernodes => headernodes(words, bytes, out, used),
         Word::Listing => listing(words, bytes, out, used),
+        Word::Headervalue => headervalue(words, bytes, out, used),
         Word::Unknown => Answer::Bad,
     }
 }

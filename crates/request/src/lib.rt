@@ -26,6 +26,7 @@ pub enum Word {
     Tidy,
     Headernodes,
     Listing,
+    Headervalue,
     Unknown,
 }
 
@@ -69,7 +70,7 @@ pub fn find(s: &[u8], b: u8) -> usize
 
 pub fn word_of(word: &[u8]) -> Word {
     let words: &[u8] =
-        b"rate\tcount\tbody\trecord\tframes\tframetable\tframetext\tcommandtext\theader\tcommand\tbits\tchecksum\trecordby\tframesby\tframetableby\ttidy\tcommandby\theadernodes\tlisting";
+        b"rate\tcount\tbody\trecord\tframes\tframetable\tframetext\tcommandtext\theader\tcommand\tbits\tchecksum\trecordby\tframesby\tframetableby\ttidy\tcommandby\theadernodes\tlisting\theadervalue";
     match find_field(words, word) {
         0 => Word::Rate,
         1 => Word::Count,
@@ -90,6 +91,7 @@ pub fn word_of(word: &[u8]) -> Word {
         16 => Word::Commandby,
         17 => Word::Headernodes,
         18 => Word::Listing,
+        19 => Word::Headervalue,
         _ => Word::Unknown,
     }
 }

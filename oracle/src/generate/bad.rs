@@ -46,7 +46,7 @@ fn bad_number(random: &mut Random) -> Vec<u8> {
     const CAPS: &[&str] = &["16385", "16386", "65536", "4294967296", "18446744073709551615"];
     let number = random.pick(NUMBERS);
     const BUFFERS: &[&str] = &["196609", "4294967296", "18446744073709551615"];
-    match random.below(19) {
+    match random.below(22) {
         0 => format!("rate {number} 1"),
         1 => format!("rate 1 {number}"),
         2 => format!("body {number} 5b02005d00"),
@@ -69,6 +69,9 @@ fn bad_number(random: &mut Random) -> Vec<u8> {
         15 => format!("headernodes {} 0 0 0 - 0000", random.pick(CAPS)),
         16 => format!("listing {number} 0 - 0000 310a"),
         17 => format!("listing 0 {number} - 0000 310a"),
+        18 => format!("headervalue {number} 0 0 0 - 0000"),
+        19 => format!("headervalue 4 {number} 0 0 - 0000"),
+        20 => format!("headervalue {} 0 0 0 - 0000", random.pick(BUFFERS)),
         _ => format!("{} {} -", random.pick(&["frames", "frametable"]), random.pick(CAPS)),
     }
     .into_bytes()
@@ -113,8 +116,9 @@ fn bad_bytes(random: &mut Random) -> Vec<u8> {
         "headernodes 4 0 0 0 -",
         "listing 0 0 - 0000",
         "listing 0 0 -",
+        "headervalue 4 0 0 0 -",
     ];
-    const WALKS: &[&str] = &["header 4 0 0", "command 4", "headernodes 4 0 0 0"];
+    const WALKS: &[&str] = &["header 4 0 0", "command 4", "headernodes 4 0 0 0", "headervalue 4 0 0 0"];
     match random.below(8) {
         0 => format!("{} {} 0000", random.pick(WALKS), random.pick(BYTES)),
         _ => format!("{} {}", random.pick(WORDS), random.pick(BYTES)),

@@ -8,6 +8,7 @@ pub mod header;
 pub mod listing;
 pub mod nodes;
 pub mod pti;
+pub mod values;
 
 use crate::answer::push_row;
 use crate::definition;

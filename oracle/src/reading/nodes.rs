@@ -51,7 +51,7 @@ pub fn listed(word: &str, mask: &[u8], cap: u64) -> Result<String, Refusal> {
 }
 
 /// The P on a line.
-fn param_at(definition: &FrameDefinition, line: usize) -> Option<&Param> {
+pub fn param_at(definition: &FrameDefinition, line: usize) -> Option<&Param> {
     let bases = definition.base_headers.iter().map(|base| &base.params);
     let headers = definition.headers.iter().map(|header| &header.params);
     bases.chain(headers).find_map(|params| on_line(params, line))

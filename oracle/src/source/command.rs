@@ -15,9 +15,43 @@ pub fn decode_params(
     definition: &CommandDefinition,
     payload: &[u8],
 ) -> Result<rows::Command, Refusal> {
+    decoded(definition, payload, marked).map(|command| answer(&command, payload))
+}
+
+/// The Rust's own string for each row, in the order of the rows. The name of a K is its own here.
+pub fn displays(
+    definition: &CommandDefinition,
+    payload: &[u8],
+) -> Result<Vec<String>, Refusal> {
+    let command = decoded(definition, payload, |_, name| name.to_string())?;
+    let mut values = Vec::new();
+    push_displays(&command.params, &mut values);
+    Ok(values)
+}
+
+fn push_displays(params: &[DecodedParam], values: &mut Vec<String>) {
+    for param in params {
+        values.push(param.display.clone());
+        push_displays(&param.children, values);
+    }
+}
+
+/// How a K is named, by its line and its own name.
+type Naming = fn(usize, &str) -> String;
+
+/// Its line and a zero byte, with which nothing else ends that the Rust displays: it trims ascii of them.
+fn marked(line: usize, _: &str) -> String {
+    format!("{line}\0")
+}
+
+fn decoded(
+    definition: &CommandDefinition,
+    payload: &[u8],
+    naming: Naming,
+) -> Result<Box<DecodedCommand>, Refusal> {
     let (class, command) = (byte_at(payload, 0), byte_at(payload, 1));
-    match decode::decode(&classes(definition, class, command), payload) {
-        Decoded::Command(command) => Ok(answer(&command, payload)),
+    match decode::decode(&named(definition, class, command, naming), payload) {
+        Decoded::Command(command) => Ok(command),
         Decoded::Raw { .. } => Err(Refusal { number: 5, carried: payload.len() }),
     }
 }
@@ -27,14 +61,22 @@ fn byte_at(payload: &[u8], place: usize) -> u8 {
 }
 
 /// The Rust's own structs: one class with one command. The name of a Q, a G and a line under a Q
-/// is its line. That of a K ends with a zero byte, as nothing else that the Rust displays does: it
-/// trims ascii of them.
+/// is its line.
 pub fn classes(definition: &CommandDefinition, class: u8, command: u8) -> schema::ZwClasses {
+    named(definition, class, command, marked)
+}
+
+fn named(
+    definition: &CommandDefinition,
+    class: u8,
+    command: u8,
+    naming: Naming,
+) -> schema::ZwClasses {
     let command = schema::Cmd {
         key: command,
         name: String::new(),
         help: String::new(),
-        items: definition.items.iter().map(cmd_item).collect(),
+        items: definition.items.iter().map(|item| cmd_item(item, naming)).collect(),
     };
     let class = schema::CmdClass {
         key: class,
@@ -46,25 +88,25 @@ pub fn classes(definition: &CommandDefinition, class: u8, command: u8) -> schema
     schema::ZwClasses { version: String::new(), cmd_classes: vec![class] }
 }
 
-fn cmd_item(item: &CmdItem) -> schema::CmdItem {
+fn cmd_item(item: &CmdItem, naming: Naming) -> schema::CmdItem {
     match item {
-        CmdItem::Param(q) => schema::CmdItem::Param(param(q)),
-        CmdItem::VariantGroup(group) => schema::CmdItem::VariantGroup(variant_group(group)),
+        CmdItem::Param(q) => schema::CmdItem::Param(param(q, naming)),
+        CmdItem::VariantGroup(group) => schema::CmdItem::VariantGroup(variant_group(group, naming)),
     }
 }
 
-fn variant_group(group: &VariantGroup) -> schema::VariantGroup {
+fn variant_group(group: &VariantGroup, naming: Naming) -> schema::VariantGroup {
     schema::VariantGroup {
         key: 0,
         name: group.line.to_string(),
         param_offs: group.offset,
         size_mask: group.mask,
         size_offs: group.shift,
-        params: group.params.iter().map(param).collect(),
+        params: group.params.iter().map(|q| param(q, naming)).collect(),
     }
 }
 
-fn param(param: &Param) -> schema::Param {
+fn param(param: &Param, naming: Naming) -> schema::Param {
     schema::Param {
         key: 0,
         name: param.line.to_string(),
@@ -72,11 +114,11 @@ fn param(param: &Param) -> schema::Param {
         optional_offs: param.optional_offset,
         optional_mask: param.optional_mask,
         encap_type: None,
-        items: param.items.iter().map(param_item).collect(),
+        items: param.items.iter().map(|item| param_item(item, naming)).collect(),
     }
 }
 
-fn param_item(item: &ParamItem) -> schema::ParamItem {
+fn param_item(item: &ParamItem, naming: Naming) -> schema::ParamItem {
     let line = item.line.to_string();
     match item.kind {
         ItemKind::Variant { offset, mask, shift, is_ascii } => {
@@ -106,9 +148,10 @@ fn param_item(item: &ParamItem) -> schema::ParamItem {
                 shifter: Some(shift),
             })
         }
-        ItemKind::Const { value, .. } => {
-            schema::ParamItem::Const(schema::Const { flag_name: line + "\0", flag_mask: value })
-        }
+        ItemKind::Const { value, ref name } => schema::ParamItem::Const(schema::Const {
+            flag_name: naming(item.line, name),
+            flag_mask: value,
+        }),
         ItemKind::BitMask { length } => schema::ParamItem::BitMask(schema::BitMask {
             param_offs: 0,
             len_mask: 0,

@@ -19,11 +19,49 @@ pub fn decode_header(
     region: u64,
     speed: u64,
 ) -> Option<Result<rows::Header, Refusal>> {
-    let schema = schema(definition);
+    let decoded = decoded(definition, &schema(definition), mpdu, region, speed)?;
+    Some(decoded.map(|header| answer(&header)))
+}
+
+/// The Rust's own string for each row, in the order of the rows. The label of an E is its text here.
+pub fn display_values(
+    definition: &FrameDefinition,
+    mpdu: &[u8],
+    region: u64,
+    speed: u64,
+) -> Option<Result<Vec<String>, Refusal>> {
+    let mut schema = schema(definition);
+    for (set, ours) in schema.define_sets.iter_mut().zip(&definition.define_sets) {
+        for (define, ours) in set.defines.iter_mut().zip(&ours.defines) {
+            define.text.clone_from(&ours.text);
+        }
+    }
+    let decoded = decoded(definition, &schema, mpdu, region, speed)?;
+    Some(decoded.map(|header| {
+        let mut values = Vec::new();
+        push_values(&header.params, &mut values);
+        values
+    }))
+}
+
+fn push_values(params: &[DecodedParam], values: &mut Vec<String>) {
+    for param in params {
+        values.push(param.display_value());
+        push_values(&param.children, values);
+    }
+}
+
+fn decoded(
+    definition: &FrameDefinition,
+    schema: &schema::FrameDefinition,
+    mpdu: &[u8],
+    region: u64,
+    speed: u64,
+) -> Option<Result<DecodedHeader, Refusal>> {
     let (region, speed) = (region_of(definition, region), speed_of(speed));
-    let decoded = asked(|| decode::decode_header(&schema, mpdu, region, speed))?;
+    let decoded = asked(|| decode::decode_header(schema, mpdu, region, speed))?;
     Some(match decoded {
-        Ok(header) => Ok(answer(&header)),
+        Ok(header) => Ok(header),
         Err(DecodeError::TooShort) => Err(Refusal { number: 5, carried: mpdu.len() }),
         Err(DecodeError::UnknownBaseHeader(key)) => {
             Err(Refusal { number: 6, carried: usize::from(key) })

@@ -1,0 +1,24 @@
+-- Laws of the answers on values as C has them. Assumes nothing.
+use mathlib.Core.Path.{_≡_, refl}
+use mathlib.Core.List.{List}
+use Prim.Native.Nat.{ℕ}
+use Rattle.refusal.specs.declared.Refusal.{Refusal}
+use Rattle.refusal.specs.Refusal.{numberOf, carriedBy}
+use Rattle.buffer.specs.declared.Written.{Written}
+use Rattle.buffer.specs.declared.Written.the-variants.{Length, Refused}
+use Rattle.header_value.specs.Answer.{HeaderValue}
+use Rattle.libtap.specs.declared.TapAnswer.{TapAnswer}
+use Rattle.libtap.specs.Values.{toldWritten, ToldHeaderValue}
+
+pub tells-text : (x : Written) (n : ℕ) → x ≡ Length n → record { refusal = 0; value = n } ≡ toldWritten x
+tells-text x n e = rw e refl
+
+pub tells-unwritten : (x : Written) (y : Refusal) (number carried : ℕ) → x ≡ Refused y → number ≡ numberOf y → carried ≡ carriedBy y
+    → record { refusal = number; value = carried } ≡ toldWritten x
+tells-unwritten x y number carried e is-number is-carried = rw (e, is-number, is-carried) refl
+
+pub tells-header-value : (text mpdu : List ℕ) (region speed row : ℕ) (b : List ℕ) (x : Written) (r : TapAnswer) (b′ : List ℕ)
+    → HeaderValue text mpdu region speed row b x b′ → r ≡ toldWritten x → ToldHeaderValue text mpdu region speed row b r b′
+tells-header-value text mpdu region speed row b x r b′ so is-r = record { answer = x; shows = so; told-so = is-r }
+
+pub ruleset value-laws = (tells-text, tells-unwritten, tells-header-value)

@@ -1,0 +1,38 @@
+// The calls on values as people read them.
+use crate::TapAnswer;
+use buffer::Written;
+use header_value::header_value;
+ghost use mathlib.Core.Path.{_≡_};
+ghost use Rattle.libtap.specs.Values.{toldWritten, ToldHeaderValue};
+
+fn tell_written(written: Written) -> TapAnswer
+    ensures { λ r. ⌜ r ≡ toldWritten written ⌝ }
+{
+    match written {
+        Written::Length(n) => TapAnswer {
+            refusal: 0,
+            value: n as u64,
+        },
+        Written::Refused(refusal) => TapAnswer {
+            refusal: refusal.number() as u64,
+            value: refusal.carried() as u64,
+        },
+    }
+}
+
+// A row of the header that `tap_decode_header` answers, as people read it, into the buffer (VT1 of docs/RULES.md). Answers its length, or refusal 1 to 7,
+// 11 or 12.
+#[no_mangle]
+pub extern "C" fn tap_header_value(
+    text: &[u8],
+    mpdu: &[u8],
+    region: u64,
+    speed: u64,
+    row: usize,
+    buffer: &mut [u8],
+) -> TapAnswer
+    ensures { λ r. ⌜ ToldHeaderValue (now (text .entry)) (now (mpdu .entry)) region speed row (now (buffer .entry)) r (now (buffer .exit)) ⌝ }
+{
+    let written = header_value(text, mpdu, region, speed, row, buffer);
+    tell_written(written)
+}

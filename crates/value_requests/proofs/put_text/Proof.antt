@@ -1,0 +1,18 @@
+-- `value_requests::put_text` meets its contract, by the laws of the crate. Assumes nothing.
+use Rattle.value_requests.proofs.Laws.{laws}
+use borrow.Author.Needs.{needs}
+use Rattle.value_requests.proofs.put_text.Statement.{statement}
+use Rattle.value_requests.proofs.put_text.Tie as tie
+
+pub put-text-spec : {M : Type 1} → statement M
+put-text-spec =
+    tie.close
+    (tie.spec
+    (λ c κs. search (needs, laws))
+    (λ c. search (needs, laws))
+    (λ c κs. search (needs, laws))
+    (λ c. search (needs, laws))
+    (λ c. search (needs, laws))
+    (λ c. search (needs, laws))
+    (λ c κs. search (needs, laws))
+    (λ c. search (needs, laws)))

@@ -1,0 +1,103 @@
+// The requests on values as people read them.
+use answer::Answer;
+use answer::put_bytes;
+use answer::put_refusal;
+use answer::table::BYTE;
+use answer::table::MOST_BYTES;
+use answer::table::put_touched_bytes;
+use buffer::Written;
+use header_value::header_value;
+use node_requests::Two;
+use node_requests::read_two;
+use request::Both;
+use request::read_both;
+use writer::Buffer;
+use writer::put;
+ghost use Prim.Native.Nat.{_≤_};
+ghost use lib.ListN.{length};
+ghost use Rattle.value_requests.specs.Values.{Stand};
+
+// A request for a row of a header: its number, the region and the speed, where the MPDU starts behind the text, and where it ends.
+struct Asked {
+    row: usize,
+    region: u64,
+    speed: u64,
+    n: usize,
+    end: usize,
+}
+
+// A word and a text, the first n bytes of a buffer, and whether the buffer is untouched past it.
+fn put_text(out: &mut Buffer, used: usize, word: &[u8], buffer: &[u8], n: usize) -> usize
+    requires { ⌜ n ≤ length (now buffer) ⌝ }
+{
+    let m = put(out, used, word);
+    let e = put_bytes(out, m, &buffer[..n]);
+    put_touched_bytes(out, e, &buffer[n..])
+}
+
+// What a call answers, and the buffer that it was lent.
+fn put_written(out: &mut Buffer, used: usize, word: &[u8], written: Written, buffer: &[u8]) -> usize
+    requires { ⌜ Stand (now buffer) written ⌝ }
+{
+    match written {
+        Written::Length(n) => put_text(out, used, word, buffer, n),
+        Written::Refused(refusal) => {
+            let m = put_refusal(out, used, refusal);
+            put_touched_bytes(out, m, buffer)
+        }
+    }
+}
+
+fn show_header(
+    text: &[u8],
+    mpdu: &[u8],
+    asked: Asked,
+    buffer: &mut [u8],
+    out: &mut Buffer,
+    used: usize,
+) -> usize {
+    let written = header_value(text, mpdu, asked.region, asked.speed, asked.row, buffer);
+    put_written(out, used, b"headervalue ", written, buffer)
+}
+
+// The first bytes are the text, those behind them up to the end the MPDU.
+fn answer_header(
+    bytes: &[u8],
+    asked: Asked,
+    buffer: &mut [u8],
+    out: &mut Buffer,
+    used: usize,
+) -> usize
+    requires { ⌜ (asked .n ≤ asked .end) × (asked .end ≤ length (now bytes)) ⌝ }
+{
+    let n = asked.n;
+    let end = asked.end;
+    show_header(&bytes[..n], &bytes[n..end], asked, buffer, out, used)
+}
+
+// `headervalue CAP ROW REGION SPEED TEXT MPDU`
+pub fn headervalue(words: &[u8], bytes: &mut [u8], out: &mut Buffer, used: usize) -> Answer {
+    let Two::Are(cap, row, at) = read_two(words) else {
+        return Answer::Bad;
+    };
+    if MOST_BYTES < cap {
+        return Answer::Bad;
+    }
+    let others = &words[at..];
+    let Two::Are(region, speed, from) = read_two(others) else {
+        return Answer::Bad;
+    };
+    let Both::Are(n, end) = read_both(&others[from..], bytes) else {
+        return Answer::Bad;
+    };
+    let asked = Asked {
+        row: row as usize,
+        region,
+        speed,
+        n,
+        end,
+    };
+    let room = cap as usize;
+    let mut buffer = [BYTE; 196608];
+    Answer::Put(answer_header(bytes, asked, &mut buffer[..room], out, used))
+}
