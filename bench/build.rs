@@ -1,11 +1,11 @@
-//! Links the static libraries that `rt staticlib` leaves of `libtap`, `bench_walks` and
-//! `bench_commands`, and the C loop `src/floor.c`.
+//! Links the static libraries that `rt staticlib` leaves of `libtap`, `bench_walks`,
+//! `bench_commands` and `bench_values`, and the C loop `src/floor.c`.
 
 use std::env::var;
 use std::process::Command;
 
 fn main() {
-    ["libtap", "bench_walks", "bench_commands"].into_iter().for_each(link_library);
+    ["libtap", "bench_walks", "bench_commands", "bench_values"].into_iter().for_each(link_library);
     link_floor();
 }
 

@@ -1,5 +1,5 @@
 //! What the library's calls cost, each against its measure, in one process, and the stack they take:
-//! `parse_payload`, `read_bits`, `decode_header` and `decode_params` against zniff-rs, the checks of
+//! `parse_payload`, `read_bits`, `decode_header`, `header_value` and `decode_params` against zniff-rs, the checks of
 //! definition texts and `mask_nodes` against loops in C, listings against `decode_header`.
 
 mod bits;
@@ -17,6 +17,7 @@ mod parse;
 mod payloads;
 mod stack;
 mod texts;
+mod values;
 
 fn main() {
     parse::run();
@@ -26,4 +27,5 @@ fn main() {
     headers::run();
     listings::run();
     params::run();
+    values::run();
 }

@@ -145,6 +145,39 @@ unsafe extern "C" {
     ) -> u64;
 }
 
+// The crate `bench_values`: an answer is a text's length, or 100,000 and the refusal's number.
+unsafe extern "C" {
+    fn bench_header_value(
+        text: *const u8,
+        text_length: usize,
+        mpdu: *const u8,
+        mpdu_length: usize,
+        region: u64,
+        speed: u64,
+        row: usize,
+        buffer: *mut u8,
+        buffer_length: usize,
+        times: u64,
+    ) -> u64;
+}
+
+/// A row of a header as people read it, so many times, into a buffer.
+pub fn header_value(
+    text: &[u8],
+    mpdu: &[u8],
+    region: u64,
+    speed: u64,
+    row: usize,
+    buffer: &mut [u8],
+    times: u32,
+) -> u64 {
+    let (to, room) = (buffer.as_mut_ptr(), buffer.len());
+    let (text, length) = (text.as_ptr(), text.len());
+    let (mpdu, size, times) = (mpdu.as_ptr(), mpdu.len(), u64::from(times));
+    // SAFETY: the slices are valid for the call, which writes inside the buffer alone.
+    unsafe { bench_header_value(text, length, mpdu, size, region, speed, row, to, room, times) }
+}
+
 /// A call for a command's parameters.
 pub type DecodeParams =
     unsafe extern "C" fn(*const u8, usize, *const u8, usize, *mut u64, usize, u64) -> u64;
