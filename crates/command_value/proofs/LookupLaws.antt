@@ -1,13 +1,14 @@
 -- Laws of looking up the lines that a row of a command names. Assumes nothing.
 use mathlib.Core.Path.{_≡_, refl, sym, ap, _∙_}
-use mathlib.Core.Bool.{Bool, true, false, cond, _||_}
+use mathlib.Core.Bool.{Bool, true, false, cond, _&&_, _||_}
 use mathlib.Core.List.{List, [], _∷_}
 use mathlib.Core.Option.{some}
 use Prim.Native.Nat.{ℕ, _+_, _-_, _≤_, _<_}
 use native.Mathlib.Omega.{arith}
 use lib.Dec.{eqb}
 use lib.ListN.{length}
-use borrow.Author.Tests.{eq-eqb, ne-eqb}
+use borrow.Author.Tests.{eq-eqb, ne-eqb, eqb-true}
+use Rattle.laws.proofs.Bools.{and-left}
 use Rattle.text.specs.Text.{field, worth}
 use Rattle.text.specs.Place.{cells, In, Steps, Passes, Has}
 use Rattle.text.specs.Records.{Readable}
@@ -16,9 +17,10 @@ use Rattle.text.specs.declared.Line.{Line}
 use Rattle.text.specs.declared.Under.{Under}
 use Rattle.text.specs.declared.Under.the-variants.{At, Nothing}
 use Rattle.text.specs.declared.Verdict.the-variants.{Accepted}
+use Rattle.text.proofs.Laws.{cells-length}
 use Rattle.text.proofs.Reading.{readable-start, rest-end}
 use Rattle.text.proofs.Passing.{passing}
-use Rattle.command_text.specs.Form.{Record, param, group, item, variant, array, bitFlag, bitField, const, bitmask}
+use Rattle.command_text.specs.Form.{Record, param, group, item, variant, array, bitFlag, bitField, const, bitmask, namedForm, form}
 use Rattle.command_text.specs.Rules.{begins, rules, verdict}
 use Rattle.command_class.specs.Definition.{Item, numbered, under, letter, readAs}
 use Rattle.command_class.specs.Find.{from, Good, among, Says, IsRead, Begins, Follows}
@@ -26,7 +28,7 @@ use Rattle.command_class.specs.declared.Row.{Row}
 use Rattle.command_class.specs.declared.Read.{Read}
 use Rattle.command_class.proofs.Beginning.{follows-at}
 use Rattle.command_class.proofs.Finding.{Lined, lined, read-other, begins-kind}
-use Rattle.command_class.proofs.Rows.{k-said, const-has}
+use Rattle.command_class.proofs.Rows.{said-good}
 use Rattle.command_rules.specs.Field.{first, asArray, asVariant, arrayAscii, variantAscii}
 use Rattle.command_value.specs.Params.{linesOf, since, behind, isAscii, asciiAt, constOf, constIn, constName, flagIn, isFlag}
 use Rattle.command_value.specs.Lookup.{Stands, FindsLine, asciiOf, firstAscii}
@@ -234,14 +236,21 @@ module _ (t : List ℕ) (n : ℕ) (r : Under) (found : FindsLine t n r) where
         kind-is : l .kind ≡ 75
         kind-is = read-other (l .kind) 75 (λ z. omega arith) is-const-line
 
+        const-said : (namedForm (cells t l) ≡ true) × (form (cells t l) ≡ some (item (const (worth 0 (field 1 (cells t l))) (field 2 (cells t l)))))
+        const-said = said-good (cells t l) (namedForm (cells t l)) _ (rw (sym (good .kind-is) ∙ kind-is)) (good .formed)
+
+        three-fields : (b : Bool) → (eqb (length (cells t l)) 3 && b) ≡ true → 2 < l .fields
+        three-fields b e =
+            omega (arith, cells-length t (l .marks) (l .fields) 0, eqb-true (length (cells t l)) 3 (and-left (eqb (length (cells t l)) 3) b e))
+
         pub const-field : Has t l 2
-        const-field = const-has t l good kind-is 2 (omega arith)
+        const-field = record { marked = step .marked; there = three-fields _ (const-said .0) }
 
         pub const-is : (s : List ℕ) → s ≡ field 2 (cells t l) → s ≡ constName t n
         const-is s q =
             let c : line-here .says ≡ item (const (worth 0 (field 1 (cells t l))) (field 2 (cells t l))) =
             (let z : some (line-here .says) ≡ some (item (const (worth 0 (field 1 (cells t l))) (field 2 (cells t l)))) =
-            sym (line-here .form-is) ∙ k-said t l good kind-is .1 in cc) in
+            sym (line-here .form-is) ∙ const-said .1 in cc) in
             q ∙ rw (stands .lines, line-here .lines, c)
 
 pub ruleset at-laws = (ascii-none, const-none, flag-none, at-readable, at-inside, at-in, ascii-is, flag-is, const-other, const-field, const-is)

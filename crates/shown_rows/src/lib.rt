@@ -1,9 +1,20 @@
 // Values of rows of a table as people read them, on their way to standard output. A row that is not there, or a text that isn't accepted, has none.
 use buffer::Written;
+use command_rows::END;
+use command_rows::KIND;
+use command_rows::LACKING;
+use command_rows::LINE;
+use command_rows::NAMED;
+use command_rows::NUMBER;
+use command_rows::PARENT;
+use command_rows::ROW_WIDTH;
+use command_rows::START;
+use command_rows::VALUE;
+use command_rows::VALUED;
 use command_rules::Row;
 use command_text::check_command_text;
 use frame_text::check_frame_text;
-use readers::cells::command_cell;
+use readers::cells::cell;
 use text::Verdict;
 use writer::Buffer;
 use writer::put;
@@ -28,7 +39,7 @@ fn show_field(text: &[u8], mpdu: &[u8], rows: &[u64], i: usize, value: &mut [u8]
     if 2048 < mpdu.len() {
         return Written::Length(0);
     }
-    if rows.len() / 7 <= i {
+    if rows.len() / header_rows::ROW_WIDTH <= i {
         return Written::Length(0);
     }
     match check_frame_text(text) {
@@ -54,16 +65,16 @@ pub fn put_field(
 // Row i of a command.
 fn row_of(rows: &[u64], i: usize) -> Row {
     Row {
-        kind: command_cell(rows, i, 0),
-        line: command_cell(rows, i, 1),
-        parent: command_cell(rows, i, 2),
-        start: command_cell(rows, i, 3),
-        end: command_cell(rows, i, 4),
-        valued: command_cell(rows, i, 5),
-        value: command_cell(rows, i, 6),
-        named: command_cell(rows, i, 7),
-        number: command_cell(rows, i, 8),
-        lacking: command_cell(rows, i, 9),
+        kind: cell(rows, ROW_WIDTH, i, KIND),
+        line: cell(rows, ROW_WIDTH, i, LINE),
+        parent: cell(rows, ROW_WIDTH, i, PARENT),
+        start: cell(rows, ROW_WIDTH, i, START),
+        end: cell(rows, ROW_WIDTH, i, END),
+        valued: cell(rows, ROW_WIDTH, i, VALUED),
+        value: cell(rows, ROW_WIDTH, i, VALUE),
+        named: cell(rows, ROW_WIDTH, i, NAMED),
+        number: cell(rows, ROW_WIDTH, i, NUMBER),
+        lacking: cell(rows, ROW_WIDTH, i, LACKING),
     }
 }
 
