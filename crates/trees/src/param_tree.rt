@@ -1,4 +1,4 @@
-// The parameters of a command as a tree: name, bytes, value and symbol of each.
+// The parameters of a command as a tree: name, bytes and value of each.
 use crate::field_tree::put_deep;
 use crate::field_tree::put_range;
 use crate::node_lines::MOST_NODES;
@@ -8,7 +8,6 @@ use command_rows::END;
 use command_rows::KIND;
 use command_rows::LACKING;
 use command_rows::LINE;
-use command_rows::NAMED;
 use command_rows::NUMBER;
 use command_rows::PARENT;
 use command_rows::ROW_WIDTH;
@@ -21,14 +20,12 @@ use command_text::read_type;
 use node_mask::Listed;
 use readers::cells::cell;
 use readers::cells::depth_of;
-use readers::cells::part;
 use readers::line_fields::field_of;
 use readers::lines::numbered_line;
 use std::num::wrapping_add_u64;
 use std::num::wrapping_sub_u64;
 use writer::Buffer;
 use writer::put;
-use writer::put_hex;
 use writer::put_number;
 
 // Kinds of rows.
@@ -81,38 +78,18 @@ fn bytes_of(rows: &[u64], i: usize) -> u64 {
     )
 }
 
-// The bytes of row i.
-fn put_bytes(out: &mut Buffer, at: usize, payload: &[u8], rows: &[u64], i: usize) -> usize {
-    let start = cell(rows, ROW_WIDTH, i, START);
-    put_hex(
-        out,
-        at,
-        part(payload, start as usize, bytes_of(rows, i) as usize),
-    )
-}
-
 // Which word: for one, or for more.
 fn many(n: u64) -> usize {
     if n == 1 { 0 } else { 1 }
 }
 
-// The name in a line of K, if there is one.
-fn put_symbol(out: &mut Buffer, at: usize, text: &[u8], line: u64) -> usize {
-    if line == 0 {
-        return at;
-    }
-    let place = put(out, at, b"  ");
-    put(out, place, name_at(text, line))
-}
-
-// The value of row i, if it has one, and its symbol.
-fn put_value(out: &mut Buffer, at: usize, text: &[u8], rows: &[u64], i: usize) -> usize {
+// The number that row i is, if it has a value.
+fn put_value(out: &mut Buffer, at: usize, rows: &[u64], i: usize) -> usize {
     if cell(rows, ROW_WIDTH, i, VALUED) == 0 {
         return at;
     }
-    let mut place = put(out, at, b" = ");
-    place = put_number(out, place, cell(rows, ROW_WIDTH, i, VALUE));
-    put_symbol(out, place, text, cell(rows, ROW_WIDTH, i, NAMED))
+    let place = put(out, at, b" = ");
+    put_number(out, place, cell(rows, ROW_WIDTH, i, VALUE))
 }
 
 // How many bytes a row has of those that it wanted, if some are not there.
@@ -141,11 +118,11 @@ fn put_said(
     if kind == REPETITION {
         return put_repetition(out, at, cell(rows, ROW_WIDTH, i, NUMBER));
     }
+    let mut place = shown_rows::put_param(out, at, text, payload, rows, i);
     if kind == BIT {
-        return put_number(out, at, cell(rows, ROW_WIDTH, i, VALUE));
+        return place;
     }
-    let mut place = put_bytes(out, at, payload, rows, i);
-    place = put_value(out, place, text, rows, i);
+    place = put_value(out, place, rows, i);
     put_cut(
         out,
         place,
