@@ -40,7 +40,7 @@ extern "C" {
 #endif
 
 /* The numbers of a row. */
-#define TAP_FRAME_WIDTH 8
+#define TAP_FRAME_WIDTH 10
 #define TAP_HEADER_WIDTH 7
 #define TAP_COMMAND_WIDTH 10
 
@@ -91,8 +91,9 @@ TapPart tap_record_body(const uint8_t *payload, size_t payload_length, size_t k)
 TapFrame tap_parse_record(const uint8_t *body, size_t body_length, size_t firmware);
 
 /* Every frame of a payload, which that firmware wrote, a row each: direction, region, channel, rate; the RSSI's byte; how often the beam stands there, or 0; where the
- * MPDU starts in the payload, and its length (F17). Answers how many rows. Refuses by 13, 4 and 8. */
-TapAnswer tap_parse_payload(const uint8_t *payload, size_t payload_length, size_t firmware, uint64_t *table, size_t table_length);
+ * MPDU starts in the payload, and its length (F17); the number of its record, from 0, by which tap_record_body shows the body, and where that record
+ * begins in the payload (FP1). Numbers of 16 bits. Answers how many rows. Refuses by 13, 4 and 8. */
+TapAnswer tap_parse_payload(const uint8_t *payload, size_t payload_length, size_t firmware, uint16_t *table, size_t table_length);
 
 /* ---- definition texts ---- */
 

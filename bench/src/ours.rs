@@ -3,7 +3,7 @@
 use zniff_core::pti::{Direction, PtiFrame};
 
 /// The numbers of a frame's row.
-const WIDTH: usize = 8;
+const WIDTH: usize = 10;
 
 /// More rows than a payload can need: a record with a frame has 22 bytes or more.
 const ROWS: usize = 3_000;
@@ -29,7 +29,7 @@ unsafe extern "C" {
         payload: *const u8,
         payload_length: usize,
         firmware: usize,
-        table: *mut u64,
+        table: *mut u16,
         table_length: usize,
     ) -> TapAnswer;
     pub fn tap_check_frame_text(text: *const u8, text_length: usize) -> TapAnswer;
@@ -332,13 +332,13 @@ pub fn mask_nodes(mask: &[u8], nodes: &mut [u16]) -> usize {
 pub const FIRMWARE: usize = 2;
 
 /// A table for any payload.
-pub fn table() -> Vec<u64> {
+pub fn table() -> Vec<u16> {
     vec![0; ROWS * WIDTH]
 }
 
 /// Every frame of a payload into the table.
 #[inline]
-pub fn parse_payload(payload: &[u8], table: &mut [u64]) -> TapAnswer {
+pub fn parse_payload(payload: &[u8], table: &mut [u16]) -> TapAnswer {
     // SAFETY: both slices are valid for the call, which writes inside the table alone.
     unsafe {
         tap_parse_payload(payload.as_ptr(), payload.len(), FIRMWARE, table.as_mut_ptr(), table.len())
@@ -354,8 +354,8 @@ pub fn frames(payload: &[u8]) -> Vec<PtiFrame> {
     rows[..answer.value as usize].iter().map(|row| frame(payload, *row)).collect()
 }
 
-fn frame(payload: &[u8], row: [u64; WIDTH]) -> PtiFrame {
-    let [direction, region, channel, speed, rssi, beams, start, length] = row;
+fn frame(payload: &[u8], row: [u16; WIDTH]) -> PtiFrame {
+    let [direction, region, channel, speed, rssi, beams, start, length, ..] = row;
     let byte = |number| u8::try_from(number).expect("a byte's number");
     PtiFrame {
         direction: if direction == 0 { Direction::Rx } else { Direction::Tx },
@@ -363,7 +363,7 @@ fn frame(payload: &[u8], row: [u64; WIDTH]) -> PtiFrame {
         channel: byte(channel),
         speed: byte(speed),
         rssi: byte(rssi) as i8,
-        beam_count: (beams != 0).then(|| u16::try_from(beams).expect("a beam count")),
-        mpdu: payload[start as usize..][..length as usize].to_vec(),
+        beam_count: (beams != 0).then_some(beams),
+        mpdu: payload[usize::from(start)..][..usize::from(length)].to_vec(),
     }
 }

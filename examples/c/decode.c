@@ -15,7 +15,7 @@ static uint8_t frame_text[LONGEST_TEXT + 1];
 static uint8_t given_text[LONGEST_TEXT + 1];
 static uint8_t command_text[LONGEST_TEXT];
 static uint8_t payload[LONGEST_PAYLOAD + 1];
-static uint64_t frames[FRAMES * TAP_FRAME_WIDTH];
+static uint16_t frames[FRAMES * TAP_FRAME_WIDTH];
 static uint64_t header_rows[HEADER_ROWS * TAP_HEADER_WIDTH];
 static uint64_t command_rows[COMMAND_ROWS * TAP_COMMAND_WIDTH];
 static uint16_t nodes[NODES];
@@ -113,11 +113,15 @@ static void show_command(const uint8_t *bytes, size_t length, size_t text_length
     }
 }
 
-static void show_frame(const uint64_t *frame, size_t frame_text_length, size_t command_text_length) {
+static void show_frame(const uint16_t *frame, size_t frame_text_length, size_t command_text_length) {
     const uint8_t *mpdu = payload + frame[6];
     size_t length = frame[7];
     uint64_t rate = frame[3];
-    print_numbers("frame", frame, TAP_FRAME_WIDTH);
+    printf("frame");
+    for (int i = 0; i < TAP_FRAME_WIDTH; i++) {
+        printf(" %u", frame[i]);
+    }
+    printf("\n");
     TapHeader header = tap_decode_header(frame_text, frame_text_length, mpdu, length, code_of(frame[1]), rate, header_rows,
                                          sizeof header_rows / sizeof *header_rows);
     if (header.refusal) {

@@ -10,7 +10,7 @@ use crate::definition::frame::FrameDefinition;
 use crate::definition::{self, Definition};
 use crate::limits::{self, within};
 use crate::reading::command::Offsets;
-use crate::reading::pti::{Frame, region_bits};
+use crate::reading::pti::{Frame, Origin, region_bits};
 use crate::refusal::Refusal;
 use crate::request::{Request, push_hex};
 use crate::rows::{self, LACKING, within_table};
@@ -115,12 +115,12 @@ fn record(word: &str, firmware: u64, body: &[u8]) -> Result<String, Refusal> {
         4 => {
             within(limits::BODY, body)?;
             let frame = pti::parse_record(body).ok_or(Refusal { number: 9, carried: 0 })?;
-            by_source(&frame, mpdu_start(body, &frame))
+            by_source(&frame, mpdu_start(body, &frame), None)
         }
         _ => reading::pti::parse_record(firmware, body)?,
     };
     let mut answer = word.to_string();
-    push_row(&frame, &mut answer);
+    push_frame(&frame, word, &mut answer);
     Ok(answer)
 }
 
@@ -132,7 +132,7 @@ fn frames(word: &str, firmware: u64, cap: u64, payload: &[u8]) -> Result<String,
     };
     let mut answer = format!("{word} {}", frames.len());
     for frame in frames {
-        push_row(&frame, &mut answer);
+        push_frame(&frame, word, &mut answer);
     }
     Ok(answer)
 }
@@ -143,12 +143,12 @@ fn source_frames(cap: u64, payload: &[u8]) -> Result<Vec<Frame>, Refusal> {
     if frames.len() as u64 > cap {
         return Err(Refusal { number: 8, carried: frames.len() });
     }
-    let starts = starts_in_payload(payload, &frames);
-    Ok(frames.iter().zip(starts).map(|(frame, start)| by_source(frame, start)).collect())
+    let places = places_in_payload(payload, &frames).into_iter();
+    Ok(frames.iter().zip(places).map(|(frame, (start, o))| by_source(frame, start, Some(o))).collect())
 }
 
-/// The source's frame, its MPDU at that place.
-fn by_source(frame: &PtiFrame, start: usize) -> Frame {
+/// The source's frame, its MPDU at that place, its record there.
+fn by_source(frame: &PtiFrame, start: usize, origin: Option<Origin>) -> Frame {
     let PtiFrame { region, channel, speed, rssi, .. } = *frame;
     Frame {
         is_sent: matches!(frame.direction, Direction::Tx),
@@ -159,23 +159,26 @@ fn by_source(frame: &PtiFrame, start: usize) -> Frame {
         beams: frame.beam_count.map(usize::from),
         start,
         length: frame.mpdu.len(),
+        origin,
     }
 }
 
-/// Where each frame's MPDU starts in the payload. The Rust copies the bytes and forgets the place,
-/// so the records are gone through once more; they must give the very frames.
-fn starts_in_payload(payload: &[u8], frames: &[PtiFrame]) -> Vec<usize> {
+/// Where each frame's MPDU starts in the payload, and where its record stands: which of the Rust's own
+/// records it is, and the address of its body. The Rust copies the bytes and forgets the place, so the
+/// records are gone through once more; they must give the very frames.
+fn places_in_payload(payload: &[u8], frames: &[PtiFrame]) -> Vec<(usize, Origin)> {
     let mut expected = frames.iter();
-    let mut starts = Vec::with_capacity(frames.len());
-    for body in pti::split_records(payload) {
+    let mut places = Vec::with_capacity(frames.len());
+    for (record, body) in pti::split_records(payload).into_iter().enumerate() {
         if let Some(frame) = pti::parse_record(body) {
             assert_eq!(Some(&frame), expected.next(), "parse_payload and parse_record differ");
-            let place = body.as_ptr().addr() - payload.as_ptr().addr();
-            starts.push(place + mpdu_start(body, &frame));
+            let at = body.as_ptr().addr() - payload.as_ptr().addr();
+            assert_eq!(0x5B, payload[at - 3], "no bracket opens the record");
+            places.push((at + mpdu_start(body, &frame), Origin { record, place: at - 3 }));
         }
     }
     assert_eq!(None, expected.next(), "parse_payload and parse_record differ");
-    starts
+    places
 }
 
 /// Where a frame's MPDU starts in its record's body; its bytes must stand there.
@@ -185,13 +188,17 @@ fn mpdu_start(body: &[u8], frame: &PtiFrame) -> usize {
     start
 }
 
-/// Writes ` DIR REGION CHANNEL RATE RSSI BEAMS START LENGTH`.
-pub fn push_row(frame: &Frame, answer: &mut String) {
+/// Writes ` DIR REGION CHANNEL RATE RSSI BEAMS START LENGTH`, and for a word that names a firmware
+/// ` RECORD PLACE`, if the frame stands in a payload.
+pub fn push_frame(frame: &Frame, word: &str, answer: &mut String) {
     let Frame { region, channel, rate, rssi, start, length, .. } = frame;
     let direction = u8::from(frame.is_sent);
     let beams = frame.beams.map_or("-".to_string(), |count| count.to_string());
     write!(answer, " {direction} {region} {channel} {rate} {rssi} {beams} {start} {length}")
         .expect("a string takes all");
+    if let Some(Origin { record, place }) = frame.origin.filter(|_| word.ends_with("by")) {
+        write!(answer, " {record} {place}").expect("a string takes all");
+    }
 }
 
 /// The check of a definition text, which the Rust does not have.

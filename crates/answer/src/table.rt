@@ -45,6 +45,29 @@ pub fn put_touched(out: &mut Buffer, used: usize, table: &[u64]) -> usize {
     put(out, used, b" TOUCHED")
 }
 
+// What every number of a table of 16-bit numbers is before a call.
+pub const SHORT: u16 = 0xA5A5;
+
+// Whether nothing has been written to a part of such a table.
+fn is_fresh_short(table: &[u16]) -> bool {
+    let mut i = 0;
+    while i < table.len() {
+        if table[i] != SHORT {
+            return false;
+        }
+        i += 1;
+    }
+    true
+}
+
+// Says so if something has been written to a part of such a table that nothing may write to.
+pub fn put_touched_short(out: &mut Buffer, used: usize, table: &[u16]) -> usize {
+    if is_fresh_short(table) {
+        return used;
+    }
+    put(out, used, b" TOUCHED")
+}
+
 // The most bytes that a request may ask for as a buffer.
 pub const MOST_BYTES: u64 = 196608;
 

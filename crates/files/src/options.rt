@@ -16,6 +16,8 @@ pub struct Options {
     pub progress: bool,
     // Are offsets of command texts by position?
     pub by_position: bool,
+    // Does a table say where each frame's record stands?
+    pub records: bool,
     // The folder of the definitions, 0 where none is named.
     pub folder: usize,
     // The firmware that wrote the capture.
@@ -51,6 +53,7 @@ impl Options {
             picture: false,
             progress: false,
             by_position: false,
+            records: false,
             folder: 0,
             firmware: 2,
             count: 0,
@@ -126,6 +129,11 @@ impl Options {
         self
     }
 
+    fn with_records(mut self) -> Self {
+        self.records = true;
+        self
+    }
+
     fn opened(mut self, option: u8) -> Self {
         self.open = option;
         self
@@ -147,7 +155,7 @@ fn is_option(bytes: &[u8]) -> bool {
 
 fn take_option(options: Options, k: usize, bytes: &[u8]) -> Options {
     match find_field(
-        b"--definitions\t--plain\t--colour\t--picture\t--progress\t--firmware\t--by-position",
+        b"--definitions\t--plain\t--colour\t--picture\t--progress\t--firmware\t--by-position\t--records",
         bytes,
     ) {
         0 => options.opened(DEFINITIONS),
@@ -157,6 +165,7 @@ fn take_option(options: Options, k: usize, bytes: &[u8]) -> Options {
         4 => options.with_progress(),
         5 => options.opened(FIRMWARE),
         6 => options.with_position(),
+        7 => options.with_records(),
         _ => options.with_wrong(k),
     }
 }

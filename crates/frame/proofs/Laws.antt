@@ -3,8 +3,8 @@ use mathlib.Core.Path.{_≡_, refl, sym, ap, _∙_}
 use mathlib.Core.Bool.{Bool, true, false, cond, not, and-false}
 use mathlib.Core.List.{List, [], _∷_}
 use Prim.Native.Nat.{ℕ, zero, suc, _+_, _-_, _*_, _%_, _^_, _≤_, _<_}
-use mir.Syntax.{w8}
-use mir.Val.{toZ, ofZ, hbits}
+use mir.Syntax.{w8, w16}
+use mir.Val.{Fits, toZ, ofZ, hbits}
 use mir.Facts.{toZ-ofZ}
 use lib.IntN.{ℤ}
 use lib.Signed.{mag}
@@ -32,6 +32,7 @@ use Rattle.frame.specs.declared.PtiFrame.{PtiFrame}
 use Rattle.frame.specs.declared.Parsed.the-variants.{Frame, Refused}
 use Rattle.radio.specs.Speed.{rateOf}
 use Rattle.radio.specs.Beam.{beamsOf}
+use Rattle.radio.proofs.BeamLaws.{beams-low}
 use Rattle.frame.specs.declared.Beams.{Beams}
 use Rattle.frame.specs.declared.Beams.the-variants.{Count, NoBeam}
 
@@ -220,6 +221,9 @@ module _ (rate : ℕ) (m : List ℕ) where
   pub beams-none : (getD m 0 0 ≡ 0x55 → ⊥) → NoBeam ≡ beamsIn rate m
   beams-none none = rw (ne-eqb (getD m 0 0) 0x55 none) refl
 
+  pub beams-fit : (n : ℕ) → length m < 65535 → n ≡ beamsOf rate m → Fits w16 n
+  beams-fit n few is-n = omega (arith, beams-low rate m .1)
+
 -- ---- the frame
 module _ (b : List ℕ) (p : Parts) (inside : Inside b p) where
   abbrev mid : List ℕ
@@ -227,6 +231,15 @@ module _ (b : List ℕ) (p : Parts) (inside : Inside b p) where
 
   pub middle-bytes : 0 < length mid
   middle-bytes = rw length-take (rw length-drop (omega (arith, inside .some, inside .inside)))
+
+  middle-short : length mid ≤ length b
+  middle-short = rw length-take (rw length-drop (omega arith))
+
+  pub middle-few : length b < 65535 → length mid < 65535
+  middle-few few = omega (arith, middle-short)
+
+  pub mpdu-fits : (l : ℕ) → length b < 65535 → l ≤ length mid → Fits w16 l
+  mpdu-fits l few low = omega (arith, middle-short)
 
   pub frame-is : (rate l : ℕ) (rssi : ℤ) (beams : Beams) → rate ≡ rateOf (p .trailer .channel) (p .trailer .region)
       → rssi ≡ toZ w8 (p .trailer .rssi) → mag rssi < 2 ^ hbits w8 → beams ≡ beamsIn rate mid → l ≡ mpduOf mid
@@ -338,7 +351,10 @@ pub ruleset laws = (
   mpdu-all,
   beams-some,
   beams-none,
+  beams-fit,
   middle-bytes,
+  middle-few,
+  mpdu-fits,
   frame-is,
   parsed-unknown,
   parsed-long,

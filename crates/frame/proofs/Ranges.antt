@@ -127,3 +127,10 @@ frame-long w b whole =
         go true c h = omega arith
         go false true h = omega arith
         go false false h = absurd (let z : _≡_ {A = ℕ} 0 1 = cc in omega arith)
+
+-- the MPDU lies inside the body
+pub mpdu-inside : (w : ℕ) (b : List ℕ) → isFrame w b ≡ true → frameOf w b .start .0 + frameOf w b .length ≤ length b
+mpdu-inside w b whole =
+    let room = roomy b (and-left (between b) _ whole) in
+    let few : length (middle b) ≤ length b - trailer b - header b = rw length-take (omega arith) in
+    omega (arith, mpdu-low (middle b))

@@ -65,7 +65,7 @@ pub enum Split {
 
 // The repetitions of a wake-up beam; other frames have none.
 pub enum Beams {
-    Count(usize),
+    Count(u16),
     NoBeam,
 }
 
@@ -81,7 +81,7 @@ pub struct PtiFrame {
     pub rssi: i8,
     pub beams: Beams,
     pub start: BodyOffset,
-    pub length: usize,
+    pub length: u16,
 }
 
 // The frame of a single record.
@@ -246,6 +246,7 @@ pub fn split_body(body: &[u8], width: u8) -> Split
 // The MPDU's length: what its header declares, where that is there and fits; else all middle bytes, and so for a beam.
 fn mpdu_length(middle: &[u8]) -> usize
     ensures { λ r. ⌜ r ≡ mpduOf (now (middle .entry)) ⌝ }
+    ensures { λ r. ⌜ r ≤ length (now (middle .entry)) ⌝ }
 {
     let m = middle.len();
     if m <= LENGTH_INDEX_IN_HEADER {
@@ -261,11 +262,11 @@ fn mpdu_length(middle: &[u8]) -> usize
 
 // The repetitions of a beam, if the middle bytes are one.
 fn beams_in(rate: u8, middle: &[u8]) -> Beams
-    requires { ⌜ 0 < length (now middle) ⌝ }
+    requires { ⌜ (0 < length (now middle)) × (length (now middle) < 65535) ⌝ }
     ensures { λ r. ⌜ r ≡ beamsIn rate (now (middle .entry)) ⌝ }
 {
     if middle[0] == BEAM_MARKER {
-        return Beams::Count(beam_count(rate, middle));
+        return Beams::Count(beam_count(rate, middle) as u16);
     }
     Beams::NoBeam
 }
@@ -274,6 +275,7 @@ fn beams_in(rate: u8, middle: &[u8]) -> Beams
 pub fn frame_of(rates: &[u8; 512], body: &[u8], parts: Parts) -> PtiFrame
     requires { ⌜ RateTable (now rates) ⌝ }
     requires { ⌜ Inside (now body) parts ⌝ }
+    requires { ⌜ length (now body) < 65535 ⌝ }
     ensures { λ r. ⌜ r ≡ framedBy (now (body .entry)) parts ⌝ }
 {
     let start = parts.middle;
@@ -293,7 +295,7 @@ pub fn frame_of(rates: &[u8; 512], body: &[u8], parts: Parts) -> PtiFrame
         rssi: signed(trailer.rssi),
         beams: beams_in(rate, middle),
         start,
-        length: mpdu_length(middle),
+        length: mpdu_length(middle) as u16,
     }
 }
 

@@ -13,10 +13,10 @@ use frame_line::frame_row::put_header;
 use frame_line::frame_row::put_number;
 use frame_line::frame_row::put_row;
 use pti::parse_payload;
-use pti::payload::BEAMS;
 use pti::payload::Frames;
-use pti::payload::ROW_WIDTH;
 use refusal::Refusal;
+use screen::FrameRecord;
+use screen::record_at;
 use writer::Buffer;
 use writer::flush;
 ghost use mathlib.Core.Path.{_≡_};
@@ -28,23 +28,22 @@ ghost use Rattle.frame_text.specs.Rules.{verdict};
 ghost use Rattle.files.specs.Capture.{Inside};
 
 // The table of a payload's frames: 3,000 rows. A record with a frame has at least 22 bytes, so a payload has no more than 2,978 frames.
-pub type Table = [u64; 24000];
+pub type Table = [u16; 30000];
 
-// The line of the frame of a row.
+// The line of a frame.
 fn put_frame(
     text: &[u8],
     index: &[u8],
     payload: &[u8],
-    row: &[u64],
+    frame: FrameRecord,
     out: &mut Buffer,
     sheet: Sheet,
 ) -> Sheet
-    requires { ⌜ rowWidth ≤ length (now row) ⌝ }
     requires { ⌜ verdict (now text) ≡ Accepted ⌝ }
 {
-    let next = sheet.with_frame(row[BEAMS]);
-    let from = put_number(out, next.at, next.frames);
-    let at = put_row(out, from, row, payload, text, index, next.look());
+    let next = sheet.with_frame(frame.is_beam);
+    let from = put_number(out, next.at, next.frames, frame, next.records);
+    let at = put_row(out, from, frame, payload, text, index, next.look());
     tell_progress(next);
     next.gathered(at)
 }
@@ -54,7 +53,7 @@ fn put_frames(
     text: &[u8],
     index: &[u8],
     payload: &[u8],
-    table: &[u64],
+    table: &[u16],
     n: usize,
     out: &mut Buffer,
     sheet: Sheet,
@@ -65,9 +64,7 @@ fn put_frames(
     let mut shown = sheet;
     let mut i: usize = 0;
     while i < n {
-        let from = i * ROW_WIDTH;
-        let to = from + ROW_WIDTH;
-        shown = put_frame(text, index, payload, &table[from..to], out, shown);
+        shown = put_frame(text, index, payload, record_at(table, i), out, shown);
         i += 1;
     }
     shown
@@ -98,7 +95,7 @@ fn put_payload(
 // The sheet with one more payload, under the table's header.
 fn begin_payload(out: &mut Buffer, sheet: Sheet) -> Sheet {
     if sheet.payloads == 0 {
-        let at = put_header(out, sheet.at);
+        let at = put_header(out, sheet.at, sheet.records);
         return sheet.gathered(at).with_payload();
     }
     sheet.with_payload()

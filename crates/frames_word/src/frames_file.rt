@@ -27,7 +27,7 @@ fn show_capture(name: &[u8], fd: i32, text: &[u8], index: &[u8], empty: Sheet)
         return;
     };
     let mut payload = io::large_buffer();
-    let mut table: Table = [0u64; 24000];
+    let mut table: Table = [0u16; 30000];
     let mut out = io::buffer();
     let sheet = put_capture(
         text,
@@ -82,13 +82,7 @@ fn show_file(name: &[u8], fd: i32, options: Options) {
         &text[..n],
         state,
         options.folder,
-        Sheet::new(
-            options.firmware,
-            options.colour,
-            options.progress,
-            options.folder,
-            options.by_position,
-        ),
+        Sheet::new(options),
     );
 }
 

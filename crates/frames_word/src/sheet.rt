@@ -1,4 +1,5 @@
 // What was shown of a capture so far, and what stands below it at the end.
+use files::options::Options;
 use frame_line::mpdu_columns::Look;
 use libc::STDERR_FILENO;
 use libc::STDOUT_FILENO;
@@ -44,27 +45,24 @@ pub struct Sheet {
     pub progress: bool,
     // Are offsets of command texts by position?
     pub by_position: bool,
+    // Does a line say where its frame's record stands?
+    pub records: bool,
 }
 
 impl Sheet {
-    pub fn new(
-        firmware: usize,
-        colour: bool,
-        progress: bool,
-        folder: usize,
-        by_position: bool,
-    ) -> Self {
+    pub fn new(options: Options) -> Self {
         Sheet {
             at: 0,
             frames: 0,
             beams: 0,
             payloads: 0,
             verdict: Verdict::Fine,
-            firmware,
-            colour,
-            folder,
-            progress,
-            by_position,
+            firmware: options.firmware,
+            colour: options.colour,
+            folder: options.folder,
+            progress: options.progress,
+            records: options.records,
+            by_position: options.by_position,
         }
     }
 
@@ -88,10 +86,10 @@ impl Sheet {
         self
     }
 
-    // One more frame, whose row has this beam count.
-    pub fn with_frame(mut self, beams: u64) -> Self {
+    // One more frame, a beam or not.
+    pub fn with_frame(mut self, is_beam: bool) -> Self {
         self.frames = wrapping_add_u64(self.frames, 1);
-        if beams != 0 {
+        if is_beam {
             self.beams = wrapping_add_u64(self.beams, 1);
         }
         self
@@ -110,6 +108,7 @@ impl Sheet {
             folder: self.folder,
             progress: self.progress,
             by_position: self.by_position,
+            records: self.records,
         }
     }
 

@@ -2,9 +2,11 @@
 use mathlib.Core.Path.{_≡_, refl, ap, _∙_}
 use mathlib.Core.Bool.{Bool, true, false}
 use mathlib.Core.List.{List}
-use Prim.Native.Nat.{ℕ, _+_, _-_}
-use native.Mathlib.Omega.{arith}
-use lib.ListN.{getD}
+use Prim.Native.Nat.{ℕ, _-_, _^_, _<_}
+use lib.Signed.{mag}
+use mir.Syntax.{w8}
+use mir.Val.{toZ, ofZ, hbits}
+use mir.Facts.{toZ-ofZ}
 use Rattle.refusal.specs.declared.Refusal.{Refusal}
 use Rattle.refusal.specs.Refusal.{numberOf, carriedBy}
 use Rattle.records.specs.declared.Counted.{Counted}
@@ -12,13 +14,13 @@ use Rattle.records.specs.declared.Counted.the-variants.{Records, Refused as Unc
 use Rattle.records.specs.declared.Span.{Span}
 use Rattle.records.specs.Records.{said, saidOf, Counts, spanOf}
 use Rattle.records.specs.Steps.{IsBody}
-use Rattle.frame.specs.Frame.{numbersAt, parsedOf, Parses as ParsesRecord}
+use Rattle.frame.specs.Frame.{directionNumber, beamsNumber, numbersAt, parsedOf, Parses as ParsesRecord}
 use Rattle.frame.specs.declared.PtiFrame.{PtiFrame}
 use Rattle.frame.specs.declared.Parsed.{Parsed}
 use Rattle.frame.specs.declared.Parsed.the-variants.{Frame, Refused as NoFrame}
 use Rattle.pti.specs.declared.payload.Frames.{Frames}
 use Rattle.pti.specs.declared.payload.Frames.the-variants.{Rows, Refused}
-use Rattle.pti.specs.Payload.{rowOf, said as saidFrames, Parses}
+use Rattle.pti.specs.Payload.{said as saidFrames, Parses}
 use Rattle.text.specs.declared.Verdict.{Verdict}
 use Rattle.text.specs.declared.Verdict.the-variants.{Accepted, Refused as Unfit}
 use Rattle.tidy.specs.declared.Tidied.{Tidied}
@@ -56,7 +58,8 @@ tells-refusal f x number carried e is-number is-carried = rw (e, is-number, is-c
 
 pub told-all : (firmware : ℕ) (s t : List ℕ) (f : Frames) (r : TapAnswer) (t′ : List ℕ) → Parses firmware s t f t′ → r ≡ answered (saidFrames f)
     → Told firmware s t r t′
-told-all firmware s t f r t′ p is-r = record { answer = is-r ∙ ap answered (p .numbers); table = rw (p .answer) at (p .table) }
+told-all firmware s t f r t′ p is-r =
+    record { answer = is-r ∙ ap answered (p .numbers); table = rw (p .answer) at (p .table); located = rw (p .answer) at (p .located) }
 
 pub counts : (c : Counted) (n : ℕ) → c ≡ Records n → record { refusal = 0; value = n } ≡ answered (said c)
 counts c n e = rw e refl
@@ -71,21 +74,23 @@ counts-all s c r so is-r = is-r ∙ ap answered (so .numbers)
 pub parts : (s : List ℕ) (k : ℕ) (b : Span) → IsBody s k b → record { start = b .start .0; length = b .end .0 - b .start .0 } ≡ part (spanOf s k)
 parts s k b body = rw (body .is) refl
 
-pub framed-row : (f : PtiFrame) (row : List ℕ) → row ≡ rowOf 0 f
+pub framed-row : (f : PtiFrame) (d rssi beams : ℕ) → d ≡ directionNumber (f .direction) → rssi ≡ ofZ w8 (toZ w8 (ofZ w8 (f .rssi)))
+    → mag (f .rssi) < 2 ^ hbits w8 → beams ≡ beamsNumber (f .beams)
     → record {
       refusal = 0;
       value = 0;
-      direction = getD row 0 0;
-      region = getD row 1 0;
-      channel = getD row 2 0;
-      rate = getD row 3 0;
-      rssi =
-          getD row 4 0;
-      beams = getD row 5 0;
-      start = getD row 6 0;
-      length = getD row 7 0;
+      direction = d;
+      region = f .region;
+      channel = f .channel;
+      rate = f .rate;
+      rssi = rssi;
+      beams = beams;
+      start = f .start .0;
+      length = f .length;
     } ≡ framed (numbersAt (f .start .0) f)
-framed-row f row e = let z : 0 + f .start .0 ≡ f .start .0 = omega arith in rw (e, z) refl
+framed-row f d rssi beams is-d is-rssi ok is-beams =
+    let read-back : toZ w8 (ofZ w8 (f .rssi)) ≡ f .rssi = toZ-ofZ {w = w8} {z = f .rssi} (record { sfits = ok }) in
+    rw (is-d, is-rssi, read-back, is-beams) refl
 
 pub frames : (p : Parsed) (f : PtiFrame) (r : TapFrame) → p ≡ Frame f → r ≡ framed (numbersAt (f .start .0) f) → r ≡ toldFrame p
 frames p f r e is-r = rw e is-r

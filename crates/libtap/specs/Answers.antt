@@ -7,7 +7,7 @@ use Rattle.refusal.specs.Refusal.{numberOf, carriedBy}
 use Rattle.frame.specs.declared.Parsed.{Parsed}
 use Rattle.frame.specs.declared.Parsed.the-variants.{Frame, Refused as NoFrame}
 use Rattle.frame.specs.Frame.{said}
-use Rattle.pti.specs.Payload.{framesOf, saidOf, tableAfter}
+use Rattle.pti.specs.Payload.{framesOf, saidOf, tableAfter, LocatedIn}
 use Rattle.text.specs.Judge as text
 use Rattle.tidy.specs.declared.Tidied.{Tidied}
 use Rattle.tidy.specs.declared.Tidied.the-variants.{Length, Refused as Untidied}
@@ -77,3 +77,4 @@ pub record ToldTidied (text buffer : List ℕ) (r : TapAnswer) (buffer′ : List
 pub record Told (firmware : ℕ) (s t : List ℕ) (r : TapAnswer) (t′ : List ℕ) : Type 0 where
   pub answer : r ≡ answered (saidOf firmware s (length t))
   pub table : t′ ≡ tableAfter firmware s t (framesOf firmware s (length t))
+  pub located : LocatedIn firmware s (framesOf firmware s (length t))

@@ -3,18 +3,11 @@ use crate::TapAnswer;
 use frame::Parsed;
 use frame::PtiFrame;
 use pti::parse_payload;
-use pti::payload::BEAMS;
-use pti::payload::CHANNEL;
-use pti::payload::DIRECTION;
 use pti::payload::Frames;
-use pti::payload::LENGTH;
-use pti::payload::RATE;
-use pti::payload::REGION;
-use pti::payload::RSSI;
-use pti::payload::START;
-use pti::payload::row_of;
+use pti::payload::beams_number;
+use pti::payload::direction_number;
+use radio::rssi::byte_of;
 use records::Counted;
-use records::PayloadOffset;
 use records::find_body;
 ghost use mathlib.Core.Path.{_≡_};
 ghost use Rattle.radio.specs.Speed.{rateOf};
@@ -24,7 +17,7 @@ ghost use Rattle.frame.specs.Frame.{parsedOf, numbersAt};
 ghost use Rattle.pti.specs.Payload.{said as saidFrames};
 ghost use Rattle.libtap.specs.Answers.{answered, part, framed, toldFrame, Told};
 
-// A frame as C has it: where `refusal` is 0, the eight numbers of its row, `start` in the record's body.
+// A single record's frame as C has it: where `refusal` is 0, the eight numbers of F16, `start` in the record's body.
 #[repr(C)]
 pub struct TapFrame {
     pub refusal: u64,
@@ -103,18 +96,19 @@ pub extern "C" fn tap_record_body(payload: &[u8], k: usize) -> TapPart
 fn tell_row(frame: PtiFrame) -> TapFrame
     ensures { λ r. ⌜ r ≡ framed (numbersAt (frame .start .0) frame) ⌝ }
 {
-    let row = row_of(frame, PayloadOffset(0));
+    let direction = frame.direction;
+    let beams = frame.beams;
     TapFrame {
         refusal: 0,
         value: 0,
-        direction: row[DIRECTION],
-        region: row[REGION],
-        channel: row[CHANNEL],
-        rate: row[RATE],
-        rssi: row[RSSI],
-        beams: row[BEAMS],
-        start: row[START],
-        length: row[LENGTH],
+        direction: direction_number(direction) as u64,
+        region: frame.region as u64,
+        channel: frame.channel as u64,
+        rate: frame.rate as u64,
+        rssi: byte_of(frame.rssi) as u64,
+        beams: beams_number(beams) as u64,
+        start: frame.start.0 as u64,
+        length: frame.length as u64,
     }
 }
 
@@ -162,10 +156,10 @@ fn tell(frames: Frames) -> TapAnswer
     }
 }
 
-// Every frame of a payload, which that firmware wrote, into a table, the eight numbers of F17 (docs/RULES.md) a row. Answers the rows, or refusal 13,
+// Every frame of a payload, which that firmware wrote, into a table, the ten numbers of F17 and FP1 (docs/RULES.md) a row. Answers the rows, or refusal 13,
 // 4 or 8.
 #[no_mangle]
-pub extern "C" fn tap_parse_payload(payload: &[u8], firmware: usize, table: &mut [u64]) -> TapAnswer
+pub extern "C" fn tap_parse_payload(payload: &[u8], firmware: usize, table: &mut [u16]) -> TapAnswer
     ensures { λ r. ⌜ Told firmware (now (payload .entry)) (now (table .entry)) r (now (table .exit)) ⌝ }
 {
     let frames = parse_payload(payload, firmware, table);

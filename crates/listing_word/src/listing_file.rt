@@ -14,7 +14,8 @@ use output::outcome::fail_capture;
 use output::outcome::fail_file;
 use readers::numeral::Numeral;
 use readers::region::frame_code;
-use show_word::frame_search::Heard;
+use screen::FrameRecord;
+use show_word::frame_search::Aim;
 use show_word::frame_search::Search;
 use show_word::show_file::fail_number;
 use show_word::show_file::read_number;
@@ -53,11 +54,11 @@ fn open_and_judge(text: &[u8], mpdu: &[u8], frame: Frame, argument: usize) {
     libc::close(fd);
 }
 
-fn answer_mpdu(text: &[u8], mpdu: &[u8], heard: Heard, task: Task) {
+fn answer_mpdu(text: &[u8], mpdu: &[u8], heard: FrameRecord, task: Task) {
     let frame = Frame {
         number: task.number,
-        region: frame_code(heard.region),
-        rate: heard.rate,
+        region: frame_code(heard.region as u64),
+        rate: heard.rate as u64,
     };
     if task.listing == 0 {
         list_mpdu(text, mpdu, frame.region, frame.rate);
@@ -67,8 +68,8 @@ fn answer_mpdu(text: &[u8], mpdu: &[u8], heard: Heard, task: Task) {
 }
 
 // The frame whose bytes are these, by the frame text of the folder.
-fn answer_heard(heard: Heard, mpdu: &[u8], task: Task, options: Options) {
-    if heard.beams != 0 {
+fn answer_heard(heard: FrameRecord, mpdu: &[u8], task: Task, options: Options) {
+    if heard.is_beam {
         fail_beam(task.number);
         return;
     }
@@ -84,12 +85,18 @@ fn answer_heard(heard: Heard, mpdu: &[u8], task: Task, options: Options) {
 fn answer_file(name: &[u8], fd: i32, task: Task, options: Options) {
     let before = wrapping_sub_u64(task.number, 1);
     let mut mpdu = io::buffer();
-    match search(fd, options.firmware, before, &mut mpdu) {
-        Search::Found(heard) => {
-            let n = heard.count;
+    let aim = Aim {
+        firmware: options.firmware,
+        left: before,
+        payloads: 0,
+    };
+    match search(fd, aim, &mut mpdu) {
+        Search::Found(hit) => {
+            let n = hit.count;
+            let heard = hit.frame;
             answer_heard(heard, &mpdu[..n], task, options);
         }
-        Search::Left(left) => fail_number(name, task.number, wrapping_sub_u64(before, left)),
+        Search::Left(aim) => fail_number(name, task.number, wrapping_sub_u64(before, aim.left)),
         Search::NoCapture(line, column) => fail_capture(name, line, column),
         Search::Unreadable => fail_file(name),
     }

@@ -29,11 +29,11 @@ use Rattle.pti.specs.declared.payload.Frames.the-variants.{Rows, Refused
 use Rattle.records.specs.Records.{stands, upTo, bodiesFrom, bodies, bytesOf}
 use Rattle.records.specs.Steps.{Follows}
 use Rattle.frame.specs.Steps.{splitOf, framedBy}
-use Rattle.pti.specs.Steps.{Needs, WritesRow, Writes, Lays}
-use Rattle.frame.specs.Frame.{headerOf, regionBits, isFrame, frameOf, directionNumber, beamsNumber}
-use Rattle.pti.specs.Payload.{rowWidth, rowOf, rowsIn, rowsOf, Parses}
-use Rattle.records.proofs.Laws.{stands-inside, led, body-nearer, body-ordered, body-inside, after-fits}
-use Rattle.frame.proofs.Ranges.{frame-long}
+use Rattle.pti.specs.Steps.{Low, Within, Needs, WritesRow, Writes, Lays}
+use Rattle.frame.specs.Frame.{regionBits, isFrame, frameOf, directionNumber, beamsNumber}
+use Rattle.pti.specs.Payload.{rowWidth, rowOf, rowsIn, rowsOf, Rises, Placed, AllPlaced, Located, Parses}
+use Rattle.records.proofs.Laws.{stands-inside, stands-opened, stands-closed, led, body-nearer, body-ordered, body-inside, after-fits}
+use Rattle.frame.proofs.Ranges.{frame-long, mpdu-inside}
 use Rattle.frame.proofs.Laws.{split-frame, split-none, split-framed, parts-in}
 
 -- ---- one body
@@ -45,42 +45,37 @@ module _ (w : ℕ) (b : List ℕ) (r : Split) (is-r : r ≡ splitOf w b) where
   holds-none e = rw (split-none w b r is-r e) refl
 
 -- ---- the row of a frame
-pub row-is : (f : PtiFrame) (body d rssi beams start : ℕ) → d ≡ directionNumber (f .direction) → rssi ≡ ofZ w8 (toZ w8 (ofZ w8 (f .rssi)))
+pub row-is : (f : PtiFrame) (k body d rssi beams start : ℕ) → d ≡ directionNumber (f .direction) → rssi ≡ ofZ w8 (toZ w8 (ofZ w8 (f .rssi)))
     → mag (f .rssi) < 2 ^ hbits w8 → beams ≡ beamsNumber (f .beams) → start ≡ body + f .start .0
-    → (d ∷ f .region ∷ f .channel ∷ f .rate ∷ rssi ∷ beams ∷ start ∷ f .length ∷ []) ≡ rowOf body f
-row-is f body d rssi beams start is-d is-rssi ok is-beams is-start =
+    → (d ∷ f .region ∷ f .channel ∷ f .rate ∷ rssi ∷ beams ∷ start ∷ f .length ∷ k ∷ (body - 3) ∷ []) ≡ rowOf k body f
+row-is f k body d rssi beams start is-d is-rssi ok is-beams is-start =
     let read-back : toZ w8 (ofZ w8 (f .rssi)) ≡ f .rssi = toZ-ofZ {w = w8} {z = f .rssi} (record { sfits = ok }) in
     rw (is-d, is-rssi, read-back, is-beams, is-start) refl
 
-low-header : (version : ℕ) → headerOf version ≤ 19
-low-header version = go (eqb version 2) (eqb version 3)
-  where
-    go : (a b : Bool) → cond a 12 (cond b 19 0) ≤ 19
-    go true b = omega arith
-    go false true = omega arith
-    go false false = omega arith
+-- a body's MPDU starts inside it
+pub low-start : (w : ℕ) (b : List ℕ) (k start : ℕ) (x : Split) (p : Parts) (f : PtiFrame) → x ≡ splitOf w b → x ≡ Into p → f ≡ framedBy b p
+    → Within k start (length b) → Low k start (f .start .0)
+low-start w b k start x p f is-x e is-f within =
+    let is-start : f .start .0 ≡ p .middle .0 = ap (λ (y : PtiFrame). y .start .0) is-f in
+    let inside = parts-in w b x is-x p e in
+    record { number = within .number; behind = within .behind; mpdu = omega (arith, within .before, inside .some, inside .inside) }
 
-pub mpdu-fits : (w : ℕ) (b : List ℕ) (start : ℕ) (x : Split) (p : Parts) (f : PtiFrame) → x ≡ splitOf w b → x ≡ Into p → f ≡ framedBy b p
-    → start < 2 ^ 63 → start + f .start .0 < 2 ^ 64
-mpdu-fits w b start x p f is-x e is-f low =
-    let e : f .start .0 ≡ headerOf (getD b 0 0) = ap (λ (y : PtiFrame). y .start .0) (split-framed w b x is-x p e f is-f) in
-    omega (arith, low-header (getD b 0 0))
-
-module _ (w : ℕ) (b : List ℕ) (start n : ℕ) (t : List ℕ) (x : Split) (is-x : x ≡ splitOf w b) where
-  pub writes-none : x ≡ NoSplit → Writes w b start n t n t
+module _ (w : ℕ) (b : List ℕ) (k start n : ℕ) (t : List ℕ) (x : Split) (is-x : x ≡ splitOf w b) where
+  pub writes-none : x ≡ NoSplit → Writes w b k start n t n t
   writes-none e = let none = split-none w b x is-x e in record { next = rw none (omega arith); table = rw none refl }
 
-  pub writes-frame : (p : Parts) (f : PtiFrame) (r : ℕ) (t′ : List ℕ) → x ≡ Into p → f ≡ framedBy b p → WritesRow f start n t r t′
-      → Writes w b start n t r t′
+  pub writes-frame : (p : Parts) (f : PtiFrame) (r : ℕ) (t′ : List ℕ) → x ≡ Into p → f ≡ framedBy b p → WritesRow f k start n t r t′
+      → Writes w b k start n t r t′
   writes-frame p f r t′ e is-f wrote =
       let some = split-frame w b x is-x p e in
       let is-frame = split-framed w b x is-x p e f is-f in
       record { next = rw some (wrote .next); table = rw some (rw is-frame at (wrote .table)) }
 
-pub writes-row : (f : PtiFrame) (body n : ℕ) (t row t′ : List ℕ) → row ≡ rowOf body f → t′ ≡ put t (n * rowWidth) row → WritesRow f body n t (n + 1) t′
-writes-row f body n t row t′ is-row is-t = record { next = refl; table = rw is-row at is-t }
+pub writes-row : (f : PtiFrame) (k body n : ℕ) (t row t′ : List ℕ) → row ≡ rowOf k body f → t′ ≡ put t (n * rowWidth) row
+    → WritesRow f k body n t (n + 1) t′
+writes-row f k body n t row t′ is-row is-t = record { next = refl; table = rw is-row at is-t }
 
-module _ (n : ℕ) (t : List ℕ) (room : n * rowWidth ≤ length t) (size : length t * 8 < 2 ^ 63) where
+module _ (n : ℕ) (t : List ℕ) (room : n * rowWidth ≤ length t) (size : length t * 2 < 2 ^ 63) where
   pub row-fits : Fits w64 (n * rowWidth)
   row-fits = omega arith
 
@@ -88,101 +83,126 @@ module _ (n : ℕ) (t : List ℕ) (room : n * rowWidth ≤ length t) (size : len
   next-fits = omega arith
 
 -- ---- the count
-counted-row : (w : ℕ) (s : List ℕ) (b : ℕ × ℕ) (bs : List (ℕ × ℕ))
-    → length (rowsIn w s (b ∷ bs)) ≡ cond (isFrame w (bytesOf s b)) 1 0 + length (rowsIn w s bs)
-unfolding rowsIn
-counted-row w s b bs = go (isFrame w (bytesOf s b)) _
-  where
-    go : (t : Bool) (row : List ℕ) → length (cond t (row ∷ rowsIn w s bs) (rowsIn w s bs)) ≡ cond t 1 0 + length (rowsIn w s bs)
-    go true row = omega arith
-    go false row = omega arith
+module _ (w : ℕ) (s : List ℕ) where
+  counted-row : (k : ℕ) (b : ℕ × ℕ) (bs : List (ℕ × ℕ))
+      → length (rowsIn w s k (b ∷ bs)) ≡ cond (isFrame w (bytesOf s b)) 1 0 + length (rowsIn w s (k + 1) bs)
+  unfolding rowsIn
+  counted-row k b bs = go (isFrame w (bytesOf s b)) _
+    where
+      go : (t : Bool) (row : List ℕ)
+          → length (cond t (row ∷ rowsIn w s (k + 1) bs) (rowsIn w s (k + 1) bs)) ≡ cond t 1 0 + length (rowsIn w s (k + 1) bs)
+      go true row = omega arith
+      go false row = omega arith
+
+  -- whatever number the first body has
+  same-count : (k j : ℕ) (bs : List (ℕ × ℕ)) → length (rowsIn w s k bs) ≡ length (rowsIn w s j bs)
+  unfolding rowsIn
+  same-count k j [] = refl
+  same-count k j (b ∷ bs) = omega (arith, counted-row k b bs, counted-row j b bs, same-count (k + 1) (j + 1) bs)
 
 pub record Tallying (w : ℕ) (s : List ℕ) (count at : ℕ) : Type 0 where
-  pub sum : count + length (rowsIn w s (bodiesFrom s at)) ≡ length (rowsOf w s)
+  pub sum : count + length (rowsIn w s 0 (bodiesFrom s at)) ≡ length (rowsOf w s)
   pub low : count < at
 
 pub tallying-starts : (w : ℕ) (s : List ℕ) → Tallying w s 0 1
 tallying-starts w s = record { sum = omega arith; low = omega arith }
 
-pub tallied : (w : ℕ) (s : List ℕ) (count at : ℕ) (r : Next) → Tallying w s count at → Follows s at r → r ≡ NoMore → count ≡ length (rowsOf w s)
+pub tallied : (w : ℕ) (s : List ℕ) (count at : ℕ) (r : Next) → Tallying w s count at → Follows s at r → r ≡ NoMore
+    → count ≡ length (rowsOf w s)
 unfolding rowsIn
 tallied w s count at r inv follows e =
     let none : bodiesFrom s at ≡ [] = rw e at follows in
-    omega (arith, inv .sum, ap (λ (l : List (ℕ × ℕ)). length (rowsIn w s l)) none)
+    omega (arith, inv .sum, ap (λ (l : List (ℕ × ℕ)). length (rowsIn w s 0 l)) none)
 
-module _ (w : ℕ) (s : List ℕ) (count at : ℕ) (r : Next) (b : Span) (k : ℕ) (inv : Tallying w s count at) (follows : Follows s at r) (is-b : r ≡ Body b)
-    (is-k : k ≡ cond (isFrame w (take (b .end .0 - b .start .0) (drop (b .start .0) s))) 1 0) (few : k ≤ 1) where
+module _ (w : ℕ) (s : List ℕ) (count at : ℕ) (r : Next) (b : Span) (k : ℕ) (inv : Tallying w s count at) (follows : Follows s at r)
+    (is-b : r ≡ Body b) (is-k : k ≡ cond (isFrame w (take (b .end .0 - b .start .0) (drop (b .start .0) s))) 1 0) (few : k ≤ 1) where
   pub tallying-more : Tallying w s (count + k) (b .end .0 + 2)
   tallying-more =
       let l = led s at r b follows is-b in
-      let row = counted-row w s (b .start .0, b .end .0 - b .start .0) (bodiesFrom s (b .end .0 + 2)) in
-      let here : length (rowsIn w s (bodiesFrom s at)) ≡ k + length (rowsIn w s (bodiesFrom s (b .end .0 + 2))) = rw (l .first, is-k) row in
-      record { sum = omega (arith, inv .sum); low = omega (arith, inv .low, l .after, l .ordered) }
+      let others = bodiesFrom s (b .end .0 + 2) in
+      let row = counted-row w s 0 (b .start .0, b .end .0 - b .start .0) others in
+      let here : length (rowsIn w s 0 (bodiesFrom s at)) ≡ k + length (rowsIn w s (0 + 1) others) = rw (l .first, is-k) row in
+      record { sum = omega (arith, inv .sum, same-count w s (0 + 1) 0 others); low = omega (arith, inv .low, l .after, l .ordered) }
 
   pub tally-fits : length s * 1 < 2 ^ 63 → Fits w64 (count + k)
   tally-fits room = let l = led s at r b follows is-b in omega (arith, inv .low, l .after, l .ordered, l .inside)
 
 -- ---- the rows
-pub wide : (w : ℕ) (s : List ℕ) (bs : List (ℕ × ℕ)) → length (flat (rowsIn w s bs)) ≡ length (rowsIn w s bs) * rowWidth
+pub wide : (w : ℕ) (s : List ℕ) (k : ℕ) (bs : List (ℕ × ℕ)) → length (flat (rowsIn w s k bs)) ≡ length (rowsIn w s k bs) * rowWidth
 unfolding rowsIn
-wide w s [] = refl
-wide w s (b ∷ bs) = go (isFrame w (bytesOf s b)) (wide w s bs)
+wide w s k [] = refl
+wide w s k (b ∷ bs) = go (isFrame w (bytesOf s b)) (wide w s (k + 1) bs)
   where
     row : List ℕ
-    row = rowOf (b .0) (frameOf w (bytesOf s b))
+    row = rowOf k (b .0) (frameOf w (bytesOf s b))
 
-    go : (t : Bool) → length (flat (rowsIn w s bs)) ≡ length (rowsIn w s bs) * rowWidth
-        → length (flat (cond t (row ∷ rowsIn w s bs) (rowsIn w s bs))) ≡ length (cond t (row ∷ rowsIn w s bs) (rowsIn w s bs)) * rowWidth
+    go : (t : Bool) → length (flat (rowsIn w s (k + 1) bs)) ≡ length (rowsIn w s (k + 1) bs) * rowWidth
+        → length (flat (cond t (row ∷ rowsIn w s (k + 1) bs) (rowsIn w s (k + 1) bs)))
+        ≡ length (cond t (row ∷ rowsIn w s (k + 1) bs) (rowsIn w s (k + 1) bs)) * rowWidth
     go true ih = omega arith
     go false ih = ih
 
--- the table with the rows that are left is the table that is asked for
-pub record Writing (w : ℕ) (s t₀ t : List ℕ) (n at : ℕ) : Type 0 where
-  pub sum : n + length (rowsIn w s (bodiesFrom s at)) ≡ length (rowsOf w s)
-  pub rest : sets t (n * rowWidth) (flat (rowsIn w s (bodiesFrom s at))) ≡ sets t₀ 0 (flat (rowsOf w s))
-  pub room : (n + length (rowsIn w s (bodiesFrom s at))) * rowWidth ≤ length t
+-- the table with the rows that are left is the table that is asked for; record k is the next
+pub record Writing (w : ℕ) (s t₀ t : List ℕ) (n k at : ℕ) : Type 0 where
+  pub sum : n + length (rowsIn w s k (bodiesFrom s at)) ≡ length (rowsOf w s)
+  pub rest : sets t (n * rowWidth) (flat (rowsIn w s k (bodiesFrom s at))) ≡ sets t₀ 0 (flat (rowsOf w s))
+  pub room : (n + length (rowsIn w s k (bodiesFrom s at))) * rowWidth ≤ length t
   pub same : length t ≡ length t₀
-  pub low : 0 < at
+  pub low : k < at
 
-pub writing-starts : (w : ℕ) (s t : List ℕ) → length (rowsOf w s) * rowWidth ≤ length t → Writing w s t t 0 1
+pub writing-starts : (w : ℕ) (s t : List ℕ) → length (rowsOf w s) * rowWidth ≤ length t → Writing w s t t 0 0 1
 writing-starts w s t room = record { sum = omega arith; rest = refl; room = omega arith; same = refl; low = omega arith }
 
-pub written : (w : ℕ) (s t₀ t : List ℕ) (n at : ℕ) (r : Next) → Writing w s t₀ t n at → Follows s at r → r ≡ NoMore
+pub written : (w : ℕ) (s t₀ t : List ℕ) (n k at : ℕ) (r : Next) → Writing w s t₀ t n k at → Follows s at r → r ≡ NoMore
     → length (rowsOf w s) * rowWidth ≤ length t₀ → Lays w s t₀ n t
 unfolding rowsIn
-written w s t₀ t n at r inv follows e room =
+written w s t₀ t n k at r inv follows e room =
     let none : bodiesFrom s at ≡ [] = rw e at follows in
     record {
-      count = omega (arith, inv .sum, ap (λ (l : List (ℕ × ℕ)). length (rowsIn w s l)) none);
-      table = (rw none at (inv .rest)) ∙ sets-laid t₀ (rowsOf w s) (omega (arith, wide w s (bodies s)));
+      count = omega (arith, inv .sum, ap (λ (l : List (ℕ × ℕ)). length (rowsIn w s k l)) none);
+      table = (rw none at (inv .rest)) ∙ sets-laid t₀ (rowsOf w s) (omega (arith, wide w s 0 (bodies s)));
     }
 
-module _ (w : ℕ) (s t₀ t : List ℕ) (n at : ℕ) (r : Next) (b : Span) (inv : Writing w s t₀ t n at) (follows : Follows s at r) (is-b : r ≡ Body b) where
-  pub start-low : length s * 1 < 2 ^ 63 → b .start .0 < 2 ^ 63
-  start-low room = let l = led s at r b follows is-b in omega (arith, l .ordered, l .inside)
-
+module _ (w : ℕ) (s t₀ t : List ℕ) (n k at : ℕ) (r : Next) (b : Span) (inv : Writing w s t₀ t n k at) (follows : Follows s at r)
+    (is-b : r ≡ Body b) where
   -- the bytes of the body, as the code has them
   abbrev body : List ℕ
   body = take (b .end .0 - b .start .0) (drop (b .start .0) s)
 
+  pub body-within : length s ≤ 65535 → Within k (b .start .0) (length body)
+  body-within short =
+      let l = led s at r b follows is-b in
+      let few = length-take (b .end .0 - b .start .0) (drop (b .start .0) s) in
+      record {
+        number = omega (arith, inv .low, l .after, l .ordered, l .inside);
+        behind = omega (arith, inv .low, l .after);
+        before = omega (arith, l .ordered, l .inside);
+      }
+
+  pub number-fits : length s ≤ 65535 → Fits w64 (k + 1)
+  number-fits short = omega (arith, body-within short .number)
+
   -- the rows that are left: with the body's own, and without
   abbrev now-rows : List (List ℕ)
-  now-rows = rowsIn w s (bodiesFrom s at)
+  now-rows = rowsIn w s k (bodiesFrom s at)
 
   abbrev next-rows : List (List ℕ)
-  next-rows = rowsIn w s (bodiesFrom s (b .end .0 + 2))
+  next-rows = rowsIn w s (k + 1) (bodiesFrom s (b .end .0 + 2))
 
   abbrev row : List ℕ
-  row = rowOf (b .start .0) (frameOf w body)
+  row = rowOf k (b .start .0) (frameOf w body)
 
   here : now-rows ≡ cond (isFrame w body) (row ∷ next-rows) next-rows
   unfolding rowsIn
   here = let l = led s at r b follows is-b in rw (l .first) refl
 
-  pub writing-more : (n′ : ℕ) (t′ : List ℕ) → Writes w body (b .start .0) n t n′ t′ → Writing w s t₀ t′ n′ (b .end .0 + 2)
+  next-low : k + 1 < b .end .0 + 2
+  next-low = let l = led s at r b follows is-b in omega (arith, inv .low, l .after, l .ordered)
+
+  pub writing-more : (n′ : ℕ) (t′ : List ℕ) → Writes w body k (b .start .0) n t n′ t′ → Writing w s t₀ t′ n′ (k + 1) (b .end .0 + 2)
   writing-more n′ t′ wrote = go (isFrame w body) refl
     where
-      go : (y : Bool) → isFrame w body ≡ y → Writing w s t₀ t′ n′ (b .end .0 + 2)
+      go : (y : Bool) → isFrame w body ≡ y → Writing w s t₀ t′ n′ (k + 1) (b .end .0 + 2)
       go false e =
           let now-is : now-rows ≡ next-rows = here ∙ rw e refl in
           let same-n : n′ ≡ n = rw (e, add-zero) at (wrote .next) in
@@ -193,7 +213,7 @@ module _ (w : ℕ) (s t₀ t : List ℕ) (n at : ℕ) (r : Next) (b : Span) (inv
             rest = rw now-is at (inv .rest);
             room = rw now-is at (inv .room);
             same = inv .same;
-            low = omega arith;
+            low = next-low;
           })
       go true e =
           let now-is : now-rows ≡ row ∷ next-rows = here ∙ rw e refl in
@@ -210,11 +230,11 @@ module _ (w : ℕ) (s t₀ t : List ℕ) (n at : ℕ) (r : Next) (b : Span) (inv
             rest = rw (← place) (sym (sets-append t (n * rowWidth) row (flat next-rows)) ∙ rest);
             room = omega arith;
             same = size ∙ inv .same;
-            low = omega arith;
+            low = next-low;
           })
 
-pub rows-so-far : (w : ℕ) (s t₀ t : List ℕ) (n at : ℕ) → Writing w s t₀ t n at → n * rowWidth ≤ length t
-rows-so-far w s t₀ t n at inv = omega (arith, inv .room)
+pub rows-so-far : (w : ℕ) (s t₀ t : List ℕ) (n k at : ℕ) → Writing w s t₀ t n k at → n * rowWidth ≤ length t
+rows-so-far w s t₀ t n k at inv = omega (arith, inv .room)
 
 -- ---- how many rows there can be
 module _ (w : ℕ) (s : List ℕ) where
@@ -227,25 +247,25 @@ module _ (w : ℕ) (s : List ℕ) where
       go false h = omega arith
 
   -- so the records with a frame that stand from a place on take 22 bytes each behind it
-  few-rows : (m at : ℕ) → 0 < at → length (rowsIn w s (upTo m s at)) * 22 ≤ length s + 1 - at
+  few-rows : (m k at : ℕ) → 0 < at → length (rowsIn w s k (upTo m s at)) * 22 ≤ length s + 1 - at
   unfolding rowsIn
-  few-rows zero at some = omega arith
-  few-rows (suc m) at some =
+  few-rows zero k at some = omega arith
+  few-rows (suc m) k at some =
       go (getD s at 0) (stands s at) (leb 2 (getD s at 0)) (upTo m s (at + getD s at 0 + 2)) (stands-inside s at)
-      (leb-true 2 (getD s at 0)) (few-rows m (at + getD s at 0 + 2) (omega arith))
+      (leb-true 2 (getD s at 0)) (λ j. few-rows m j (at + getD s at 0 + 2) (omega arith))
     where
       go : (n : ℕ) (a b : Bool) (bs : List (ℕ × ℕ)) → (a ≡ true → at + n < length s) → (b ≡ true → 2 ≤ n)
-          → length (rowsIn w s bs) * 22 ≤ length s + 1 - (at + n + 2)
-          → length (rowsIn w s (cond a (cond b ((at + 2, n - 2) ∷ bs) bs) [])) * 22 ≤ length s + 1 - at
+          → ((j : ℕ) → length (rowsIn w s j bs) * 22 ≤ length s + 1 - (at + n + 2))
+          → length (rowsIn w s k (cond a (cond b ((at + 2, n - 2) ∷ bs) bs) [])) * 22 ≤ length s + 1 - at
       go n false b bs inside two rest = omega arith
-      go n true false bs inside two rest = omega (arith, rest)
+      go n true false bs inside two rest = omega (arith, rest k)
       go n true true bs inside two rest =
-          let here = counted-row w s (at + 2, n - 2) bs in
-          omega (arith, rest, inside refl, two refl, long-body (at + 2) (n - 2))
+          let here = counted-row w s k (at + 2, n - 2) bs in
+          omega (arith, rest (k + 1), inside refl, two refl, long-body (at + 2) (n - 2))
 
   pub rows-few : length (rowsOf w s) ≤ length s / 22
   unfolding bodiesFrom
-  rows-few = let few = few-rows (length s) 1 (omega arith) in omega arith
+  rows-few = let few = few-rows (length s) 0 1 (omega arith) in omega arith
 
 pub needs-most : (w : ℕ) (s : List ℕ) (room : ℕ) → length s / 22 ≤ room → Needs w s room (length s / 22)
 needs-most w s room roomy = record { enough = rows-few w s; exact = λ over. absurd (omega arith) }
@@ -253,10 +273,103 @@ needs-most w s room roomy = record { enough = rows-few w s; exact = λ over. abs
 pub needs-count : (w : ℕ) (s : List ℕ) (room n : ℕ) → n ≡ length (rowsOf w s) → Needs w s room n
 needs-count w s room n is-n = record { enough = omega arith; exact = λ over. is-n }
 
+-- ---- where the rows come from
+rises-low : (column low low′ : ℕ) (rows : List (List ℕ)) → low′ ≤ low → Rises column low rows → Rises column low′ rows
+rises-low column low low′ [] less rises = tt
+rises-low column low low′ (r ∷ rs) less rises = (omega (arith, rises .0), rises .1)
+
+module _ (w : ℕ) (s : List ℕ) (short : length s ≤ 65535) where
+  -- rows whose first record number is k or more, and whose first bracket stands before the place `at` or behind it
+  record From (k at : ℕ) (rows : List (List ℕ)) : Type 0 where
+    numbers : Rises 8 k rows
+    places : Rises 9 (at - 1) rows
+    placed : AllPlaced s rows
+
+  -- these bodies are those of the payload from number k on
+  abbrev Numbered : ℕ → List (ℕ × ℕ) → Type 0
+  Numbered k bs = (j : ℕ) → getD (bodies s) (k + j) (0, 0) ≡ getD bs j (0, 0)
+
+  -- what is known of a record of n at a place
+  record Here (at n : ℕ) : Type 0 where
+    is : n ≡ getD s at 0
+    some : 0 < at
+    opened : getD s (at - 1) 0 ≡ 0x5B
+    closed : getD s (at + n) 0 ≡ 0x5D
+
+  placed-row : (k at n : ℕ) → Here at n → 2 ≤ n → getD (bodies s) (k + 0) (0, 0) ≡ (at + 2, n - 2) → isFrame w (bytesOf s (at + 2, n - 2)) ≡ true
+      → Placed s (rowOf k (at + 2) (frameOf w (bytesOf s (at + 2, n - 2))))
+  placed-row k at n here two first whole =
+      let b = bytesOf s (at + 2, n - 2) in
+      let bracket : at + 2 - 3 ≡ at - 1 = omega (arith, here .some) in
+      let length-byte : at - 1 + 1 ≡ at = omega (arith, here .some) in
+      let body : at - 1 + 3 ≡ at + 2 = omega (arith, here .some) in
+      let few = length-take (n - 2) (drop (at + 2) s) in
+      let inside = mpdu-inside w b whole in
+      rw (bracket)
+      (record {
+        opened = here .opened;
+        body = rw (length-byte, body, ← here .is, le-leb (length s) 65535 short) (rw add-zero at first);
+        behind = rw body (omega arith);
+        before = rw (length-byte, ← here .is) (omega arith);
+        closed = rw (length-byte, ← here .is) (here .closed);
+      })
+
+  located-from : (m k at : ℕ) → 0 < at → Numbered k (upTo m s at) → From k at (rowsIn w s k (upTo m s at))
+  unfolding rowsIn
+  located-from zero k at some are = record { numbers = tt; places = tt; placed = tt }
+  located-from (suc m) k at some are =
+      go (getD s at 0) (stands s at) (leb 2 (getD s at 0)) (upTo m s (at + getD s at 0 + 2))
+      (λ e. record { is = refl; some = some; opened = stands-opened s at e; closed = stands-closed s at e })
+      (leb-true 2 (getD s at 0)) (λ j. located-from m j (at + getD s at 0 + 2) (omega arith)) are
+    where
+      go : (n : ℕ) (a b : Bool) (bs : List (ℕ × ℕ)) → (a ≡ true → Here at n) → (b ≡ true → 2 ≤ n)
+          → ((j : ℕ) → Numbered j bs → From j (at + n + 2) (rowsIn w s j bs)) → Numbered k (cond a (cond b ((at + 2, n - 2) ∷ bs) bs) [])
+          → From k at (rowsIn w s k (cond a (cond b ((at + 2, n - 2) ∷ bs) bs) []))
+      go n false b bs here two rest are = record { numbers = tt; places = tt; placed = tt }
+      go n true false bs here two rest are =
+          let others = rest k are in
+          record {
+            numbers = others .numbers;
+            places = rises-low 9 (at + n + 2 - 1) (at - 1) (rowsIn w s k bs) (omega arith) (others .places);
+            placed = others .placed;
+          }
+      go n true true bs here two rest are = frame (isFrame w (bytesOf s (at + 2, n - 2))) refl
+        where
+          later : Numbered (k + 1) bs
+          later j = let e : k + 1 + j ≡ k + suc j = omega arith in rw e (are (suc j))
+
+          others : From (k + 1) (at + n + 2) (rowsIn w s (k + 1) bs)
+          others = rest (k + 1) later
+
+          frame : (y : Bool) → isFrame w (bytesOf s (at + 2, n - 2)) ≡ y
+              → From k at
+              (cond y (rowOf k (at + 2) (frameOf w (bytesOf s (at + 2, n - 2))) ∷ rowsIn w s (k + 1) bs) (rowsIn w s (k + 1) bs))
+          frame false e =
+              record {
+                numbers = rises-low 8 (k + 1) k (rowsIn w s (k + 1) bs) (omega arith) (others .numbers);
+                places = rises-low 9 (at + n + 2 - 1) (at - 1) (rowsIn w s (k + 1) bs) (omega arith) (others .places);
+                placed = others .placed;
+              }
+          frame true e =
+              record {
+                numbers = (omega arith, rises-low 8 (k + 1) (suc k) (rowsIn w s (k + 1) bs) (omega arith) (others .numbers));
+                places = (
+                  omega arith,
+                  rises-low 9 (at + n + 2 - 1) (suc (at + 2 - 3)) (rowsIn w s (k + 1) bs) (omega (arith, here refl .some)) (others .places),
+                );
+                placed = (placed-row k at n (here refl) (two refl) (are 0) e, others .placed);
+              }
+
+  pub located : Located s (rowsOf w s)
+  unfolding bodiesFrom
+  located =
+      let all = located-from (length s) 0 1 (omega arith) (λ j. let e : 0 + j ≡ j = omega arith in rw e refl) in
+      record { numbers = all .numbers; places = all .places; placed = all .placed }
+
 -- ---- the answer
 module _ (firmware w : ℕ) (s t : List ℕ) (is-w : w ≡ regionBits firmware) where
   pub parses-unknown : w ≡ 0 → Parses firmware s t (Refused (Firmware firmware)) t
-  parses-unknown none = let e = eq-eqb w 0 none in record { answer = rw (← is-w, e) refl; numbers = rw (← is-w, e) refl; table = refl }
+  parses-unknown none = let e = eq-eqb w 0 none in record { answer = rw (← is-w, e) refl; numbers = rw (← is-w, e) refl; table = refl; located = tt }
 
   module _ (some : w ≡ 0 → ⊥) where
     known : eqb w 0 ≡ false
@@ -265,7 +378,7 @@ module _ (firmware w : ℕ) (s t : List ℕ) (is-w : w ≡ regionBits firmware) 
     pub parses-long : 65535 < length s → Parses firmware s t (Refused (TooLong (length s))) t
     parses-long long =
         let over = lt-leb (length s) 65535 long in
-        record { answer = rw (← is-w, known, over) refl; numbers = rw (← is-w, known, over) refl; table = refl }
+        record { answer = rw (← is-w, known, over) refl; numbers = rw (← is-w, known, over) refl; table = refl; located = tt }
 
     -- a payload without a body: its rates are not laid out
     pub parses-none : (r : Next) → length s ≤ 65535 → Follows s 1 r → r ≡ NoMore → Parses firmware s t (Rows 0) t
@@ -278,6 +391,7 @@ module _ (firmware w : ℕ) (s t : List ℕ) (is-w : w ≡ regionBits firmware) 
           answer = rw (← is-w, known, within, none, fits) refl;
           numbers = rw (← is-w, known, within, none, fits) refl;
           table = rw (← is-w, none) refl;
+          located = rw (← is-w) (located w s short);
         }
 
     module _ (needed : ℕ) (needs : Needs w s (length t / rowWidth) needed) (short : length s ≤ 65535) where
@@ -288,7 +402,13 @@ module _ (firmware w : ℕ) (s t : List ℕ) (is-w : w ≡ regionBits firmware) 
       parses-more few =
           let is-needed = needs .exact few in
           let over = lt-leb (length (rowsOf w s)) (length t / rowWidth) (omega arith) in
-          rw is-needed (record { answer = rw (← is-w, known, within, over) refl; numbers = rw (← is-w, known, within, over) refl; table = refl })
+          rw is-needed
+          (record {
+            answer = rw (← is-w, known, within, over) refl;
+            numbers = rw (← is-w, known, within, over) refl;
+            table = refl;
+            located = tt;
+          })
 
       pub parses-all : (n : ℕ) (t′ : List ℕ) → needed ≤ length t / rowWidth → Lays w s t n t′ → Parses firmware s t (Rows n) t′
       parses-all n t′ room lays =
@@ -297,6 +417,7 @@ module _ (firmware w : ℕ) (s t : List ℕ) (is-w : w ≡ regionBits firmware) 
             answer = rw (← is-w, known, within, fits) refl;
             numbers = rw (← is-w, known, within, fits) refl;
             table = rw (← is-w) (lays .table);
+            located = rw (← is-w) (located w s short);
           })
 
 pub rows-fit : (w : ℕ) (s t : List ℕ) (needed : ℕ) → Needs w s (length t / rowWidth) needed → needed ≤ length t / rowWidth
@@ -335,7 +456,7 @@ pub ruleset laws = (
   tallying-more,
   tally-fits,
   row-is,
-  mpdu-fits,
+  low-start,
   row-fits,
   next-fits,
   writes-none,
@@ -343,7 +464,8 @@ pub ruleset laws = (
   writes-frame,
   writing-starts,
   written,
-  start-low,
+  body-within,
+  number-fits,
   writing-more,
   rows-so-far,
   needs-most,

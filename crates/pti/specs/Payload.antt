@@ -1,34 +1,35 @@
--- F17, F18, FV1 and FV2 (docs/RULES.md): the frames of a payload as rows of a table. The rules are over w, how many bits of its byte say the region.
+-- F17, F18, FV1, FV2 and FP1 to FP4 (docs/RULES.md): the frames of a payload as rows of a table. The rules are over w, how many bits of its byte say the region.
 use mathlib.Core.Path.{_≡_}
 use mathlib.Core.Bool.{cond}
-use mathlib.Core.List.{List, [], _∷_}
-use Prim.Native.Nat.{ℕ, _+_, _/_}
+use mathlib.Core.List.{List, [], _∷_, _++_}
+use Prim.Native.Nat.{ℕ, suc, _+_, _-_, _/_, _≤_}
 use lib.Dec.{eqb, leb}
-use lib.ListN.{length}
+use lib.ListN.{length, getD}
 use Rattle.refusal.specs.declared.Refusal.the-variants.{TooLong, MoreRows, Firmware}
 use Rattle.refusal.specs.Refusal.{numberOf, carriedBy}
 use Rattle.rows.specs.Rows.{laid}
 use Rattle.frame.specs.declared.PtiFrame.{PtiFrame}
 use Rattle.pti.specs.declared.payload.Frames.{Frames}
 use Rattle.pti.specs.declared.payload.Frames.the-variants.{Rows, Refused}
-use Rattle.records.specs.Records.{bodies, bytesOf}
+use Rattle.records.specs.Records.{bodies, bytesOf, spanOf}
 use Rattle.frame.specs.Frame.{regionBits, FourBits, isFrame, frameOf, numbersAt}
 
--- F17: the numbers of a row
+-- F17, FP1: the numbers of a row
 abbrev pub rowWidth : ℕ
-rowWidth = 8
+rowWidth = 10
 
--- F17: the row of a frame whose body starts at this place of the payload
-abbrev pub rowOf : ℕ → PtiFrame → List ℕ
-rowOf body f = numbersAt (body + f .start .0) f
+-- F17, FP1: the row of the frame of record k, whose body starts at this place of the payload: three bytes behind its opening bracket
+abbrev pub rowOf : ℕ → ℕ → PtiFrame → List ℕ
+rowOf k body f = numbersAt (body + f .start .0) f ++ (k ∷ (body - 3) ∷ [])
 
--- F18: the rows of the bodies that hold a frame, in their order
-unfoldable pub rowsIn : ℕ → List ℕ → List (ℕ × ℕ) → List (List ℕ)
-rowsIn w s [] = []
-rowsIn w s (b ∷ bs) = cond (isFrame w (bytesOf s b)) (rowOf (b .0) (frameOf w (bytesOf s b)) ∷ rowsIn w s bs) (rowsIn w s bs)
+-- F18, FP1: the rows of the bodies that hold a frame, in their order; the first of these bodies is number k
+unfoldable pub rowsIn : ℕ → List ℕ → ℕ → List (ℕ × ℕ) → List (List ℕ)
+rowsIn w s k [] = []
+rowsIn w s k (b ∷ bs) =
+    cond (isFrame w (bytesOf s b)) (rowOf k (b .0) (frameOf w (bytesOf s b)) ∷ rowsIn w s (k + 1) bs) (rowsIn w s (k + 1) bs)
 
 abbrev pub rowsOf : ℕ → List ℕ → List (List ℕ)
-rowsOf w s = rowsIn w s (bodies s)
+rowsOf w s = rowsIn w s 0 (bodies s)
 
 -- FV3: the fifth bit of the byte that says the region is 0 in each of these bodies
 abbrev pub FourBitsIn : List ℕ → List (ℕ × ℕ) → Type 0
@@ -65,8 +66,37 @@ abbrev pub tableAfter : ℕ → List ℕ → List ℕ → Frames → List ℕ
 tableAfter firmware s t (Rows n) = laid t (rowsOf (regionBits firmware) s)
 tableAfter firmware s t (Refused x) = t
 
+-- FP2: the numbers of a column rise strictly along rows, from `low` on
+abbrev pub Rises : ℕ → ℕ → List (List ℕ) → Type 0
+Rises column low [] = Unit
+Rises column low (r ∷ rs) = (low ≤ getD r column 0) × Rises column (suc (getD r column 0)) rs
+
+-- FP3, FP4: the body that `record_body` shows by a row's record number starts behind the row's bracket, and the row's MPDU lies in it, before the bracket
+-- that ends the record
+pub record Placed (s row : List ℕ) : Type 0 where
+  pub opened : getD s (getD row 9 0) 0 ≡ 0x5B
+  pub body : spanOf s (getD row 8 0) ≡ (getD row 9 0 + 3, getD s (getD row 9 0 + 1) 0 - 2)
+  pub behind : getD row 9 0 + 3 ≤ getD row 6 0
+  pub before : getD row 6 0 + getD row 7 0 ≤ getD row 9 0 + 1 + getD s (getD row 9 0 + 1) 0
+  pub closed : getD s (getD row 9 0 + 1 + getD s (getD row 9 0 + 1) 0) 0 ≡ 0x5D
+
+abbrev pub AllPlaced : List ℕ → List (List ℕ) → Type 0
+AllPlaced s [] = Unit
+AllPlaced s (r ∷ rs) = Placed s r × AllPlaced s rs
+
+-- FP2 to FP4: where the rows of an answer say that they come from
+pub record Located (s : List ℕ) (rows : List (List ℕ)) : Type 0 where
+  pub numbers : Rises 8 0 rows
+  pub places : Rises 9 0 rows
+  pub placed : AllPlaced s rows
+
+abbrev pub LocatedIn : ℕ → List ℕ → Frames → Type 0
+LocatedIn firmware s (Rows n) = Located s (rowsOf (regionBits firmware) s)
+LocatedIn firmware s (Refused x) = Unit
+
 -- F18: what a call of `parse_payload` answers, as a case and in numbers, and leaves, for a payload s and a table t
 pub record Parses (firmware : ℕ) (s t : List ℕ) (r : Frames) (t′ : List ℕ) : Type 0 where
   pub answer : r ≡ framesOf firmware s (length t)
   pub numbers : said r ≡ saidOf firmware s (length t)
   pub table : t′ ≡ tableAfter firmware s t r
+  pub located : LocatedIn firmware s r

@@ -14,15 +14,27 @@ pub record Needs (w : ℕ) (s : List ℕ) (room r : ℕ) : Type 0 where
   pub enough : length (rowsOf w s) ≤ r
   pub exact : room < r → r ≡ length (rowsOf w s)
 
--- the row of a frame whose body starts at this place of the payload, written as row n of the table t
-pub record WritesRow (f : PtiFrame) (body n : ℕ) (t : List ℕ) (r : ℕ) (t′ : List ℕ) : Type 0 where
-  pub next : r ≡ n + 1
-  pub table : t′ ≡ put t (n * rowWidth) (rowOf body f)
+-- 16 bits hold a record's number, the place of its body and that of its MPDU, `start` bytes further on
+pub record Low (k body start : ℕ) : Type 0 where
+  pub number : k < 65536
+  pub behind : 3 ≤ body
+  pub mpdu : body + start < 65536
 
--- the row of the frame in the body b, if it holds one, written as row n of the table t
-pub record Writes (w : ℕ) (b : List ℕ) (start n : ℕ) (t : List ℕ) (r : ℕ) (t′ : List ℕ) : Type 0 where
+-- record k's body, so many bytes from this place of a payload on, stands behind its bracket and before the last byte that there can be
+pub record Within (k start n : ℕ) : Type 0 where
+  pub number : k < 65536
+  pub behind : 3 ≤ start
+  pub before : start + n < 65535
+
+-- the row of the frame of record k, whose body starts at this place of the payload, written as row n of the table t
+pub record WritesRow (f : PtiFrame) (k body n : ℕ) (t : List ℕ) (r : ℕ) (t′ : List ℕ) : Type 0 where
+  pub next : r ≡ n + 1
+  pub table : t′ ≡ put t (n * rowWidth) (rowOf k body f)
+
+-- the row of the frame in the body b of record k, if it holds one, written as row n of the table t
+pub record Writes (w : ℕ) (b : List ℕ) (k start n : ℕ) (t : List ℕ) (r : ℕ) (t′ : List ℕ) : Type 0 where
   pub next : r ≡ n + cond (isFrame w b) 1 0
-  pub table : t′ ≡ cond (isFrame w b) (put t (n * rowWidth) (rowOf start (frameOf w b))) t
+  pub table : t′ ≡ cond (isFrame w b) (put t (n * rowWidth) (rowOf k start (frameOf w b))) t
 
 -- all rows of a payload, written from the first of the table t on
 pub record Lays (w : ℕ) (s t : List ℕ) (r : ℕ) (t′ : List ℕ) : Type 0 where

@@ -12,7 +12,7 @@ use records::Next;
 use records::PayloadOffset;
 use records::next_body;
 use refusal::Refusal;
-use rows::put_row;
+use rows::put_short_row;
 ghost use mathlib.Core.Path.{_≡_};
 ghost use mathlib.Core.Bool.{cond};
 ghost use Prim.Native.Nat.{_+_, _*_, _^_, _≤_, _<_};
@@ -20,7 +20,7 @@ ghost use lib.ListN.{length};
 ghost use Rattle.radio.specs.Speed.{RateTable};
 ghost use Rattle.frame.specs.Frame.{isFrame, directionNumber, beamsNumber};
 ghost use Rattle.pti.specs.Payload.{rowWidth, rowOf, rowsOf, Parses};
-ghost use Rattle.pti.specs.Steps.{Needs, WritesRow, Writes, Lays};
+ghost use Rattle.pti.specs.Steps.{Low, Within, Needs, WritesRow, Writes, Lays};
 
 // The columns of a frame's row: F17 of docs/RULES.md.
 pub const DIRECTION: usize = 0;
@@ -39,8 +39,12 @@ pub const START: usize = 6;
 
 pub const LENGTH: usize = 7;
 
+pub const RECORD: usize = 8;
+
+pub const PLACE: usize = 9;
+
 // The numbers of a frame's row.
-pub const ROW_WIDTH: usize = LENGTH + 1;
+pub const ROW_WIDTH: usize = PLACE + 1;
 
 // The fewest bytes of a record with a frame: 4 around the body, a header of 12, a middle byte, a trailer of 5.
 const SHORTEST: usize = 22;
@@ -51,7 +55,7 @@ pub enum Frames {
     Refused(Refusal),
 }
 
-fn direction_number(direction: Direction) -> u64
+pub fn direction_number(direction: Direction) -> u16
     ensures { λ r. ⌜ r ≡ directionNumber direction ⌝ }
 {
     match direction {
@@ -60,32 +64,34 @@ fn direction_number(direction: Direction) -> u64
     }
 }
 
-fn beams_number(beams: Beams) -> u64
+pub fn beams_number(beams: Beams) -> u16
     ensures { λ r. ⌜ r ≡ beamsNumber beams ⌝ }
 {
     match beams {
-        Beams::Count(n) => n as u64,
+        Beams::Count(n) => n,
         Beams::NoBeam => 0,
     }
 }
 
-// The row of a frame whose body starts at a place of the payload.
-pub fn row_of(frame: PtiFrame, body: PayloadOffset) -> [u64; ROW_WIDTH]
-    requires { ⌜ body .0 + frame .start .0 < 2 ^ 64 ⌝ }
-    ensures { λ r. ⌜ r ≡ rowOf (body .0) frame ⌝ }
+// The row of the frame of record `number`, whose body starts at a place of the payload: three bytes behind its opening bracket.
+fn row_of(frame: PtiFrame, number: usize, body: PayloadOffset) -> [u16; ROW_WIDTH]
+    requires { ⌜ Low number (body .0) (frame .start .0) ⌝ }
+    ensures { λ r. ⌜ r ≡ rowOf number (body .0) frame ⌝ }
 {
     let direction = frame.direction;
     let beams = frame.beams;
     let start = frame.start.in_payload(body);
     [
         direction_number(direction),
-        frame.region as u64,
-        frame.channel as u64,
-        frame.rate as u64,
+        frame.region as u16,
+        frame.channel as u16,
+        frame.rate as u16,
         byte_of(frame.rssi),
         beams_number(beams),
-        start.0 as u64,
-        frame.length as u64,
+        start.0 as u16,
+        frame.length,
+        number as u16,
+        (body.0 - 3) as u16,
     ]
 }
 
@@ -130,44 +136,55 @@ fn rows_needed(payload: &[u8], width: u8, room: usize) -> usize
     count_frames(payload, width)
 }
 
-// Writes a frame's row as row n. Returns the number of the next row.
-fn write_row(frame: PtiFrame, body: PayloadOffset, table: &mut [u64], n: usize) -> usize
-    requires { ⌜ (body .0 + frame .start .0 < 2 ^ 64) × (n * rowWidth ≤ length (now table)) ⌝ }
-    ensures { λ r. ⌜ WritesRow frame (body .0) n (now (table .entry)) r (now (table .exit)) ⌝ }
+// Writes the row of a frame of record `number` as row n. Returns the number of the next row.
+fn write_row(
+    frame: PtiFrame,
+    number: usize,
+    body: PayloadOffset,
+    table: &mut [u16],
+    n: usize,
+) -> usize
+    requires { ⌜ Low number (body .0) (frame .start .0) ⌝ }
+    requires { ⌜ n * rowWidth ≤ length (now table) ⌝ }
+    ensures { λ r. ⌜ WritesRow frame number (body .0) n (now (table .entry)) r (now (table .exit)) ⌝ }
 {
-    let row = row_of(frame, body);
-    put_row(table, n * ROW_WIDTH, &row);
+    let row = row_of(frame, number, body);
+    put_short_row(table, n * ROW_WIDTH, &row);
     n + 1
 }
 
-// Writes the row of a body's frame, if it holds one, as row n. Returns the number of the next row.
+// Writes the row of the frame of record `number`, if its body holds one, as row n. Returns the number of the next row.
 fn write_frame(
     rates: &[u8; 512],
     body: &[u8],
     width: u8,
+    number: usize,
     start: PayloadOffset,
-    table: &mut [u64],
+    table: &mut [u16],
     n: usize,
 ) -> usize
     requires { ⌜ RateTable (now rates) ⌝ }
     requires { ⌜ width ≤ 5 ⌝ }
-    requires { ⌜ (start .0 < 2 ^ 63) × (n * rowWidth ≤ length (now table)) ⌝ }
-    ensures { λ r. ⌜ Writes width (now (body .entry)) (start .0) n (now (table .entry)) r (now (table .exit)) ⌝ }
+    requires { ⌜ Within number (start .0) (length (now body)) ⌝ }
+    requires { ⌜ n * rowWidth ≤ length (now table) ⌝ }
+    ensures { λ r. ⌜ Writes width (now (body .entry)) number (start .0) n (now (table .entry)) r (now (table .exit)) ⌝ }
 {
     let Split::Into(parts) = split_body(body, width) else {
         return n;
     };
-    write_row(frame_of(rates, body, parts), start, table, n)
+    write_row(frame_of(rates, body, parts), number, start, table, n)
 }
 
 // Writes the rows of all frames, one after the other. Returns how many there are.
-fn write_frames(rates: &[u8; 512], payload: &[u8], width: u8, table: &mut [u64]) -> usize
+fn write_frames(rates: &[u8; 512], payload: &[u8], width: u8, table: &mut [u16]) -> usize
     requires { ⌜ RateTable (now rates) ⌝ }
     requires { ⌜ width ≤ 5 ⌝ }
+    requires { ⌜ length (now payload) ≤ 65535 ⌝ }
     requires { ⌜ length (rowsOf width (now payload)) * rowWidth ≤ length (now table) ⌝ }
     ensures { λ r. ⌜ Lays width (now (payload .entry)) (now (table .entry)) r (now (table .exit)) ⌝ }
 {
     let mut n: usize = 0;
+    let mut number: usize = 0;
     let mut at: usize = 1;
     loop {
         let Next::Body(span) = next_body(payload, at) else {
@@ -175,14 +192,24 @@ fn write_frames(rates: &[u8; 512], payload: &[u8], width: u8, table: &mut [u64])
         };
         let start = span.start.0;
         let end = span.end.0;
-        n = write_frame(rates, &payload[start..end], width, span.start, table, n);
+        n = write_frame(
+            rates,
+            &payload[start..end],
+            width,
+            number,
+            span.start,
+            table,
+            n,
+        );
+        number += 1;
         at = end + 2;
     }
 }
 
 // The same, with the rates lent once for all frames.
-fn write_rows(payload: &[u8], width: u8, table: &mut [u64]) -> usize
+fn write_rows(payload: &[u8], width: u8, table: &mut [u16]) -> usize
     requires { ⌜ width ≤ 5 ⌝ }
+    requires { ⌜ length (now payload) ≤ 65535 ⌝ }
     requires { ⌜ length (rowsOf width (now payload)) * rowWidth ≤ length (now table) ⌝ }
     ensures { λ r. ⌜ Lays width (now (payload .entry)) (now (table .entry)) r (now (table .exit)) ⌝ }
 {
@@ -191,7 +218,7 @@ fn write_rows(payload: &[u8], width: u8, table: &mut [u64]) -> usize
 
 // Every frame of a payload, which that firmware wrote, into the table, or refusal 13, 4 or 8. A refusal writes nothing, an answer nothing past its
 // last row.
-pub fn parse_payload(payload: &[u8], firmware: usize, table: &mut [u64]) -> Frames
+pub fn parse_payload(payload: &[u8], firmware: usize, table: &mut [u16]) -> Frames
     ensures { λ r. ⌜ Parses firmware (now (payload .entry)) (now (table .entry)) r (now (table .exit)) ⌝ }
 {
     let width = region_bits(firmware);

@@ -6,7 +6,7 @@ use native.Mathlib.Omega.{arith}
 use lib.Dec.{T}
 use lib.IntN.{ℤ, pos, negsuc, natAbs}
 use lib.Signed.{ltZ, nonNeg}
-use mir.Syntax.{w8, w64}
+use mir.Syntax.{w8, w16}
 use mir.Val.{Fits, SFits, toZ, ofZ}
 use mir.Facts.{toZ-ofZ}
 use borrow.Author.Tests.{lt-ltb, ltb-true}
@@ -43,7 +43,7 @@ module _ (x : ℤ) (fits : SFits w8 x) (test : ltZ (toZ w8 (ofZ w8 x)) (pos 0) �
   pub flip-positive : T (nonNeg (toZ w8 (255 - ofZ w8 x)))
   flip-positive = let b = below x fits test in rw (b .flipped) tt
 
-  pub flip-fits : Fits w64 (natAbs (toZ w8 (255 - ofZ w8 x)))
+  pub flip-fits : Fits w16 (natAbs (toZ w8 (255 - ofZ w8 x)))
   flip-fits = let b = below x fits test in rw (b .flipped) (omega (arith, b .low))
 
   pub flip-small : natAbs (toZ w8 (255 - ofZ w8 x)) ≤ 255
@@ -56,7 +56,7 @@ module _ (x : ℤ) (fits : SFits w8 x) (test : ltZ (toZ w8 (ofZ w8 x)) (pos 0) �
   pub plain-positive : T (nonNeg (toZ w8 (ofZ w8 x)))
   plain-positive = let a = above x fits test in rw (a .1) tt
 
-  pub plain-fits : Fits w64 (natAbs (toZ w8 (ofZ w8 x)))
+  pub plain-fits : Fits w16 (natAbs (toZ w8 (ofZ w8 x)))
   plain-fits = let a = above x fits test in rw (a .1) (omega (arith, a .0))
 
   pub plain-byte : natAbs (toZ w8 (ofZ w8 x)) ≡ ofZ w8 x

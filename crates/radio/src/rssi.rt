@@ -15,12 +15,12 @@ pub fn signed(byte: u8) -> i8
 }
 
 // The byte of a number.
-pub fn byte_of(rssi: i8) -> u64
+pub fn byte_of(rssi: i8) -> u16
     ensures { λ r. ⌜ r ≡ ofZ w8 rssi ⌝ }
 {
     if rssi < 0 {
-        255 - ((!rssi) as u64)
+        255 - ((!rssi) as u16)
     } else {
-        rssi as u64
+        rssi as u16
     }
 }

@@ -1,17 +1,6 @@
 // What rows of a table say, whatever the table: a number that is not there is 0, and bytes that are not there are none.
 ghost use Prim.Native.Nat.{_≤_};
 
-// Number k of frame row i: a row has eight.
-pub fn frame_cell(rows: &[u64], i: usize, k: usize) -> u64 {
-    if rows.len() / 8 <= i {
-        return 0;
-    }
-    if 8 <= k {
-        return 0;
-    }
-    rows[i * 8 + k]
-}
-
 // Number k of row i, of rows so wide.
 pub fn cell(rows: &[u64], width: usize, i: usize, k: usize) -> u64 {
     if width <= k {

@@ -1,14 +1,14 @@
 -- Laws of the records of a payload. Assumes nothing.
 use mathlib.Core.Path.{_≡_, refl, sym, ap, _∙_}
-use mathlib.Core.Bool.{Bool, true, false, cond, and-false}
+use mathlib.Core.Bool.{Bool, true, false, cond, _&&_, and-false}
 use mathlib.Core.List.{List, [], _∷_}
 use Prim.Native.Nat.{ℕ, zero, suc, _+_, _-_, _*_, _^_, _≤_, _<_}
 use mir.Syntax.{w64}
 use mir.Val.{Fits}
 use native.Mathlib.Omega.{arith}
-use lib.Dec.{ltb}
+use lib.Dec.{eqb, ltb}
 use lib.ListN.{length, getD, take, drop}
-use borrow.Author.Tests.{le-ltb, lt-ltb, le-leb, lt-leb, eq-eqb, ne-eqb, ltb-true}
+use borrow.Author.Tests.{le-ltb, lt-ltb, le-leb, lt-leb, eq-eqb, ne-eqb, eqb-true, ltb-true}
 use Rattle.laws.proofs.Bools.{and-left, and-right}
 use Rattle.records.specs.declared.RecordAt.{RecordAt}
 use Rattle.records.specs.declared.RecordAt.the-variants.{Record, Stop}
@@ -81,11 +81,21 @@ not-taken : (b : Bool) (m : ℕ) → cond b (Record m) Stop ≡ Stop → b ≡ f
 not-taken true m h = cc
 not-taken false m h = refl
 
-pub stands-inside : (s : List ℕ) (p : ℕ) → stands s p ≡ true → p + getD s p 0 < length s
-stands-inside s p h =
-    let t : ltb (p + getD s p 0) (length s) ≡ true =
-    and-left (ltb (p + getD s p 0) (length s)) _ (and-right (ltb p (length s)) _ (and-right (ltb 4 (length s)) _ h)) in
-    ltb-true (p + getD s p 0) (length s) t
+module _ (s : List ℕ) (p : ℕ) (here : stands s p ≡ true) where
+  behind-tests : (ltb (p + getD s p 0) (length s) && (eqb (getD s (p - 1) 0) 0x5B && eqb (getD s (p + getD s p 0) 0) 0x5D)) ≡ true
+  behind-tests = and-right (ltb p (length s)) _ (and-right (ltb 4 (length s)) _ here)
+
+  pub stands-inside : p + getD s p 0 < length s
+  stands-inside = ltb-true (p + getD s p 0) (length s) (and-left (ltb (p + getD s p 0) (length s)) _ behind-tests)
+
+  brackets : (eqb (getD s (p - 1) 0) 0x5B && eqb (getD s (p + getD s p 0) 0) 0x5D) ≡ true
+  brackets = and-right (ltb (p + getD s p 0) (length s)) _ behind-tests
+
+  pub stands-opened : getD s (p - 1) 0 ≡ 0x5B
+  stands-opened = eqb-true (getD s (p - 1) 0) 0x5B (and-left (eqb (getD s (p - 1) 0) 0x5B) _ brackets)
+
+  pub stands-closed : getD s (p + getD s p 0) 0 ≡ 0x5D
+  stands-closed = eqb-true (getD s (p + getD s p 0) 0) 0x5D (and-right (eqb (getD s (p - 1) 0) 0x5B) _ brackets)
 
 module _ (s : List ℕ) (p n : ℕ) (r : RecordAt) (at-p : r ≡ recordAt s p) (here : r ≡ Record n) where
   known : (stands s p ≡ true) × (getD s p 0 ≡ n)

@@ -8,10 +8,10 @@ use Rattle.records.specs.declared.Next.{Next}
 use Rattle.records.specs.declared.Next.the-variants.{Body, NoMore}
 use Rattle.records.specs.Records.{bodiesFrom, spanOf}
 
--- the body b comes first from the place on, and lies inside the payload behind it; the others follow at its end and two bytes
+-- the body b comes first from the place on, and lies inside the payload, two bytes or more behind it; the others follow at its end and two bytes
 pub record Leads (s : List ℕ) (at : ℕ) (b : Span) : Type 0 where
   pub first : bodiesFrom s at ≡ (b .start .0, b .end .0 - b .start .0) ∷ bodiesFrom s (b .end .0 + 2)
-  pub after : at < b .start .0
+  pub after : at + 2 ≤ b .start .0
   pub ordered : b .start .0 ≤ b .end .0
   pub inside : b .end .0 < length s
 

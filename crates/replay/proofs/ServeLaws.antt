@@ -40,7 +40,7 @@ use Rattle.replay.specs.declared.frames.By.{By}
 use Rattle.replay.specs.declared.frames.By.the-variants.{Firmware}
 use Rattle.replay.specs.Frames.{Asks, Named}
 use Rattle.replay.specs.Serve.{Goes}
-use Rattle.answer.specs.Table.{Ample}
+use Rattle.pti.specs.Payload.{rowWidth}
 
 -- ---- the input
 pub empty-in : (lines : List ℕ) (i : Input) → Empty i → In lines i
@@ -75,14 +75,14 @@ module _ (lines : List ℕ) (r : Filled) (told : Fills lines r) where
 
 -- ---- a table and a payload
 module _ (held : List ℕ) (r : Asked) (numbers n : ℕ) (told : Asks held r) (is : r ≡ Table numbers n) where
-  asked : (numbers ≤ 131072) × (n ≤ length held)
+  asked : (numbers ≤ 16384 * rowWidth) × (n ≤ length held)
   asked = rw is at told
 
   pub asked-payload : n ≤ length held
   asked-payload = asked .1
 
-  pub asked-rows : (rows : List ℕ) → Ample rows → numbers ≤ length rows
-  asked-rows rows h = omega (arith, asked .0)
+  pub asked-numbers : numbers ≤ 16384 * rowWidth
+  asked-numbers = asked .0
 
 -- ---- the firmware that a request names
 pub named-none : (words : List ℕ) → Named words (Firmware 2 0)
@@ -117,7 +117,7 @@ tidied-inside t b r b′ n told is same = rw same (go (verdict t) (sym is ∙ to
 
 -- as many records as are filled stand in the table of frame records
 pub filled-inside : (records : List FrameRecord) (rows₀ rows : List ℕ) (n lent : ℕ) (t : FrameTable) → FilledFirst records rows₀ n lent t
-    → length rows ≡ length rows₀ → t .filled * 8 ≤ length rows
+    → length rows ≡ length rows₀ → t .filled * rowWidth ≤ length rows
 filled-inside records rows₀ rows n lent t p same = omega (arith, p .count, fillable-bounds n lent (length rows₀))
 
 -- ---- from request to request
@@ -134,7 +134,7 @@ pub ruleset serve-laws = (
   read-waits,
   long-waits,
   asked-payload,
-  asked-rows,
+  asked-numbers,
   named-none,
   named-some,
   named-fits,

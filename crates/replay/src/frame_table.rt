@@ -1,11 +1,13 @@
 // `fill_frames` on a table of frame records, and what stands in each of them afterwards.
-use answer::table::PATTERN;
+use answer::table::SHORT;
+use pti::payload::ROW_WIDTH;
 use radio::rssi::byte_of;
-use rows::put_row;
+use rows::put_short_row;
 use screen::FrameRecord;
 use screen::fill_frames;
 ghost use Prim.Native.Nat.{_≤_, _*_};
 ghost use lib.ListN.{length};
+ghost use Rattle.pti.specs.Payload.{rowWidth};
 ghost use Rattle.replay.specs.Screen.{FilledFirst};
 
 // The table of 16,384 records, and the answer of the call that filled it.
@@ -15,7 +17,7 @@ pub struct FrameTable {
 }
 
 // `fill_frames` is lent the first cap records.
-fn fill_first(mut records: [FrameRecord; 16384], rows: &[u64], n: usize, cap: usize) -> FrameTable
+fn fill_first(mut records: [FrameRecord; 16384], rows: &[u16], n: usize, cap: usize) -> FrameTable
     requires { ⌜ cap ≤ 16384 ⌝ }
     ensures { λ r. ⌜ FilledFirst records (now (rows .entry)) n cap r ⌝ }
 {
@@ -32,26 +34,26 @@ fn untouched() -> FrameRecord {
         rate: 0xA5,
         rssi: -91,
         is_beam: true,
-        beams: 0xA5A5,
-        start: PATTERN as usize,
-        length: PATTERN as usize,
+        beams: SHORT,
+        start: SHORT,
+        length: SHORT,
+        number: SHORT,
+        place: SHORT,
     }
 }
 
-// The beam count; 65,536 more, which no count is, where the flag does not say whether there is one.
-fn beams_of(is_beam: bool, beams: u16) -> u64 {
-    let count = beams as u64;
-    if is_beam {
-        if count == 0 { 65536 } else { count }
-    } else {
-        if count == 0 { 0 } else { count + 65536 }
+// The beam count; 65,535, which no count is, where the flag does not say whether there is one.
+fn beams_of(is_beam: bool, beams: u16) -> u16 {
+    if is_beam == (beams == 0) {
+        return 65535;
     }
+    beams
 }
 
 // Whether two flat rows are the same.
-fn same(a: &[u64; 8], b: &[u64; 8]) -> bool {
+fn same(a: &[u16; ROW_WIDTH], b: &[u16; ROW_WIDTH]) -> bool {
     let mut i: usize = 0;
-    while i < 8 {
+    while i < ROW_WIDTH {
         if a[i] != b[i] {
             return false;
         }
@@ -60,21 +62,34 @@ fn same(a: &[u64; 8], b: &[u64; 8]) -> bool {
     true
 }
 
-// The flat row of a record: eight times the pattern for one that nothing has been written to.
-fn flat_row(record: FrameRecord) -> [u64; 8] {
+// The flat row of a record: the pattern in each number for one that nothing has been written to.
+fn flat_row(record: FrameRecord) -> [u16; ROW_WIDTH] {
     let row = [
-        record.direction as u64,
-        record.region as u64,
-        record.channel as u64,
-        record.rate as u64,
+        record.direction as u16,
+        record.region as u16,
+        record.channel as u16,
+        record.rate as u16,
         byte_of(record.rssi),
         beams_of(record.is_beam, record.beams),
-        record.start as u64,
-        record.length as u64,
+        record.start,
+        record.length,
+        record.number,
+        record.place,
     ];
-    let fresh: [u64; 8] = [0xA5, 0xA5, 0xA5, 0xA5, 0xA5, 0xA5A5, PATTERN, PATTERN];
+    let fresh: [u16; ROW_WIDTH] = [
+        0xA5,
+        0xA5,
+        0xA5,
+        0xA5,
+        0xA5,
+        SHORT,
+        SHORT,
+        SHORT,
+        SHORT,
+        SHORT,
+    ];
     if same(&row, &fresh) {
-        return [PATTERN; 8];
+        return [SHORT; ROW_WIDTH];
     }
     row
 }
@@ -91,17 +106,17 @@ fn least(a: usize, b: usize) -> usize
 
 // `fill_frames` on a table of as many records as there are flat rows, from the first n of these. Afterwards the flat row of each
 // record stands where the flat rows stood. Answers what the call answered. No more than 16,384 records are lent.
-pub fn frame_table(rows: &mut [u64], n: usize) -> usize
-    ensures { λ r. ⌜ r * 8 ≤ length (now (rows .exit)) ⌝ }
+pub fn frame_table(rows: &mut [u16], n: usize) -> usize
+    ensures { λ r. ⌜ r * rowWidth ≤ length (now (rows .exit)) ⌝ }
 {
-    let lent = least(16384, rows.len() / 8);
+    let lent = least(16384, rows.len() / ROW_WIDTH);
     let fresh = untouched();
     let records = [fresh; 16384];
     let table = fill_first(records, rows, n, lent);
     let mut i: usize = 0;
     while i < lent {
         let record = table.records[i];
-        put_row(rows, i * 8, &flat_row(record));
+        put_short_row(rows, i * ROW_WIDTH, &flat_row(record));
         i += 1;
     }
     table.filled

@@ -2,14 +2,17 @@
 use crate::frame_table::frame_table;
 use answer::Answer;
 use answer::put_numbers;
+use answer::put_refusal;
 use answer::put_value;
 use answer::table::MOST_ROWS;
-use answer::table::fill;
-use answer::table::put_refused;
-use answer::table::put_touched;
+use answer::table::SHORT;
+use answer::table::put_touched_short;
 use pti::parse_payload;
 use pti::payload::Frames;
+use pti::payload::RECORD;
+use pti::payload::ROW_WIDTH;
 use readers::line_fields::field_of;
+use refusal::Refusal;
 use request::Bytes;
 use request::Leading;
 use request::read_bytes;
@@ -18,13 +21,13 @@ use std::num::wrapping_add_usize;
 use writer::Buffer;
 use writer::put;
 use writer::put_number;
-ghost use Prim.Native.Nat.{_≤_, _*_};
+ghost use Prim.Native.Nat.{_≤_, _+_, _*_};
 ghost use lib.ListN.{length};
-ghost use Rattle.answer.specs.Table.{Ample};
+ghost use Rattle.pti.specs.Payload.{rowWidth};
 ghost use Rattle.replay.specs.Frames.{Asks, Named};
 
-// The numbers of a row.
-const WIDTH: usize = 8;
+// The numbers of the most rows that a request may ask for.
+const NUMBERS: usize = 16384 * ROW_WIDTH;
 
 // A table and a payload: how many numbers the one has, and how many bytes the other, all of them decoded.
 enum Asked {
@@ -70,56 +73,29 @@ fn read_asked(words: &[u8], bytes: &mut [u8]) -> Asked
     let Bytes::Are(n) = read_bytes(&words[at..], bytes) else {
         return Asked::Not;
     };
-    Asked::Table(cap as usize * WIDTH, n)
+    Asked::Table(cap as usize * ROW_WIDTH, n)
 }
 
-// `frames CAP PAYLOAD` and `framesby FIRMWARE READING CAP PAYLOAD`
+// `frames CAP PAYLOAD` and `framesby FIRMWARE READING CAP PAYLOAD`; with the other word by the slice of frame records
 pub fn frames(
     words: &[u8],
+    word: usize,
     named: bool,
     bytes: &mut [u8],
-    rows: &mut [u64],
     out: &mut Buffer,
     used: usize,
-) -> Answer
-    requires { ⌜ Ample (now rows) ⌝ }
-{
+) -> Answer {
     let By::Firmware(firmware, at) = read_by(words, named) else {
         return Answer::Bad;
     };
     let Asked::Table(numbers, n) = read_asked(&words[at..], bytes) else {
         return Answer::Bad;
     };
+    let mut rows = [SHORT; NUMBERS];
     Answer::Put(answer_frames(
         &bytes[..n],
         firmware,
-        named,
-        &mut rows[..numbers],
-        out,
-        used,
-    ))
-}
-
-// `frametable CAP PAYLOAD` and `frametableby FIRMWARE READING CAP PAYLOAD`
-pub fn frametable(
-    words: &[u8],
-    named: bool,
-    bytes: &mut [u8],
-    rows: &mut [u64],
-    out: &mut Buffer,
-    used: usize,
-) -> Answer
-    requires { ⌜ Ample (now rows) ⌝ }
-{
-    let By::Firmware(firmware, at) = read_by(words, named) else {
-        return Answer::Bad;
-    };
-    let Asked::Table(numbers, n) = read_asked(&words[at..], bytes) else {
-        return Answer::Bad;
-    };
-    Answer::Put(answer_frametable(
-        &bytes[..n],
-        firmware,
+        word,
         named,
         &mut rows[..numbers],
         out,
@@ -130,35 +106,36 @@ pub fn frametable(
 fn answer_frames(
     payload: &[u8],
     firmware: usize,
+    word: usize,
     named: bool,
-    rows: &mut [u64],
+    rows: &mut [u16],
     out: &mut Buffer,
     used: usize,
 ) -> usize {
-    fill(rows);
-    match parse_payload(payload, firmware, rows) {
-        Frames::Rows(n) => put_frames(out, used, 0, named, n, rows),
-        Frames::Refused(refusal) => put_refused(out, used, refusal, rows),
-    }
-}
-
-fn answer_frametable(
-    payload: &[u8],
-    firmware: usize,
-    named: bool,
-    rows: &mut [u64],
-    out: &mut Buffer,
-    used: usize,
-) -> usize {
-    fill(rows);
     match parse_payload(payload, firmware, rows) {
         Frames::Rows(n) => {
-            let filled = frame_table(rows, n);
-            put_frames(out, used, 1, named, filled, rows)
+            if word == FRAMETABLE {
+                let filled = frame_table(rows, n);
+                return put_frames(out, used, word, named, filled, rows);
+            }
+            put_frames(out, used, word, named, n, rows)
         }
         Frames::Refused(refusal) => put_refused(out, used, refusal, rows),
     }
 }
+
+// A refusal, after which nothing may have been written to the table.
+fn put_refused(out: &mut Buffer, used: usize, refusal: Refusal, table: &[u16]) -> usize {
+    let n = put_refusal(out, used, refusal);
+    put_touched_short(out, n, table)
+}
+
+// The words of the answers.
+pub const FRAMES: usize = 0;
+
+pub const FRAMETABLE: usize = 1;
+
+pub const FRAME: usize = 2;
 
 // A word of an answer: piece k, and its ending where the request named a firmware.
 pub fn put_word(out: &mut Buffer, used: usize, k: usize, named: bool) -> usize {
@@ -176,31 +153,60 @@ fn put_frames(
     word: usize,
     named: bool,
     count: usize,
-    table: &[u64],
+    table: &[u16],
 ) -> usize
-    requires { ⌜ count * 8 ≤ length (now table) ⌝ }
+    requires { ⌜ count * rowWidth ≤ length (now table) ⌝ }
 {
     let mut n = put_word(out, used, word, named);
     n = put_value(out, n, count as u64);
-    n = put_rows(out, n, table, count);
-    let past = count * WIDTH;
-    put_touched(out, n, &table[past..])
+    n = put_rows(out, n, named, table, count);
+    let past = count * ROW_WIDTH;
+    put_touched_short(out, n, &table[past..])
 }
 
-fn put_rows(out: &mut Buffer, used: usize, rows: &[u64], count: usize) -> usize
-    requires { ⌜ count * 8 ≤ length (now rows) ⌝ }
+fn put_rows(out: &mut Buffer, used: usize, named: bool, rows: &[u16], count: usize) -> usize
+    requires { ⌜ count * rowWidth ≤ length (now rows) ⌝ }
 {
     let mut n = used;
     let mut i = 0;
     while i < count {
-        let at = i * WIDTH;
-        n = put_row(out, n, &rows[at..at + WIDTH]);
+        let row = widened(rows, i);
+        n = put_row(out, n, named, &row);
         i += 1;
     }
     n
 }
 
-pub fn put_row(out: &mut Buffer, used: usize, row: &[u64]) -> usize
+fn wide(number: u16) -> u64 {
+    number as u64
+}
+
+// Row i.
+fn widened(rows: &[u16], i: usize) -> [u64; ROW_WIDTH]
+    requires { ⌜ i * rowWidth + rowWidth ≤ length (now rows) ⌝ }
+{
+    let mut row = [0u64; ROW_WIDTH];
+    let mut k: usize = 0;
+    while k < ROW_WIDTH {
+        row[k] = wide(rows[i * ROW_WIDTH + k]);
+        k += 1;
+    }
+    row
+}
+
+// A row: eight numbers, and where its record stands if the request named a firmware.
+fn put_row(out: &mut Buffer, used: usize, named: bool, row: &[u64]) -> usize
+    requires { ⌜ rowWidth ≤ length (now row) ⌝ }
+{
+    let n = put_frame(out, used, row);
+    if named {
+        return put_numbers(out, n, &row[RECORD..ROW_WIDTH]);
+    }
+    n
+}
+
+// The eight numbers of a frame.
+pub fn put_frame(out: &mut Buffer, used: usize, row: &[u64]) -> usize
     requires { ⌜ 8 ≤ length (now row) ⌝ }
 {
     let mut n = put_numbers(out, used, &row[..4]);

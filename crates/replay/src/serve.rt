@@ -2,8 +2,9 @@
 use crate::definitions::commandtext;
 use crate::definitions::frametext;
 use crate::definitions::tidy;
+use crate::frames::FRAMES;
+use crate::frames::FRAMETABLE;
 use crate::frames::frames;
-use crate::frames::frametable;
 use crate::input::Filled;
 use crate::input::Found;
 use crate::input::Input;
@@ -55,11 +56,11 @@ fn answer(line: &[u8], bytes: &mut [u8], rows: &mut [u64], out: &mut Buffer, use
         Word::Count => count(words, bytes, out, used),
         Word::Body => body(words, bytes, out, used),
         Word::Record => record(words, false, bytes, out, used),
-        Word::Frames => frames(words, false, bytes, rows, out, used),
-        Word::Frametable => frametable(words, false, bytes, rows, out, used),
+        Word::Frames => frames(words, FRAMES, false, bytes, out, used),
+        Word::Frametable => frames(words, FRAMETABLE, false, bytes, out, used),
         Word::Recordby => record(words, true, bytes, out, used),
-        Word::Framesby => frames(words, true, bytes, rows, out, used),
-        Word::Frametableby => frametable(words, true, bytes, rows, out, used),
+        Word::Framesby => frames(words, FRAMES, true, bytes, out, used),
+        Word::Frametableby => frames(words, FRAMETABLE, true, bytes, out, used),
         Word::Frametext => frametext(words, bytes, out, used),
         Word::Commandtext => commandtext(words, bytes, out, used),
         Word::Header => header(words, bytes, rows, out, used),

@@ -1,6 +1,7 @@
 // The requests on rates and on single records.
 use crate::frames::By;
-use crate::frames::put_row;
+use crate::frames::FRAME;
+use crate::frames::put_frame;
 use crate::frames::put_word;
 use crate::frames::read_by;
 use answer::Answer;
@@ -11,11 +12,12 @@ use frame::Parsed;
 use frame::PtiFrame;
 use pti::count_records;
 use pti::parse_record;
-use pti::payload::row_of;
+use pti::payload::beams_number;
+use pti::payload::direction_number;
 use pti::record_body;
 use pti::speed_for;
+use radio::rssi::byte_of;
 use records::Counted;
-use records::PayloadOffset;
 use request::Bytes;
 use request::Leading;
 use request::Number;
@@ -75,13 +77,25 @@ pub fn record(
         return Answer::Bad;
     };
     match parse_record(&bytes[..n], firmware) {
-        Parsed::Frame(frame) => Answer::Put(put_frame(out, used, named, frame)),
+        Parsed::Frame(frame) => Answer::Put(put_single(out, used, named, frame)),
         Parsed::Refused(refusal) => Answer::Put(put_refusal(out, used, refusal)),
     }
 }
 
 // Its start is that in the body.
-fn put_frame(out: &mut Buffer, used: usize, named: bool, frame: PtiFrame) -> usize {
-    let n = put_word(out, used, 2, named);
-    put_row(out, n, &row_of(frame, PayloadOffset(0)))
+fn put_single(out: &mut Buffer, used: usize, named: bool, frame: PtiFrame) -> usize {
+    let n = put_word(out, used, FRAME, named);
+    let direction = frame.direction;
+    let beams = frame.beams;
+    let row = [
+        direction_number(direction) as u64,
+        frame.region as u64,
+        frame.channel as u64,
+        frame.rate as u64,
+        byte_of(frame.rssi) as u64,
+        beams_number(beams) as u64,
+        frame.start.0 as u64,
+        frame.length as u64,
+    ];
+    put_frame(out, n, &row)
 }

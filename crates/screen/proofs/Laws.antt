@@ -83,9 +83,11 @@ pub record-made : (rows : List ℕ) (i : ℕ) (rssi : ℤ) → rssi ≡ toZ w8 (
       rate = getD rows (i * rowWidth + 3) 0 % 256;
       rssi = toZ w8 (ofZ w8 rssi);
       «is_beam» = not (eqb (getD rows (i * rowWidth + 5) 0) 0);
-      beams = getD rows (i * rowWidth + 5) 0 % 65536;
+      beams = getD rows (i * rowWidth + 5) 0;
       start = getD rows (i * rowWidth + 6) 0;
       length = getD rows (i * rowWidth + 7) 0;
+      number = getD rows (i * rowWidth + 8) 0;
+      place = getD rows (i * rowWidth + 9) 0;
     }
     ≡ recordAt rows i
 unfolding recordOf
@@ -99,9 +101,11 @@ record-made rows i rssi e =
       rate = at 3 k % 256;
       rssi = s k;
       «is_beam» = not (eqb (at 5 k) 0);
-      beams = at 5 k % 65536;
+      beams = at 5 k;
       start = at 6 k;
       length = at 7 k;
+      number = at 8 k;
+      place = at 9 k;
     }
 
 pub ruleset laws = (fillable-short, fillable-few, fillable-all, record-made)

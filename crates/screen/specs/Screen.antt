@@ -2,7 +2,7 @@
 use mathlib.Core.Path.{_≡_}
 use mathlib.Core.Bool.{cond, not, _&&_}
 use mathlib.Core.List.{List, [], _∷_, _++_}
-use Prim.Native.Nat.{ℕ, zero, suc, _+_, _/_, _%_}
+use Prim.Native.Nat.{ℕ, zero, suc, _+_, _-_, _/_, _%_}
 use lib.Dec.{eqb, leb}
 use lib.ListN.{getD, drop, length}
 use mir.Syntax.{w8}
@@ -24,9 +24,11 @@ recordOf row =
       rate = getD row 3 0 % 256;
       rssi = toZ w8 (getD row 4 0 % 256);
       «is_beam» = not (eqb (getD row 5 0) 0);
-      beams = getD row 5 0 % 65536;
+      beams = getD row 5 0;
       start = getD row 6 0;
       length = getD row 7 0;
+      number = getD row 8 0;
+      place = getD row 9 0;
     }
 
 -- F19: the frame records of the first n flat rows.
@@ -47,9 +49,9 @@ pub record Filled (rows : List ℕ) (n : ℕ) (entry : List FrameRecord) (answer
   pub count : answer ≡ fillableOf n (length entry) (length rows)
   pub table : exit ≡ filled answer rows entry
 
--- F19: the frame record of a frame whose body starts at this place of the payload
-abbrev pub shownOf : ℕ → PtiFrame → FrameRecord
-shownOf body f =
+-- F19, FP1: the frame record of the frame of record k, whose body starts at this place of the payload
+abbrev pub shownOf : ℕ → ℕ → PtiFrame → FrameRecord
+shownOf k body f =
     record {
       direction = directionNumber (f .direction);
       region = f .region;
@@ -60,9 +62,12 @@ shownOf body f =
       beams = beamsNumber (f .beams);
       start = body + f .start .0;
       length = f .length;
+      number = k;
+      place = body - 3;
     }
 
--- F19: the frame records of the bodies that hold a frame, in their order; w bits of its byte say the region
-abbrev pub shownIn : ℕ → List ℕ → List (ℕ × ℕ) → List FrameRecord
-shownIn w s [] = []
-shownIn w s (b ∷ bs) = cond (isFrame w (bytesOf s b)) (shownOf (b .0) (frameOf w (bytesOf s b)) ∷ shownIn w s bs) (shownIn w s bs)
+-- F19, FP1: the frame records of the bodies that hold a frame, in their order; w bits of its byte say the region, and the first body is number k
+abbrev pub shownIn : ℕ → List ℕ → ℕ → List (ℕ × ℕ) → List FrameRecord
+shownIn w s k [] = []
+shownIn w s k (b ∷ bs) =
+    cond (isFrame w (bytesOf s b)) (shownOf k (b .0) (frameOf w (bytesOf s b)) ∷ shownIn w s (k + 1) bs) (shownIn w s (k + 1) bs)

@@ -3,7 +3,9 @@ use pti::payload::BEAMS;
 use pti::payload::CHANNEL;
 use pti::payload::DIRECTION;
 use pti::payload::LENGTH;
+use pti::payload::PLACE;
 use pti::payload::RATE;
+use pti::payload::RECORD;
 use pti::payload::REGION;
 use pti::payload::ROW_WIDTH;
 use pti::payload::RSSI;
@@ -26,12 +28,16 @@ pub struct FrameRecord {
     // whether there is a beam count; `beams` is 0 where there is none
     pub is_beam: bool,
     pub beams: u16,
-    pub start: usize,
-    pub length: usize,
+    // the MPDU's, in the payload
+    pub start: u16,
+    pub length: u16,
+    // its record's number, as `record_body` counts, and where that record begins
+    pub number: u16,
+    pub place: u16,
 }
 
 // The frame record of flat row i.
-fn record_at(rows: &[u64], i: usize) -> FrameRecord
+pub fn record_at(rows: &[u16], i: usize) -> FrameRecord
     requires { ⌜ i * rowWidth + rowWidth ≤ length (now rows) ⌝ }
     ensures { λ r. ⌜ r ≡ recordOf (drop (i * rowWidth) (now (rows .entry))) ⌝ }
 {
@@ -43,9 +49,11 @@ fn record_at(rows: &[u64], i: usize) -> FrameRecord
         rate: (rows[at + RATE] % 256) as u8,
         rssi: signed((rows[at + RSSI] % 256) as u8),
         is_beam: rows[at + BEAMS] != 0,
-        beams: (rows[at + BEAMS] % 65536) as u16,
-        start: rows[at + START] as usize,
-        length: rows[at + LENGTH] as usize,
+        beams: rows[at + BEAMS],
+        start: rows[at + START],
+        length: rows[at + LENGTH],
+        number: rows[at + RECORD],
+        place: rows[at + PLACE],
     }
 }
 
@@ -65,7 +73,7 @@ fn fillable(n: usize, records: usize, numbers: usize) -> usize
 // The first n records of the table, from the first n flat rows, row by row; the records past them stay as they are.
 // Answers how many were filled: n, or 0 where the table or the flat rows are fewer than n, and then nothing is written.
 #[no_mangle]
-pub extern "C" fn fill_frames(frames: &mut [FrameRecord], rows: &[u64], n: usize) -> usize
+pub extern "C" fn fill_frames(frames: &mut [FrameRecord], rows: &[u16], n: usize) -> usize
     ensures { λ r. ⌜ Filled (now (rows .entry)) n (now (frames .entry)) r (now (frames .exit)) ⌝ }
 {
     let m = fillable(n, frames.len(), rows.len());

@@ -6,7 +6,7 @@ use Rattle.show_word.specs.declared.frame_search.Search.{Search}
 use Rattle.show_word.specs.declared.frame_search.Search.the-variants.{Found, Left, NoCapture, Unreadable}
 
 abbrev pub Holds : List ℕ → Search → Type 0
-Holds mpdu (Found heard) = heard .count ≤ length mpdu
+Holds mpdu (Found hit) = hit .count ≤ length mpdu
 Holds mpdu (Left n) = Unit {0}
 Holds mpdu (NoCapture line column) = Unit {0}
 Holds mpdu Unreadable = Unit {0}

@@ -1,5 +1,5 @@
 // A frame whole: how it was heard, its bytes, and its header as a tree and, where it is asked for, as a picture.
-use crate::frame_search::Heard;
+use crate::frame_search::Hit;
 use files::options::Options;
 use frame_line::frame_row::put_rate;
 use frame_line::frame_row::put_rssi;
@@ -9,6 +9,7 @@ use output::paint::Hue;
 use output::paint::put_painted;
 use readers::cells::part;
 use refusal::Refusal;
+use screen::FrameRecord;
 use trees::field_tree::put_fields;
 use trees::hex_dump::put_dump;
 use trees::ruler::put_ruler;
@@ -18,7 +19,7 @@ use writer::put_marked;
 use writer::put_number;
 
 // What the frame's number is, and its direction.
-fn put_number_line(out: &mut Buffer, at: usize, number: u64, direction: u64) -> usize {
+fn put_number_line(out: &mut Buffer, at: usize, number: u64, direction: u8) -> usize {
     let mut place = put(out, at, b"frame ");
     place = put_number(out, place, number);
     if direction == 0 {
@@ -28,34 +29,44 @@ fn put_number_line(out: &mut Buffer, at: usize, number: u64, direction: u64) -> 
 }
 
 // Where it was heard.
-fn put_channel(out: &mut Buffer, at: usize, region: u64, channel: u64) -> usize {
+fn put_channel(out: &mut Buffer, at: usize, region: u8, channel: u8) -> usize {
     let mut place = put(out, at, b"  PTI region ");
-    place = put_number(out, place, region);
+    place = put_number(out, place, region as u64);
     place = put(out, place, b", channel ");
-    put_number(out, place, channel)
+    put_number(out, place, channel as u64)
 }
 
 // How it was heard.
-fn put_signal(out: &mut Buffer, at: usize, heard: Heard) -> usize {
-    let mut place = put_rate(out, at, heard.rate);
-    place = put_rssi(out, place, heard.direction, heard.rssi);
-    put_channel(out, place, heard.region, heard.channel)
+fn put_signal(out: &mut Buffer, at: usize, frame: FrameRecord) -> usize {
+    let mut place = put_rate(out, at, frame.rate);
+    place = put_rssi(out, place, frame.direction, frame.rssi);
+    put_channel(out, place, frame.region, frame.channel)
 }
 
 // How often a beam was heard. Any other frame has none.
-fn put_beams(out: &mut Buffer, at: usize, beams: u64) -> usize {
+fn put_beams(out: &mut Buffer, at: usize, beams: u16) -> usize {
     if beams == 0 {
-        return put(out, at, b"\n\n");
+        return at;
     }
-    let place = put_marked(out, at, b"  Beam x", beams, 0);
+    put_marked(out, at, b"  Beam x", beams as u64, 0)
+}
+
+// Where its record stands.
+fn put_place(out: &mut Buffer, at: usize, hit: Hit) -> usize {
+    let frame = hit.frame;
+    let mut place = put_marked(out, at, b"\nrecord ", frame.number as u64, 0);
+    place = put_marked(out, place, b", at byte ", frame.place as u64, 0);
+    place = put_marked(out, place, b" of payload ", hit.payload, 0);
     put(out, place, b"\n\n")
 }
 
 // The frame without its header.
-pub fn put_heard(out: &mut Buffer, at: usize, number: u64, heard: Heard, mpdu: &[u8]) -> usize {
-    let mut place = put_number_line(out, at, number, heard.direction);
-    place = put_signal(out, place, heard);
-    place = put_beams(out, place, heard.beams);
+pub fn put_heard(out: &mut Buffer, at: usize, number: u64, hit: Hit, mpdu: &[u8]) -> usize {
+    let frame = hit.frame;
+    let mut place = put_number_line(out, at, number, frame.direction);
+    place = put_signal(out, place, frame);
+    place = put_beams(out, place, frame.beams);
+    place = put_place(out, place, hit);
     put_dump(out, place, mpdu)
 }
 

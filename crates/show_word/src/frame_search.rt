@@ -4,89 +4,85 @@ use files::capture::Item;
 use files::capture::Source;
 use files::capture::next_item;
 use pti::parse_payload;
-use pti::payload::BEAMS;
-use pti::payload::CHANNEL;
-use pti::payload::DIRECTION;
 use pti::payload::Frames;
-use pti::payload::LENGTH;
-use pti::payload::RATE;
-use pti::payload::REGION;
-use pti::payload::RSSI;
-use pti::payload::START;
-use readers::cells::frame_cell;
 use readers::cells::part;
+use screen::FrameRecord;
+use screen::record_at;
+use std::num::wrapping_add_u64;
 ghost use Prim.Native.Nat.{_≤_};
 ghost use lib.ListN.{length};
 ghost use Rattle.files.specs.Capture.{Inside};
 ghost use Rattle.show_word.specs.Search.{Holds};
 
-// The table of a payload's frames: 3,000 rows of eight numbers, more than a payload has frames.
-pub type Table = [u64; 24000];
+// The table of a payload's frames: 3,000 rows of ten numbers, more than a payload has frames.
+pub type Table = [u16; 30000];
 
-// A frame as it was heard: the numbers of its row, and how many bytes of its MPDU stand in a lent slice.
-pub struct Heard {
-    pub direction: u64,
-    pub region: u64,
-    pub channel: u64,
-    pub rate: u64,
-    pub rssi: u64,
-    pub beams: u64,
+// A frame that was found, how many bytes of its MPDU stand in a lent slice, and in which of the capture's payloads it stands, from 1.
+pub struct Hit {
+    pub frame: FrameRecord,
     pub count: usize,
+    pub payload: u64,
+}
+
+// What is sought: the frame after so many, of those behind so many payloads, which a firmware wrote.
+pub struct Aim {
+    pub firmware: usize,
+    pub left: u64,
+    pub payloads: u64,
+}
+
+impl Aim {
+    // With one more payload passed, and so many frames left to pass.
+    fn behind(mut self, left: u64) -> Self {
+        self.left = left;
+        self.payloads = wrapping_add_u64(self.payloads, 1);
+        self
+    }
 }
 
 // What is known of a search.
 pub enum Search {
-    Found(Heard),
-    // So many frames are still to be passed over.
-    Left(u64),
+    Found(Hit),
+    // What is still sought.
+    Left(Aim),
     // A line and a column of what is no capture.
     NoCapture(u64, u64),
     Unreadable,
 }
 
-// The frame of row i.
-fn hear(payload: &[u8], table: &[u64], i: usize, mpdu: &mut [u8; 4096]) -> Heard
+// A frame with its MPDU's bytes.
+fn take_hit(payload: &[u8], frame: FrameRecord, number: u64, mpdu: &mut [u8; 4096]) -> Hit
     ensures { λ r. ⌜ r .count ≤ length (now (mpdu .exit)) ⌝ }
 {
-    let start = frame_cell(table, i, START) as usize;
-    let bytes = part(payload, start, frame_cell(table, i, LENGTH) as usize);
-    Heard {
-        direction: frame_cell(table, i, DIRECTION),
-        region: frame_cell(table, i, REGION),
-        channel: frame_cell(table, i, CHANNEL),
-        rate: frame_cell(table, i, RATE),
-        rssi: frame_cell(table, i, RSSI),
-        beams: frame_cell(table, i, BEAMS),
+    let bytes = part(payload, frame.start as usize, frame.length as usize);
+    Hit {
+        frame,
         count: append(mpdu, 0, bytes),
+        payload: number,
     }
 }
 
 // The frame after so many of a payload's.
-fn search_payload(
-    payload: &[u8],
-    firmware: usize,
-    table: &mut Table,
-    left: u64,
-    mpdu: &mut [u8; 4096],
-) -> Search
+fn search_payload(payload: &[u8], aim: Aim, table: &mut Table, mpdu: &mut [u8; 4096]) -> Search
     ensures { λ r. ⌜ Holds (now (mpdu .exit)) r ⌝ }
 {
-    let Frames::Rows(n) = parse_payload(payload, firmware, table) else {
-        return Search::Left(left);
+    let left = aim.left;
+    let Frames::Rows(n) = parse_payload(payload, aim.firmware, table) else {
+        return Search::Left(aim.behind(left));
     };
     if left < n as u64 {
-        return Search::Found(hear(payload, table, left as usize, mpdu));
+        let frame = record_at(table, left as usize);
+        return Search::Found(take_hit(payload, frame, wrapping_add_u64(aim.payloads, 1), mpdu));
     }
-    Search::Left(left - n as u64)
+    Search::Left(aim.behind(left - n as u64))
 }
 
-// The frame after so many of what stands next in a capture. What `tap frames` passes over or refuses is passed over.
+// The same of what stands next in a capture. What `tap frames` passes over or refuses is passed over.
 fn search_item(
     item: Item,
     payload: &[u8],
-    firmware: usize,
+    aim: Aim,
     table: &mut Table,
-    left: u64,
     mpdu: &mut [u8; 4096],
 ) -> Search
     ensures { λ r. ⌜ Holds (now (mpdu .exit)) r ⌝ }
@@ -94,22 +90,21 @@ fn search_item(
     match item {
         Item::Payload(count) => {
             if payload.len() < count {
-                return Search::Left(left);
+                return Search::Left(aim.behind(aim.left));
             }
-            search_payload(&payload[..count], firmware, table, left, mpdu)
+            search_payload(&payload[..count], aim, table, mpdu)
         }
-        Item::Nothing => Search::Left(left),
-        Item::NotHex(_, _) => Search::Left(left),
+        Item::Nothing => Search::Left(aim),
+        Item::NotHex(_, _) => Search::Left(aim),
         Item::NoCapture(line, column) => Search::NoCapture(line, column),
         Item::Unreadable => Search::Unreadable,
     }
 }
 
-// The frame after so many of a source's, which that firmware wrote.
+// The same of all that a source gives.
 pub fn find_frame(
     start: Source,
-    firmware: usize,
-    before: u64,
+    sought: Aim,
     block: &mut [u8; 4096],
     payload: &mut [u8; 65536],
     table: &mut Table,
@@ -119,16 +114,16 @@ pub fn find_frame(
     ensures { λ r. ⌜ Holds (now (mpdu .exit)) r ⌝ }
 {
     let mut source = start;
-    let mut left = before;
+    let mut aim = sought;
     while 0 < source.left {
         let next = next_item(source, block, payload);
         source = next.source;
         let item = next.item;
-        let found = search_item(item, payload, firmware, table, left, mpdu);
+        let found = search_item(item, payload, aim, table, mpdu);
         let Search::Left(more) = found else {
             return found;
         };
-        left = more;
+        aim = more;
     }
-    Search::Left(left)
+    Search::Left(aim)
 }

@@ -6,7 +6,8 @@ use crate::command_page::put_unknown;
 use crate::frame_page::put_header;
 use crate::frame_page::put_heard;
 use crate::frame_page::put_refused;
-use crate::frame_search::Heard;
+use crate::frame_search::Aim;
+use crate::frame_search::Hit;
 use crate::frame_search::Search;
 use crate::frame_search::Table;
 use crate::frame_search::find_frame;
@@ -31,6 +32,7 @@ use output::outcome::fail_file;
 use readers::numeral::Numeral;
 use readers::numeral::read_numeral;
 use readers::region::frame_code;
+use screen::FrameRecord;
 use std::num::wrapping_sub_u64;
 use writer::Buffer;
 use writer::flush;
@@ -39,8 +41,8 @@ ghost use Rattle.show_word.specs.Search.{Holds};
 // The numbers of a command's rows: 1,024 of ten.
 const PARAMS: usize = 10240;
 
-// The frame after so many of the capture behind a descriptor.
-pub fn search(fd: i32, firmware: usize, before: u64, mpdu: &mut [u8; 4096]) -> Search
+// The frame that is sought in the capture behind a descriptor.
+pub fn search(fd: i32, aim: Aim, mpdu: &mut [u8; 4096]) -> Search
     ensures { λ r. ⌜ Holds (now (mpdu .exit)) r ⌝ }
 {
     let mut block = io::buffer();
@@ -48,16 +50,8 @@ pub fn search(fd: i32, firmware: usize, before: u64, mpdu: &mut [u8; 4096]) -> S
         return Search::Unreadable;
     };
     let mut payload = io::large_buffer();
-    let mut table: Table = [0u64; 24000];
-    find_frame(
-        source,
-        firmware,
-        before,
-        &mut block,
-        &mut payload,
-        &mut table,
-        mpdu,
-    )
+    let mut table: Table = [0u16; 30000];
+    find_frame(source, aim, &mut block, &mut payload, &mut table, mpdu)
 }
 
 // A capture with fewer frames.
@@ -154,8 +148,8 @@ fn show_mpdu(
 }
 
 // The frame whose bytes are these, by the frame text of the folder.
-fn show_named(heard: Heard, mpdu: &[u8], out: &mut Buffer, at: usize, options: Options) {
-    if heard.beams != 0 {
+fn show_named(frame: FrameRecord, mpdu: &[u8], out: &mut Buffer, at: usize, options: Options) {
+    if frame.is_beam {
         flush(out, at);
         output::outcome::succeed();
         return;
@@ -166,25 +160,39 @@ fn show_named(heard: Heard, mpdu: &[u8], out: &mut Buffer, at: usize, options: O
         fail(b"");
         return;
     };
-    show_mpdu(&text[..n], mpdu, heard.region, heard.rate, out, at, options);
+    show_mpdu(
+        &text[..n],
+        mpdu,
+        frame.region as u64,
+        frame.rate as u64,
+        out,
+        at,
+        options,
+    );
 }
 
-fn show_heard(number: u64, heard: Heard, mpdu: &[u8], options: Options) {
+fn show_hit(number: u64, hit: Hit, mpdu: &[u8], options: Options) {
     let mut out = io::buffer();
-    let at = put_heard(&mut out, 0, number, heard, mpdu);
-    show_named(heard, mpdu, &mut out, at, options);
+    let at = put_heard(&mut out, 0, number, hit, mpdu);
+    let frame = hit.frame;
+    show_named(frame, mpdu, &mut out, at, options);
 }
 
 // Frame n of the capture behind a descriptor.
 fn show_file(name: &[u8], fd: i32, number: u64, options: Options) {
     let before = wrapping_sub_u64(number, 1);
     let mut mpdu = io::buffer();
-    match search(fd, options.firmware, before, &mut mpdu) {
-        Search::Found(heard) => {
-            let n = heard.count;
-            show_heard(number, heard, &mpdu[..n], options);
+    let aim = Aim {
+        firmware: options.firmware,
+        left: before,
+        payloads: 0,
+    };
+    match search(fd, aim, &mut mpdu) {
+        Search::Found(hit) => {
+            let n = hit.count;
+            show_hit(number, hit, &mpdu[..n], options);
         }
-        Search::Left(left) => fail_number(name, number, wrapping_sub_u64(before, left)),
+        Search::Left(aim) => fail_number(name, number, wrapping_sub_u64(before, aim.left)),
         Search::NoCapture(line, column) => fail_capture(name, line, column),
         Search::Unreadable => fail_file(name),
     }

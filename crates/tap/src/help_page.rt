@@ -44,6 +44,8 @@ which, with .. where there is no room for all; tap show gives them all.
                           --colour for a terminal
   --picture               for tap show: a table has no picture
   --progress              every 1000 frames a count on standard error
+  --records               two columns more: the number of the frame's record in its payload, from 0,
+                          and the byte at which that record begins, also from 0
   --firmware N            which capture firmware wrote it: 2, as without this option, or 3, which
                           says regions in five bits
   --by-position           offsets in command texts count the lines of the text, not what is there
@@ -65,11 +67,11 @@ on. The last line of the output is for the first refusal, or failed where a line
 fn help_show() {
     say(
         b"tap show FILE N: frame N of a capture, by the number that tap frames gives it. First how it was
-heard, and its bytes. Then the fields of its header as a tree: name, bits, value and symbol of each.
-Then its command's parameters as a tree: name, bytes in the command, value and symbol of each, how
-many bytes a field has of those that it wants where it is cut, and the bytes that they leave. Below a
-bit mask stand the nodes that it addresses. Where no header holds it says by which refusal, and so
-does the last line.
+heard, its record (from 0), the byte at which that begins and the payload (from 1), and its bytes.
+Then the fields of its header as a tree: name, bits, value and symbol of each. Then its command's
+parameters as a tree: name, bytes in the command, value and symbol of each, how many bytes a field
+has of those that it wants where it is cut, and the bytes that they leave. Below a bit mask stand the
+nodes that it addresses. Where no header holds it says by which refusal, and so does the last line.
 
   --picture    a letter before each field, and behind the fields the header's bits as a picture, with
                the letter of its field below each; bin/tap begins with --picture for a terminal

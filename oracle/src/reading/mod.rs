@@ -10,7 +10,7 @@ pub mod nodes;
 pub mod pti;
 pub mod values;
 
-use crate::answer::push_row;
+use crate::answer::push_frame;
 use crate::definition;
 use crate::refusal::Refusal;
 use crate::request::Request;
@@ -53,7 +53,7 @@ fn header_answer(
 
 fn record_answer(word: &str, firmware: u64, body: &[u8]) -> Result<String, Refusal> {
     let mut answer = word.to_string();
-    push_row(&pti::parse_record(firmware, body)?, &mut answer);
+    push_frame(&pti::parse_record(firmware, body)?, word, &mut answer);
     Ok(answer)
 }
 
@@ -61,7 +61,7 @@ fn frames_answer(word: &str, firmware: u64, cap: u64, payload: &[u8]) -> Result<
     let frames = pti::parse_payload(firmware, payload, cap)?;
     let mut answer = format!("{word} {}", frames.len());
     for frame in frames {
-        push_row(&frame, &mut answer);
+        push_frame(&frame, word, &mut answer);
     }
     Ok(answer)
 }

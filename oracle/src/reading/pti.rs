@@ -26,6 +26,15 @@ pub struct Frame {
     pub beams: Option<usize>,
     pub start: usize,
     pub length: usize,
+    /// FP1, of a payload's frames alone.
+    pub origin: Option<Origin>,
+}
+
+/// FP1: the number of a frame's record, and the place of its 0x5B.
+#[derive(Debug, Clone, Copy, PartialEq, Eq)]
+pub struct Origin {
+    pub record: usize,
+    pub place: usize,
 }
 
 /// F1 to F4: where each body starts in a payload, and its bytes.
@@ -73,7 +82,7 @@ pub fn frame(body: &[u8], bits: u32) -> Option<Frame> {
     let rate = speed_for(channel, region);
     let beams = is_beam.then(|| beam_count(middle, rate));
     let length = mpdu_length(middle, is_beam);
-    Some(Frame { is_sent, region, channel, rate, rssi, beams, start: header, length })
+    Some(Frame { is_sent, region, channel, rate, rssi, beams, start: header, length, origin: None })
 }
 
 /// F12: how many of the middle bytes are the MPDU.
@@ -97,12 +106,13 @@ fn beam_count(middle: &[u8], rate: u8) -> usize {
     count
 }
 
-/// F18: the frames of a payload.
+/// F18, FP1: the frames of a payload.
 pub fn frames(payload: &[u8], bits: u32) -> Vec<Frame> {
-    let bodies = bodies(payload).into_iter();
-    let placed = |(start, body)| {
+    let bodies = bodies(payload).into_iter().enumerate();
+    let placed = |(record, (start, body))| {
         let frame = frame(body, bits)?;
-        Some(Frame { start: start + frame.start, ..frame })
+        let origin = Some(Origin { record, place: start - 3 });
+        Some(Frame { start: start + frame.start, origin, ..frame })
     };
     bodies.filter_map(placed).collect()
 }

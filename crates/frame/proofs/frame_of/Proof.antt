@@ -17,4 +17,5 @@ frame-of-spec =
     (λ c κs. search (needs, laws))
     (λ c κs. search (needs, laws))
     (λ c κs. search (needs, laws))
+    (λ c. search (needs, laws))
     (λ c. search (needs, laws)))

@@ -1,9 +1,12 @@
 -- `pti::payload::write_frame` meets its contract, by the laws of the crate. Assumes nothing.
 use Rattle.pti.proofs.Laws.{laws}
 use borrow.Author.Needs.{needs}
-use native.Mathlib.Omega.{arith}
 use Rattle.pti.proofs.payload.write_frame.Statement.{statement}
 use Rattle.pti.proofs.payload.write_frame.Tie as tie
+
+-- src/payload.rt:175:15
+frame-of-requires : tie.Need-frame-of-requires
+frame-of-requires c κs = (search (needs, laws), (search (needs, laws), search (needs, laws)))
 
 pub write-frame-spec : {M : Type 1} → statement M
 write-frame-spec =
@@ -13,7 +16,7 @@ write-frame-spec =
     (λ c. search (needs, laws))
     (λ c. search (needs, laws))
     (λ c. search (needs, laws))
-    (λ c κs. search (needs, laws))
+    frame-of-requires
     (λ c κs. search (needs, laws))
     (λ c. search (needs, laws))
     (λ c. search (needs, laws)))

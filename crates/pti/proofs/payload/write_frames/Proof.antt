@@ -7,60 +7,64 @@ use Rattle.pti.proofs.payload.write_frames.Statement.{statement}
 use Rattle.pti.proofs.payload.write_frames.Tie as tie
 
 abbrev Inv-loop : tie.InvT-loop
-Inv-loop rates payload width table₀ n₀ at₀ table n at = Writing width payload table₀ table n at
+Inv-loop rates payload width table₀ n₀ number₀ at₀ table n number at = Writing width payload table₀ table n number at
 
 abbrev μ-loop : tie.MeasureT-loop
-μ-loop rates payload width table₀ n₀ at₀ table n at = length payload - at
+μ-loop rates payload width table₀ n₀ number₀ at₀ table n number at = length payload - at
 
--- src/payload.rt:172:5
+-- src/payload.rt:189:5
 loop-holds : tie.Need-loop-holds Inv-loop μ-loop
 loop-holds c = search (needs, laws)
 
--- src/payload.rt:173:32
+-- src/payload.rt:190:32
 next-body-requires : tie.Need-next-body-requires Inv-loop μ-loop
 next-body-requires c κs = search (needs, laws)
 
--- src/payload.rt:173:24
+-- src/payload.rt:190:24
 enum-known-span : tie.Need-enum-known-span Inv-loop μ-loop
 enum-known-span c = search (needs, laws)
 
--- src/payload.rt:174:13
+-- src/payload.rt:191:13
 enum-told : tie.Need-enum-told Inv-loop μ-loop
 enum-told c = search (needs, laws)
 
--- src/payload.rt:174:13
+-- src/payload.rt:191:13
 same-length : tie.Need-same-length Inv-loop μ-loop
 same-length c = search (needs, laws)
 
--- src/payload.rt:174:13
+-- src/payload.rt:191:13
 returns : tie.Need-returns Inv-loop μ-loop
 returns c = search (needs, laws)
 
--- src/payload.rt:178:32
+-- src/payload.rt:195:32
 sub-write-frame : tie.Need-sub-write-frame Inv-loop μ-loop
 sub-write-frame c = search (needs, laws)
 
--- src/payload.rt:178:32
+-- src/payload.rt:195:32
 part-write-frame-start : tie.Need-part-write-frame-start Inv-loop μ-loop
 part-write-frame-start c = search (needs, laws)
 
--- src/payload.rt:178:32
+-- src/payload.rt:195:32
 part-write-frame-end : tie.Need-part-write-frame-end Inv-loop μ-loop
 part-write-frame-end c = search (needs, laws)
 
--- src/payload.rt:178:9
+-- src/payload.rt:195:9
 write-frame-requires : tie.Need-write-frame-requires Inv-loop μ-loop
-write-frame-requires c κs = search (needs, laws)
+write-frame-requires c κs = (search (needs, laws), (search (needs, laws), (search (needs, laws), search (needs, laws))))
 
--- src/payload.rt:179:14
+-- src/payload.rt:196:9
+add-number : tie.Need-add-number Inv-loop μ-loop
+add-number c = search (needs, laws)
+
+-- src/payload.rt:197:14
 add-at : tie.Need-add-at Inv-loop μ-loop
 add-at c = search (needs, laws)
 
--- src/payload.rt:172:5
+-- src/payload.rt:189:5
 loop-less : tie.Need-loop-less Inv-loop μ-loop
 loop-less c = search (needs, laws)
 
--- src/payload.rt:172:5
+-- src/payload.rt:189:5
 loop-again : tie.Need-loop-again Inv-loop μ-loop
 loop-again c = search (needs, laws)
 
@@ -80,6 +84,7 @@ write-frames-spec =
     part-write-frame-start
     part-write-frame-end
     write-frame-requires
+    add-number
     add-at
     loop-less
     loop-again)

@@ -37,7 +37,7 @@ use denote.Shadow.{shadow}
 use denote.Array.{Array, each, arrayVal, array-vals, array-tells, array-lawful, array-makes}
 use denote.ArrayMemory.{array-apart, array-whole}
 use denote.Plain.{uint-vals, uint-tells, uint-makes, uint-lawful}
-use denote.Builtin.{u64, usize}
+use denote.Builtin.{u16, usize}
 use denote.Ref.{RefT}
 use denote.Slice.{sliceVal, MutSlice, ShrSlice, Room, slice-vals, shr-slice-tells}
 use denote.Lend.{Held, lends-slice, slice-back}
@@ -166,7 +166,7 @@ abbrev stayed : Stays (first.ended .signature .params) (first.ended .kept)
 stayed = (
   stay-dropped (arrayOf (plain (λ _. R)) N) yes,
   (
-    stay-dropped (shrSliceOf (0 ∷ []) tt (plain (λ _. u64))) yes,
+    stay-dropped (shrSliceOf (0 ∷ []) tt (plain (λ _. u16))) yes,
     (stay-dropped (plain (λ _. usize)) yes, (stay-dropped (plain (λ _. usize)) yes, tt)),
   ),
 )
@@ -200,7 +200,7 @@ module _ {M : Type 1} (𝓤 : URA M) (H : Heap 𝓤) (A : Atoms 𝓤) (W : Given
       ! $ frame ! $
       owned ! F.the-row (Is F.the-row) (LL.makes F.the-type F′.the-plain 𝓤 H A) t (u ∷ []) is $ done !
 
-  module _ (is : Is Table xs (v ∷ [])) (room′ : Room u64 (length rs)) (fits : n < 2 ^ 64) (few : cap ≤ N) where
+  module _ (is : Is Table xs (v ∷ [])) (room′ : Room u16 (length rs)) (fits : n < 2 ^ 64) (few : cap ≤ N) where
     long : length xs ≡ N
     long = is .1 .0 .1
 
@@ -213,7 +213,7 @@ module _ {M : Type 1} (𝓤 : URA M) (H : Heap 𝓤) (A : Atoms 𝓤) (W : Given
       Lent = MutSlice (named 0) (α ∷ []) R .own (record { ptr = (b, 0); name = γ; now = take cap xs }) (sliceVal (b, 0) cap ∷ [])
 
       abbrev Shr : Fml
-      Shr = ShrSlice (named 1) κ u64 .own flat (s ∷ [])
+      Shr = ShrSlice (named 1) κ u16 .own flat (s ∷ [])
 
       abbrev passed : RefT (List FrameRecord) × (RefT (List ℕ) × (ℕ × Unit {0}))
       passed = (record { ptr = (b, 0); name = γ; now = take cap xs }, (flat, (n, tt)))
@@ -237,7 +237,7 @@ module _ {M : Type 1} (𝓤 : URA M) (H : Heap 𝓤) (A : Atoms 𝓤) (W : Given
         let typed : (ys : List FrameRecord) (u : Val) → Is Table ys (u ∷ []) → _ =
         λ ys u h. array-lawful 𝓤 H A W R (LL.lawful T.the-type T′.the-laws 𝓤 H A W) N .typed ys (u ∷ []) h .0 in
         let k = length (take cap xs) in
-        qed W ((‵ (flft κ q) ⊛ ‵ ftrue) ∷ ‵ (owns (Table ∷ ShrSlice (named 0) κ u64 ∷ usize ∷ usize ∷ []) (xs, (flat, (n, (cap, tt))))
+        qed W ((‵ (flft κ q) ⊛ ‵ ftrue) ∷ ‵ (owns (Table ∷ ShrSlice (named 0) κ u16 ∷ usize ∷ usize ∷ []) (xs, (flat, (n, (cap, tt))))
         (v ∷ [], (s ∷ [], (vint w64 n ∷ [], (vint w64 cap ∷ [], tt))))) ∷ []) ∵
         enter ! (𝓣 .C) (𝓣 .Λ) code.function (v ∷ s ∷ vint w64 n ∷ vint w64 cap ∷ []) _ $
         alloc1 ! (λ l₀. alloc1 ! (λ l₁. alloc1 ! (λ l₂. alloc1 !
@@ -305,7 +305,7 @@ module _ {M : Type 1} (𝓤 : URA M) (H : Heap 𝓤) (A : Atoms 𝓤) (W : Given
       (λ κs. (table-val, (slice-vals, (uint-vals w64, (uint-vals w64, tt)))))
       (λ κs. (
         array-tells R (LL.vals T.the-type T′.the-laws) (LL.tells T.the-type T′.the-laws) N,
-        (shr-slice-tells (named 0) (κs .0) u64, (uint-tells w64, (uint-tells w64, tt))),
+        (shr-slice-tells (named 0) (κs .0) u16, (uint-tells w64, (uint-tells w64, tt))),
       ))
       (λ κs qs bounds a g are. needs 𝓤 (a .1 .1 .1 .0 ≤ N) _ (λ few.
       walk 𝓤 H A W at-mem run (κs .0) (qs .0) (a .0) (a .1 .0) (a .1 .1 .0) (a .1 .1 .1 .0) (are .0) (are .1 .0 .0 .1) (are .1 .1 .0 .1) few 𝓣 known))
@@ -314,7 +314,7 @@ module _ {M : Type 1} (𝓤 : URA M) (H : Heap 𝓤) (A : Atoms 𝓤) (W : Given
   goes = (
     goes-dropped 𝓤 H A W 1 (arrayOf (plain (λ _. R)) N) yes (λ κs x f. refl),
     (
-      goes-dropped 𝓤 H A W 1 (shrSliceOf (0 ∷ []) tt (plain (λ _. u64))) yes (λ κs x f. refl),
+      goes-dropped 𝓤 H A W 1 (shrSliceOf (0 ∷ []) tt (plain (λ _. u16))) yes (λ κs x f. refl),
       (goes-dropped 𝓤 H A W 1 (plain (λ _. usize)) yes (λ κs x f. refl), (goes-dropped 𝓤 H A W 1 (plain (λ _. usize)) yes (λ κs x f. refl), tt)),
     ),
   )

@@ -5,10 +5,10 @@ use Rattle.replay.proofs.frame_table.same.Statement.{statement}
 use Rattle.replay.proofs.frame_table.same.Tie as tie
 
 abbrev Inv-loop : tie.InvT-loop
-Inv-loop a b i₀ i = i ≤ 8
+Inv-loop a b i₀ i = i ≤ 10
 
 abbrev μ-loop : tie.MeasureT-loop
-μ-loop a b i₀ i = 8 - i
+μ-loop a b i₀ i = 10 - i
 
 pub same-spec : {M : Type 1} → statement M
 same-spec =

@@ -91,8 +91,4 @@ answer-spec =
     (λ c. search (needs, laws))
     (λ c. search (needs, laws))
     (λ c. search (needs, laws))
-    (λ c. search (needs, laws))
-    (λ c. search (needs, laws))
-    (λ c. search (needs, laws))
-    (λ c. search (needs, laws))
     (λ c. search (needs, laws)))

@@ -5,10 +5,10 @@ use Rattle.show_word.proofs.frame_search.find_frame.Statement.{statemen
 use Rattle.show_word.proofs.frame_search.find_frame.Tie as tie
 
 abbrev Inv-loop : tie.InvT-loop
-Inv-loop firmware before block₀ payload₀ table₀ mpdu₀ source₀ left₀ block payload table mpdu source left = Inside block source
+Inv-loop block₀ payload₀ table₀ mpdu₀ source₀ aim₀ block payload table mpdu source aim = Inside block source
 
 abbrev μ-loop : tie.MeasureT-loop
-μ-loop firmware before block₀ payload₀ table₀ mpdu₀ source₀ left₀ block payload table mpdu source left = source .left
+μ-loop block₀ payload₀ table₀ mpdu₀ source₀ aim₀ block payload table mpdu source aim = source .left
 
 pub find-frame-spec : {M : Type 1} → statement M
 find-frame-spec =

@@ -1,6 +1,6 @@
--- `show_word::frame_search::search_item` meets its contract. Assumes nothing.
-use borrow.Author.Needs.{needs}
+-- `show_word::frame_search::search_item` meets its contract, by the laws of the crate. Assumes nothing.
 use Rattle.files.proofs.append.Laws.{front-count}
+use borrow.Author.Needs.{needs}
 use Rattle.show_word.proofs.frame_search.search_item.Statement.{statement}
 use Rattle.show_word.proofs.frame_search.search_item.Tie as tie
 
@@ -8,16 +8,17 @@ pub search-item-spec : {M : Type 1} → statement M
 search-item-spec =
     tie.close
     (tie.spec
-    (λ c. search needs)
-    (λ c. search needs)
     (λ c. search (needs, front-count))
-    (λ c κs. search needs)
-    (λ c. search needs)
-    (λ c. search needs)
-    (λ c. search needs)
-    (λ c. search needs)
-    (λ c. search needs)
-    (λ c. search needs)
-    (λ c. search needs)
-    (λ c. search needs)
-    (λ c. search needs))
+    (λ c κs. search (needs, front-count))
+    (λ c. search (needs, front-count))
+    (λ c. search (needs, front-count))
+    (λ c κs. search (needs, front-count))
+    (λ c. search (needs, front-count))
+    (λ c. search (needs, front-count))
+    (λ c. search (needs, front-count))
+    (λ c. search (needs, front-count))
+    (λ c. search (needs, front-count))
+    (λ c. search (needs, front-count))
+    (λ c. search (needs, front-count))
+    (λ c. search (needs, front-count))
+    (λ c. search (needs, front-count)))

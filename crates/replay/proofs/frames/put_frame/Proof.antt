@@ -1,11 +1,11 @@
--- `replay::frames::put_row` meets its contract, by the laws of the crate. Assumes nothing.
+-- `replay::frames::put_frame` meets its contract, by the laws of the crate. Assumes nothing.
 use Rattle.replay.proofs.Laws.{laws}
 use borrow.Author.Needs.{needs}
-use Rattle.replay.proofs.frames.put_row.Statement.{statement}
-use Rattle.replay.proofs.frames.put_row.Tie as tie
+use Rattle.replay.proofs.frames.put_frame.Statement.{statement}
+use Rattle.replay.proofs.frames.put_frame.Tie as tie
 
-pub put-row-spec : {M : Type 1} → statement M
-put-row-spec =
+pub put-frame-spec : {M : Type 1} → statement M
+put-frame-spec =
     tie.close
     (tie.spec
     (λ c. search (needs, laws))
