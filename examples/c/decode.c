@@ -69,7 +69,7 @@ static void print_numbers(const char *what, const uint64_t *row, int count) {
 }
 
 /* Row `row` of a header as people read it. */
-static void show_value(const uint8_t *mpdu, size_t length, const uint64_t *frame, uint64_t row, size_t text_length) {
+static void show_value(const uint8_t *mpdu, size_t length, const uint16_t *frame, uint64_t row, size_t text_length) {
     TapAnswer shown = tap_header_value(frame_text, text_length, mpdu, length, code_of(frame[1]), frame[3], row, value, sizeof value);
     if (shown.refusal) {
         print_refusal(shown.refusal, shown.value);
@@ -79,7 +79,7 @@ static void show_value(const uint8_t *mpdu, size_t length, const uint64_t *frame
 }
 
 /* The nodes that row `row` of a header addresses, if it is a mask of nodes. */
-static void show_nodes(const uint8_t *mpdu, size_t length, const uint64_t *frame, uint64_t row, size_t text_length) {
+static void show_nodes(const uint8_t *mpdu, size_t length, const uint16_t *frame, uint64_t row, size_t text_length) {
     TapAnswer listed = tap_header_nodes(frame_text, text_length, mpdu, length, code_of(frame[1]), frame[3], row, nodes, NODES);
     if (listed.refusal) {
         return;
@@ -92,7 +92,7 @@ static void show_nodes(const uint8_t *mpdu, size_t length, const uint64_t *frame
 }
 
 /* Our own listing of a header, which is judged right, and with its last line cut off is not. */
-static void show_listing(const uint8_t *mpdu, size_t length, const uint64_t *frame, size_t text_length) {
+static void show_listing(const uint8_t *mpdu, size_t length, const uint16_t *frame, size_t text_length) {
     TapAnswer written = tap_write_listing(frame_text, text_length, mpdu, length, code_of(frame[1]), frame[3], listing, sizeof listing);
     TapAnswer whole = tap_judge_listing(frame_text, text_length, mpdu, length, code_of(frame[1]), frame[3], listing, written.value);
     TapAnswer cut = tap_judge_listing(frame_text, text_length, mpdu, length, code_of(frame[1]), frame[3], listing, written.value - 1);

@@ -67,7 +67,14 @@ pub fn offsets_by(position: bool) -> Offsets
 }
 
 // The outer list.
-fn walk_params(text: &[u8], loaded: &[u16], count: usize, offsets: Offsets, body: &[u8], rows: &mut [u64]) -> Taken
+fn walk_params(
+    text: &[u8],
+    loaded: &[u16],
+    count: usize,
+    offsets: Offsets,
+    body: &[u8],
+    rows: &mut [u64],
+) -> Taken
     requires { ⌜ (IsLoaded (now text) (now loaded) count) × (length (now body) < 65536) ⌝ }
     ensures { λ r. ⌜ Gives (walk offsets (now (body .entry)) (entriesOf (headsOf (now (text .entry))))) (now (rows .entry)) 0 (now (rows .exit)) r ⌝ }
 {
@@ -123,7 +130,14 @@ fn walk_params(text: &[u8], loaded: &[u16], count: usize, offsets: Offsets, body
 }
 
 // Writes all rows of a body, for which the table has room.
-fn write_body(text: &[u8], loaded: &[u16], count: usize, offsets: Offsets, body: &[u8], rows: &mut [u64]) -> Params
+fn write_body(
+    text: &[u8],
+    loaded: &[u16],
+    count: usize,
+    offsets: Offsets,
+    body: &[u8],
+    rows: &mut [u64],
+) -> Params
     requires { ⌜ (IsLoaded (now text) (now loaded) count) × (length (now body) < 65536)
         × (length (walk offsets (now body) (entriesOf (headsOf (now text))) .rows) ≤ length (now rows) / rowWidth) ⌝ }
     ensures { λ r. ⌜ Fills (walk offsets (now (body .entry)) (entriesOf (headsOf (now (text .entry))))) (now (rows .entry)) (told r) (now (rows .exit)) ⌝ }
@@ -137,7 +151,14 @@ fn write_body(text: &[u8], loaded: &[u16], count: usize, offsets: Offsets, body:
 }
 
 // Writes at once where the table has room whatever the body is. Else counts, then writes: the table is left alone if it has no room for every row.
-fn decode_body(text: &[u8], loaded: &[u16], count: usize, offsets: Offsets, body: &[u8], rows: &mut [u64]) -> Params
+fn decode_body(
+    text: &[u8],
+    loaded: &[u16],
+    count: usize,
+    offsets: Offsets,
+    body: &[u8],
+    rows: &mut [u64],
+) -> Params
     requires { ⌜ (IsLoaded (now text) (now loaded) count) × (length (now body) < 65536) ⌝ }
     ensures { λ r. ⌜ Fills (walk offsets (now (body .entry)) (entriesOf (headsOf (now (text .entry))))) (now (rows .entry)) (told r) (now (rows .exit)) ⌝ }
 {
@@ -153,7 +174,13 @@ fn decode_body(text: &[u8], loaded: &[u16], count: usize, offsets: Offsets, body
 }
 
 // Loads the text into a table that has room for it, and decodes a body by it.
-fn decode_by(text: &[u8], loaded: &mut [u16], offsets: Offsets, body: &[u8], rows: &mut [u64]) -> Params
+fn decode_by(
+    text: &[u8],
+    loaded: &mut [u16],
+    offsets: Offsets,
+    body: &[u8],
+    rows: &mut [u64],
+) -> Params
     requires { ⌜ (verdict (now text) ≡ Accepted) × (length (headsOf (now text)) * loadedWidth ≤ length (now loaded)) × (length (now body) < 65536) ⌝ }
     ensures { λ r. ⌜ Fills (walk offsets (now (body .entry)) (entriesOf (headsOf (now (text .entry))))) (now (rows .entry)) (told r) (now (rows .exit)) ⌝ }
 {

@@ -41,8 +41,13 @@ module _ (d : Decoded) (held : List ℕ) (r : Bytes) (n : ℕ) (told : Decodes d
 
   whole : length held ≤ length after
   whole =
-      omega (arith, length-append (take n held) (ys ++ drop (length held - n) (drop n held)), length-append ys (drop (length held - n) (drop n held)),
-      length-take-le n held within, same)
+      omega (
+        arith,
+        length-append (take n held) (ys ++ drop (length held - n) (drop n held)),
+        length-append ys (drop (length held - n) (drop n held)),
+        length-take-le n held within,
+        same,
+      )
 
   pub rest-starts : n ≤ length after
   rest-starts = omega (arith, whole, within)
