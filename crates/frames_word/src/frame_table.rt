@@ -14,6 +14,7 @@ use frame_line::frame_row::put_number;
 use frame_line::frame_row::put_row;
 use pti::parse_payload;
 use pti::payload::Frames;
+use pti::payload::ROW_WIDTH;
 use refusal::Refusal;
 use screen::FrameRecord;
 use screen::record_at;
@@ -28,7 +29,7 @@ ghost use Rattle.frame_text.specs.Rules.{verdict};
 ghost use Rattle.files.specs.Capture.{Inside};
 
 // The table of a payload's frames: 3,000 rows. A record with a frame has at least 22 bytes, so a payload has no more than 2,978 frames.
-pub type Table = [u16; 30000];
+pub type Table = [u16; 3000 * ROW_WIDTH];
 
 // The line of a frame.
 fn put_frame(

@@ -13,6 +13,7 @@ use files::input::File;
 use files::options::Asked;
 use files::options::Options;
 use output::outcome::fail_file;
+use pti::payload::ROW_WIDTH;
 ghost use mathlib.Core.Path.{_≡_};
 ghost use Rattle.text.specs.declared.Verdict.the-variants.{Accepted};
 ghost use Rattle.frame_text.specs.Rules.{verdict};
@@ -27,7 +28,7 @@ fn show_capture(name: &[u8], fd: i32, text: &[u8], index: &[u8], empty: Sheet)
         return;
     };
     let mut payload = io::large_buffer();
-    let mut table: Table = [0u16; 30000];
+    let mut table: Table = [0u16; 3000 * ROW_WIDTH];
     let mut out = io::buffer();
     let sheet = put_capture(
         text,

@@ -5,6 +5,7 @@ use files::capture::Source;
 use files::capture::next_item;
 use pti::parse_payload;
 use pti::payload::Frames;
+use pti::payload::ROW_WIDTH;
 use readers::cells::part;
 use screen::FrameRecord;
 use screen::record_at;
@@ -14,8 +15,8 @@ ghost use lib.ListN.{length};
 ghost use Rattle.files.specs.Capture.{Inside};
 ghost use Rattle.show_word.specs.Search.{Holds};
 
-// The table of a payload's frames: 3,000 rows of ten numbers, more than a payload has frames.
-pub type Table = [u16; 30000];
+// The table of a payload's frames: 3,000 rows, more than a payload has frames.
+pub type Table = [u16; 3000 * ROW_WIDTH];
 
 // A frame that was found, how many bytes of its MPDU stand in a lent slice, and in which of the capture's payloads it stands, from 1.
 pub struct Hit {

@@ -29,6 +29,7 @@ use libc::STDERR_FILENO;
 use output::outcome::fail;
 use output::outcome::fail_capture;
 use output::outcome::fail_file;
+use pti::payload::ROW_WIDTH;
 use readers::numeral::Numeral;
 use readers::numeral::read_numeral;
 use readers::region::frame_code;
@@ -38,8 +39,8 @@ use writer::Buffer;
 use writer::flush;
 ghost use Rattle.show_word.specs.Search.{Holds};
 
-// The numbers of a command's rows: 1,024 of ten.
-const PARAMS: usize = 10240;
+// The numbers of a command's rows, of which there are 1,024.
+const PARAMS: usize = 1024 * command_rows::ROW_WIDTH;
 
 // The frame that is sought in the capture behind a descriptor.
 pub fn search(fd: i32, aim: Aim, mpdu: &mut [u8; 4096]) -> Search
@@ -50,7 +51,7 @@ pub fn search(fd: i32, aim: Aim, mpdu: &mut [u8; 4096]) -> Search
         return Search::Unreadable;
     };
     let mut payload = io::large_buffer();
-    let mut table: Table = [0u16; 30000];
+    let mut table: Table = [0u16; 3000 * ROW_WIDTH];
     find_frame(source, aim, &mut block, &mut payload, &mut table, mpdu)
 }
 
