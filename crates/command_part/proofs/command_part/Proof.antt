@@ -6,12 +6,6 @@ use borrow.Author.Needs.{needs}
 use Rattle.command_part.proofs.command_part.Statement.{statement}
 use Rattle.command_part.proofs.command_part.Tie as tie
 
--- src/lib.rt:46:9
--- src/lib.rt:48:15
--- src/lib.rt:49:5
--- src/lib.rt:49:5
--- src/lib.rt:49:5
--- src/lib.rt:43:1
 returns : tie.Need-returns
 returns c = part-shown _ _ _ _ (c .before .before .find-command .result) (search (needs, laws)) refl (omega arith) refl
 

@@ -4,9 +4,5 @@ use borrow.Author.Needs.{needs}
 use Rattle.command_part.proofs.find_command.Statement.{statement}
 use Rattle.command_part.proofs.find_command.Tie as tie
 
--- src/lib.rt:27:9
--- src/lib.rt:30:9
--- src/lib.rt:34:9
--- src/lib.rt:23:1
 pub find-command-spec : {M : Type 1} → statement M
 find-command-spec = tie.close (tie.spec (λ c κs. search (needs, laws)) (λ c. search (needs, laws)) (λ c. search (needs, laws)) (λ c. search (needs, laws)))

@@ -4,7 +4,5 @@ use Rattle.command_part.proofs.Laws.{laws}
 use Rattle.command_part.proofs.sum_bytes.Statement.{statement}
 use Rattle.command_part.proofs.sum_bytes.Tie as tie
 
--- src/lib.rt:14:1
--- src/lib.rt:14:1
 pub sum-bytes-spec : {M : Type 1} → statement M
 sum-bytes-spec = tie.close (tie.spec (λ c. search (needs, laws)) (λ c. search (needs, laws)))

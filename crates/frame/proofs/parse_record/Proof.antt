@@ -5,7 +5,6 @@ use borrow.Author.Needs.{needs}
 use Rattle.frame.proofs.parse_record.Statement.{statement}
 use Rattle.frame.proofs.parse_record.Tie as tie
 
--- src/lib.rt:314:19
 frame-of-requires : tie.Need-frame-of-requires
 unfolding rates
 frame-of-requires c κs = (rates-right, (search (needs, laws), search (needs, laws)))

@@ -14,31 +14,24 @@ Inv-loop text index payload table n out₀ shown₀ i₀ out shown i = verdict t
 abbrev μ-loop : tie.MeasureT-loop
 μ-loop text index payload table n out₀ shown₀ i₀ out shown i = n - i
 
--- src/frame_table.rt:66:5
 loop-holds : tie.Need-loop-holds Inv-loop μ-loop
 loop-holds c = search (needs, laws)
 
--- src/frame_table.rt:67:49
 record-at-requires : tie.Need-record-at-requires Inv-loop μ-loop
 record-at-requires c κs = search (needs, laws)
 
--- src/frame_table.rt:67:9
 put-frame-requires : tie.Need-put-frame-requires Inv-loop μ-loop
 put-frame-requires c κs = search (needs, laws)
 
--- src/frame_table.rt:68:9
 add-i : tie.Need-add-i Inv-loop μ-loop
 add-i c = search (needs, laws)
 
--- src/frame_table.rt:66:5
 loop-less : tie.Need-loop-less Inv-loop μ-loop
 loop-less c = search (needs, laws)
 
--- src/frame_table.rt:66:5
 loop-again : tie.Need-loop-again Inv-loop μ-loop
 loop-again c = search (needs, laws)
 
--- src/frame_table.rt:52:1
 returns : tie.Need-returns Inv-loop μ-loop
 returns c = search (needs, laws)
 

@@ -12,55 +12,42 @@ Inv-loop payload width count₀ at₀ count at = Tallying width payload count at
 abbrev μ-loop : tie.MeasureT-loop
 μ-loop payload width count₀ at₀ count at = length payload - at
 
--- src/payload.rt:108:5
 loop-holds : tie.Need-loop-holds Inv-loop μ-loop
 loop-holds c = search (needs, laws)
 
--- src/payload.rt:109:32
 next-body-requires : tie.Need-next-body-requires Inv-loop μ-loop
 next-body-requires c κs = search (needs, laws)
 
--- src/payload.rt:109:24
 enum-known-span : tie.Need-enum-known-span Inv-loop μ-loop
 enum-known-span c = search (needs, laws)
 
--- src/payload.rt:110:13
 enum-told : tie.Need-enum-told Inv-loop μ-loop
 enum-told c = search (needs, laws)
 
--- src/payload.rt:110:13
 returns : tie.Need-returns Inv-loop μ-loop
 returns c = search (needs, laws)
 
--- src/payload.rt:114:28
 sub-frames-in : tie.Need-sub-frames-in Inv-loop μ-loop
 sub-frames-in c = search (needs, laws)
 
--- src/payload.rt:114:28
 part-frames-in-start : tie.Need-part-frames-in-start Inv-loop μ-loop
 part-frames-in-start c = search (needs, laws)
 
--- src/payload.rt:114:28
 part-frames-in-end : tie.Need-part-frames-in-end Inv-loop μ-loop
 part-frames-in-end c = search (needs, laws)
 
--- src/payload.rt:114:18
 frames-in-requires : tie.Need-frames-in-requires Inv-loop μ-loop
 frames-in-requires c κs = search (needs, laws)
 
--- src/payload.rt:114:9
 add-count : tie.Need-add-count Inv-loop μ-loop
 add-count c = search (needs, laws)
 
--- src/payload.rt:115:14
 add-at : tie.Need-add-at Inv-loop μ-loop
 add-at c = search (needs, laws)
 
--- src/payload.rt:108:5
 loop-less : tie.Need-loop-less Inv-loop μ-loop
 loop-less c = search (needs, laws)
 
--- src/payload.rt:108:5
 loop-again : tie.Need-loop-again Inv-loop μ-loop
 loop-again c = search (needs, laws)
 

@@ -4,7 +4,6 @@ use borrow.Author.Needs.{needs}
 use Rattle.pti.proofs.payload.write_frame.Statement.{statement}
 use Rattle.pti.proofs.payload.write_frame.Tie as tie
 
--- src/payload.rt:175:15
 frame-of-requires : tie.Need-frame-of-requires
 frame-of-requires c κs = (search (needs, laws), (search (needs, laws), search (needs, laws)))
 

@@ -12,59 +12,45 @@ Inv-loop rates payload width table₀ n₀ number₀ at₀ table n number at = W
 abbrev μ-loop : tie.MeasureT-loop
 μ-loop rates payload width table₀ n₀ number₀ at₀ table n number at = length payload - at
 
--- src/payload.rt:189:5
 loop-holds : tie.Need-loop-holds Inv-loop μ-loop
 loop-holds c = search (needs, laws)
 
--- src/payload.rt:190:32
 next-body-requires : tie.Need-next-body-requires Inv-loop μ-loop
 next-body-requires c κs = search (needs, laws)
 
--- src/payload.rt:190:24
 enum-known-span : tie.Need-enum-known-span Inv-loop μ-loop
 enum-known-span c = search (needs, laws)
 
--- src/payload.rt:191:13
 enum-told : tie.Need-enum-told Inv-loop μ-loop
 enum-told c = search (needs, laws)
 
--- src/payload.rt:191:13
 same-length : tie.Need-same-length Inv-loop μ-loop
 same-length c = search (needs, laws)
 
--- src/payload.rt:191:13
 returns : tie.Need-returns Inv-loop μ-loop
 returns c = search (needs, laws)
 
--- src/payload.rt:195:32
 sub-write-frame : tie.Need-sub-write-frame Inv-loop μ-loop
 sub-write-frame c = search (needs, laws)
 
--- src/payload.rt:195:32
 part-write-frame-start : tie.Need-part-write-frame-start Inv-loop μ-loop
 part-write-frame-start c = search (needs, laws)
 
--- src/payload.rt:195:32
 part-write-frame-end : tie.Need-part-write-frame-end Inv-loop μ-loop
 part-write-frame-end c = search (needs, laws)
 
--- src/payload.rt:195:9
 write-frame-requires : tie.Need-write-frame-requires Inv-loop μ-loop
 write-frame-requires c κs = (search (needs, laws), (search (needs, laws), (search (needs, laws), search (needs, laws))))
 
--- src/payload.rt:196:9
 add-number : tie.Need-add-number Inv-loop μ-loop
 add-number c = search (needs, laws)
 
--- src/payload.rt:197:14
 add-at : tie.Need-add-at Inv-loop μ-loop
 add-at c = search (needs, laws)
 
--- src/payload.rt:189:5
 loop-less : tie.Need-loop-less Inv-loop μ-loop
 loop-less c = search (needs, laws)
 
--- src/payload.rt:189:5
 loop-again : tie.Need-loop-again Inv-loop μ-loop
 loop-again c = search (needs, laws)
 

@@ -4,16 +4,6 @@ use borrow.Author.Needs.{needs}
 use Rattle.replay.proofs.definitions.put_tidied.Statement.{statement}
 use Rattle.replay.proofs.definitions.put_tidied.Tie as tie
 
--- src/definitions.rt:58:11
--- src/definitions.rt:59:24
--- src/definitions.rt:59:30
--- src/definitions.rt:60:25
--- src/definitions.rt:61:17
--- src/definitions.rt:62:13
--- src/definitions.rt:57:1
--- src/definitions.rt:57:1
--- src/definitions.rt:57:1
--- src/definitions.rt:57:1
 pub put-tidied-spec : {M : Type 1} → statement M
 put-tidied-spec =
     tie.close
