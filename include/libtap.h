@@ -107,7 +107,7 @@ TapAnswer tap_tidy_command_text(const uint8_t *text, size_t text_length, uint8_t
 
 /* ---- masks of nodes ---- */
 
-/* The nodes whose bits are set in a mask, rising, each once: the lowest bit of the first byte is node 1. Answers how many. Refuses by 4, a mask of
+/* The nodes whose bits are set in a mask, rising, each once; node 1 is the first byte's lowest bit. Answers how many. Refuses by 4, a mask of
  * more than 8,191 bytes, and 8. `nodes_length` is how many nodes the table has room for. */
 TapAnswer tap_mask_nodes(const uint8_t *mask, size_t mask_length, uint16_t *nodes, size_t nodes_length);
 
@@ -164,7 +164,7 @@ TapAnswer tap_header_value(const uint8_t *text, size_t text_length, const uint8_
 /* The longest listing: 128 rows of seven numbers, and the header's number. */
 #define TAP_LISTING_LENGTH 18837
 
-/* What `tap_decode_header` answers, as a listing: a line for each row, its seven numbers in decimal, parted by tabs, and last the header's number. It takes
+/* What `tap_decode_header` answers, as a listing: a line for each row, its numbers in decimal with a tab between them, and last the header's number. It takes
  * the same arguments but for the table. Answers the listing's length. Refuses by 1 to 7, then 12. */
 TapAnswer tap_write_listing(const uint8_t *text, size_t text_length, const uint8_t *mpdu, size_t mpdu_length, uint64_t region, uint64_t speed,
                             uint8_t *buffer, size_t buffer_length);
