@@ -12,6 +12,7 @@ use radio::rssi::byte_of;
 use radio::speed::RATES;
 use records::Next;
 use records::PayloadOffset;
+use records::Span;
 use records::next_body;
 use refusal::Refusal;
 use rows::put_short_row;
@@ -20,6 +21,7 @@ ghost use mathlib.Core.Bool.{cond};
 ghost use Prim.Native.Nat.{_+_, _*_, _^_, _≤_, _<_};
 ghost use lib.ListN.{length};
 ghost use Rattle.radio.specs.Speed.{RateTable};
+ghost use Rattle.records.specs.Steps.{Leads};
 ghost use Rattle.frame.specs.Frame.{isFrame, directionNumber, beamsNumber};
 ghost use Rattle.pti.specs.Payload.{rowWidth, rowOf, rowsOf, Parses};
 ghost use Rattle.pti.specs.Steps.{Low, Within, Needs, WritesRow, Writes, Lays, ParsesBy};
@@ -83,8 +85,8 @@ pub fn beams_number(beams: Beams) -> u16
 }
 
 // The row of the frame of record `number`, whose body starts at a place of the payload: three bytes behind its opening bracket.
-fn row_of(frame: PtiFrame, number: usize, body: PayloadOffset) -> [u16; ROW_WIDTH]
-    requires { ⌜ Low number (body .0) (frame .start .0) ⌝ }
+fn row_of(frame: PtiFrame, number: u16, body: PayloadOffset) -> [u16; ROW_WIDTH]
+    requires { ⌜ Low (body .0) (frame .start .0) ⌝ }
     ensures { λ r. ⌜ r ≡ rowOf number (body .0) frame ⌝ }
 {
     let direction = frame.direction;
@@ -99,7 +101,7 @@ fn row_of(frame: PtiFrame, number: usize, body: PayloadOffset) -> [u16; ROW_WIDT
         beams_number(beams),
         start.0 as u16,
         frame.length,
-        number as u16,
+        number,
         (body.0 - 3) as u16,
         frame.target.node,
         frame.target.hash,
@@ -154,12 +156,12 @@ fn rows_needed(rates: &[u8; 512], payload: &[u8], rules: Rules, room: usize) -> 
 // Writes the row of a frame of record `number` as row n. Returns the number of the next row.
 fn write_row(
     frame: PtiFrame,
-    number: usize,
+    number: u16,
     body: PayloadOffset,
     table: &mut [u16],
     n: usize,
 ) -> usize
-    requires { ⌜ Low number (body .0) (frame .start .0) ⌝ }
+    requires { ⌜ Low (body .0) (frame .start .0) ⌝ }
     requires { ⌜ n * rowWidth ≤ length (now table) ⌝ }
     ensures { λ r. ⌜ WritesRow frame number (body .0) n (now (table .entry)) r (now (table .exit)) ⌝ }
 {
@@ -171,62 +173,70 @@ fn write_row(
 // Writes the row of the frame of record `number`, if its body holds one, as row n. Returns the number of the next row.
 fn write_frame(
     rates: &[u8; 512],
-    body: &[u8],
+    payload: &[u8],
     rules: Rules,
-    number: usize,
-    start: PayloadOffset,
+    body: Span,
+    number: u16,
     table: &mut [u16],
     n: usize,
 ) -> usize
     requires { ⌜ RateTable (now rates) ⌝ }
     requires { ⌜ rules .width ≤ 5 ⌝ }
-    requires { ⌜ Within number (start .0) (length (now body)) ⌝ }
+    requires { ⌜ Within (now payload) body ⌝ }
     requires { ⌜ n * rowWidth ≤ length (now table) ⌝ }
-    ensures { λ r. ⌜ Writes rules (now (body .entry)) number (start .0) n (now (table .entry)) r (now (table .exit)) ⌝ }
+    ensures { λ r. ⌜ Writes rules (now (payload .entry)) body number n (now (table .entry)) r (now (table .exit)) ⌝ }
 {
-    let Split::Into(parts) = split_body(rates, body, rules) else {
+    let start = body.start.0;
+    let end = body.end.0;
+    let bytes = &payload[start..end];
+    let Split::Into(parts) = split_body(rates, bytes, rules) else {
         return n;
     };
     let reading = rules.reading;
-    write_row(frame_of(body, reading, parts), number, start, table, n)
+    write_row(frame_of(bytes, reading, parts), number, body.start, table, n)
 }
 
-// Writes the rows of all frames, one after the other. Returns how many there are.
-fn write_frames(rates: &[u8; 512], payload: &[u8], rules: Rules, table: &mut [u16]) -> usize
+// Writes the rows of all frames, one after the other; the first body is at hand. Returns how many there are.
+fn write_frames(
+    rates: &[u8; 512],
+    payload: &[u8],
+    rules: Rules,
+    first: Span,
+    table: &mut [u16],
+) -> usize
     requires { ⌜ RateTable (now rates) ⌝ }
     requires { ⌜ rules .width ≤ 5 ⌝ }
     requires { ⌜ length (now payload) ≤ 65535 ⌝ }
+    requires { ⌜ Leads (now payload) 1 first ⌝ }
     requires { ⌜ length (rowsOf rules (now payload)) * rowWidth ≤ length (now table) ⌝ }
     ensures { λ r. ⌜ Lays rules (now (payload .entry)) (now (table .entry)) r (now (table .exit)) ⌝ }
 {
     let mut n: usize = 0;
-    let mut number: usize = 0;
-    let mut at: usize = 1;
+    let mut number: u16 = 0;
+    let mut body = first;
     loop {
-        let Next::Body(span) = next_body(payload, at) else {
+        n = write_frame(rates, payload, rules, body, number, table, n);
+        number += 1;
+        let end = body.end.0;
+        let Next::Body(next) = next_body(payload, end + 2) else {
             return n;
         };
-        let start = span.start.0;
-        let end = span.end.0;
-        n = write_frame(
-            rates,
-            &payload[start..end],
-            rules,
-            number,
-            span.start,
-            table,
-            n,
-        );
-        number += 1;
-        at = end + 2;
+        body = next;
     }
 }
 
 // Every frame of a payload by these rules, with the rates lent once for all of them.
-fn parse_bodies(rates: &[u8; 512], payload: &[u8], rules: Rules, table: &mut [u16]) -> Frames
+fn parse_bodies(
+    rates: &[u8; 512],
+    payload: &[u8],
+    rules: Rules,
+    first: Span,
+    table: &mut [u16],
+) -> Frames
     requires { ⌜ RateTable (now rates) ⌝ }
     requires { ⌜ rules .width ≤ 5 ⌝ }
     requires { ⌜ length (now payload) ≤ 65535 ⌝ }
+    requires { ⌜ Leads (now payload) 1 first ⌝ }
     ensures { λ r. ⌜ ParsesBy rules (now (payload .entry)) (now (table .entry)) r (now (table .exit)) ⌝ }
 {
     let room = table.len() / ROW_WIDTH;
@@ -234,7 +244,7 @@ fn parse_bodies(rates: &[u8; 512], payload: &[u8], rules: Rules, table: &mut [u1
     if room < needed {
         return Frames::Refused(Refusal::MoreRows(needed));
     }
-    Frames::Rows(write_frames(rates, payload, rules, table))
+    Frames::Rows(write_frames(rates, payload, rules, first, table))
 }
 
 // Every frame of a payload, which that firmware wrote, by that reading of beams, into the table, or refusal 13, 4 or 8. A refusal writes nothing, an
@@ -249,8 +259,8 @@ pub fn parse_payload(payload: &[u8], firmware: usize, reading: Reading, table: &
     if 65535 < payload.len() {
         return Frames::Refused(Refusal::TooLong(payload.len()));
     }
-    let Next::Body(_) = next_body(payload, 1) else {
+    let Next::Body(first) = next_body(payload, 1) else {
         return Frames::Rows(0);
     };
-    parse_bodies(&RATES, payload, rules, table)
+    parse_bodies(&RATES, payload, rules, first, table)
 }
