@@ -18,5 +18,4 @@ row-of-spec =
     (λ c. search (needs, laws))
     (λ c. search (needs, laws))
     (λ c. search (needs, laws))
-    (λ c. search (needs, laws))
     (λ c. search (needs, laws)))
