@@ -14,10 +14,10 @@ use records::find_body;
 ghost use mathlib.Core.Path.{_≡_};
 ghost use Rattle.radio.specs.Speed.{rateOf};
 ghost use Rattle.radio.specs.Beam.{beamsOf};
-ghost use Rattle.records.specs.Records.{said, saidOf, spanOf};
+ghost use Rattle.records.specs.Records.{said, saidOf};
 ghost use Rattle.frame.specs.Frame.{parsedOf, readingBy, targetNumbers, frameNumbers};
 ghost use Rattle.pti.specs.Payload.{said as saidFrames};
-ghost use Rattle.libtap.specs.Answers.{answered, part, aimed, framed, toldFrame, Told};
+ghost use Rattle.libtap.specs.Answers.{answered, ToldBody, aimed, framed, toldFrame, Told};
 
 // Whom a beam wakes, as C has it: the three numbers of BF2.
 #[repr(C)]
@@ -93,7 +93,7 @@ pub extern "C" fn tap_count_records(payload: &[u8]) -> TapAnswer
 // Where body k of a payload lies, from 0; an empty part where there is none or the payload is too long.
 #[no_mangle]
 pub extern "C" fn tap_record_body(payload: &[u8], k: usize) -> TapPart
-    ensures { λ r. ⌜ r ≡ part (spanOf (now (payload .entry)) k) ⌝ }
+    ensures { λ r. ⌜ ToldBody (now (payload .entry)) k r ⌝ }
 {
     let body = find_body(payload, k);
     let start = body.start.0;
