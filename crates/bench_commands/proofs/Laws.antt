@@ -24,16 +24,19 @@ pub tells-refusal : (x : Params) (y : Refusal) (n : ℕ) → x ≡ Refused y →
 unfolding told inOne
 tells-refusal x y n e is = rw (e, is, numbered y) refl
 
-pub tells-decoded : (t d table : List ℕ) (x : Params) (table′ : List ℕ) (r n : ℕ) → Decodes Answered t d table (told x) table′ → r ≡ inOne (told x)
+pub tells-decoded : (t d table : List ℕ) (x : Params) (table′ : List ℕ) (r n : ℕ) → Decodes Answered t d table (told x) table′
+    → r ≡ inOne (told x)
     → length table ≡ n → r ≡ inOne (answerOf Answered t d n)
 tells-decoded t d table x table′ r n decodes is size = rw (← size) (is ∙ ap inOne (decodes .answer))
 
-pub tells-accepted : (t d table : List ℕ) (x : Params) (table′ : List ℕ) (r n : ℕ) → DecodesBy Answered t d table (told x) table′ → verdict t ≡ text.Accepted
+pub tells-accepted : (t d table : List ℕ) (x : Params) (table′ : List ℕ) (r n : ℕ) → DecodesBy Answered t d table (told x) table′
+    → verdict t ≡ text.Accepted
     → r ≡ inOne (told x) → length table ≡ n → r ≡ inOne (answerOf Answered t d n)
 unfolding answerOf
 tells-accepted t d table x table′ r n decodes accepted is size = rw (← size, accepted) (is ∙ ap inOne (decodes .answer))
 
-pub tells-unfit : (t d : List ℕ) (n : ℕ) (v : Verdict) (x : Refusal) (r : ℕ) → v ≡ verdict t → v ≡ text.Refused x → r ≡ inOne (told (Refused x))
+pub tells-unfit : (t d : List ℕ) (n : ℕ) (v : Verdict) (x : Refusal) (r : ℕ) → v ≡ verdict t → v ≡ text.Refused x
+    → r ≡ inOne (told (Refused x))
     → r ≡ inOne (answerOf Answered t d n)
 unfolding told answerOf
 tells-unfit t d n v x r e q is = rw (sym e ∙ q) is

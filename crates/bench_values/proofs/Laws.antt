@@ -20,12 +20,14 @@ tells-length x n e = rw e refl
 pub tells-refusal : (x : Written) (y : Refusal) (n : ℕ) → x ≡ Refused y → n ≡ numberOf y → 100000 + n ≡ told x
 tells-refusal x y n e is = rw (e, is) refl
 
-pub tells-value : (t d : List ℕ) (region speed k : ℕ) (b : List ℕ) (x : Written) (b′ : List ℕ) (r n : ℕ) → HeaderValue t d region speed k b x b′ → r ≡ told x
+pub tells-value : (t d : List ℕ) (region speed k : ℕ) (b : List ℕ) (x : Written) (b′ : List ℕ) (r n : ℕ)
+    → HeaderValue t d region speed k b x b′ → r ≡ told x
     → length b ≡ n → r ≡ told (headerValue t d region speed k n)
 unfolding headerValue
 tells-value t d region speed k b x b′ r n shows is size = rw (← size) (is ∙ ap told (shows .answer))
 
-pub tells-unfit : (t d : List ℕ) (region speed k n : ℕ) (v : Verdict) (x : Refusal) (r : ℕ) → v ≡ verdict t → v ≡ text.Refused x → r ≡ told (Refused x)
+pub tells-unfit : (t d : List ℕ) (region speed k n : ℕ) (v : Verdict) (x : Refusal) (r : ℕ) → v ≡ verdict t → v ≡ text.Refused x
+    → r ≡ told (Refused x)
     → r ≡ told (headerValue t d region speed k n)
 unfolding headerValue answerOf
 tells-unfit t d region speed k n v x r e q is = rw (sym e ∙ q) is

@@ -36,7 +36,8 @@ use Rattle.command_rules.specs.Param.{inPayload}
 use Rattle.command_rules.specs.Walk.{Walked, walk}
 use Rattle.command_groups.specs.Steps.{Gives}
 use Rattle.command_rules.specs.Sum.{Adds}
-use Rattle.command.specs.Answer.{Told, answered, refused, told, bodyOf, within, answerBy, answerOf, filled, tableAfter, Fills, AddsUp, DecodesBy, Decodes}
+use Rattle.command.specs.Answer.{Told, answered, refused, told, bodyOf, within, answerBy, answerOf, filled, tableAfter, Fills, AddsUp, DecodesBy}
+use Rattle.command.specs.Answer.{Decodes}
 use Rattle.command_groups.specs.declared.Taken.{Taken}
 use Rattle.command.specs.declared.Params.{Params}
 use Rattle.command.specs.declared.Params.the-variants.{Rows, Refused}

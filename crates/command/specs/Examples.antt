@@ -37,7 +37,8 @@ unfolding answerOf answerBy within walk outer sizeOf paramRows paramEntry bigEnd
 starred-rows = refl
 
 -- the same cut off behind its third byte: Data wants two bytes, takes one and lacks one
-cut-rows : tableAfter Answered (definition text) (0x20 ∷ 0x01 ∷ 0x02 ∷ 0xAA ∷ []) lent (answerOf Answered text (0x20 ∷ 0x01 ∷ 0x02 ∷ 0xAA ∷ []) 22)
+cut-rows : tableAfter Answered (definition text) (0x20 ∷ 0x01 ∷ 0x02 ∷ 0xAA ∷ []) lent
+    (answerOf Answered text (0x20 ∷ 0x01 ∷ 0x02 ∷ 0xAA ∷ []) 22)
     ≡ 0 ∷ 1 ∷ 0 ∷ 2 ∷ 3 ∷ 1 ∷ 2 ∷ 0 ∷ 0 ∷ 0
     ∷ 0 ∷ 2 ∷ 0 ∷ 3 ∷ 4 ∷ 1 ∷ 0xAA ∷ 0 ∷ 0 ∷ 1
     ∷ 9 ∷ 9 ∷ []

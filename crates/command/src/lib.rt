@@ -208,7 +208,8 @@ pub fn decode_accepted(text: &[u8], payload: &[u8], offsets: Offsets, rows: &mut
     decode_by(text, &mut loaded, offsets, &payload[2..], rows)
 }
 
-// The parameters of a command by a text, with offsets read in one of the two ways, into the table, or a refusal. A refusal writes nothing, an answer nothing past its last row.
+// The parameters of a command by a text, with offsets read in one of the two ways, into the table, or a refusal. A refusal writes nothing, an answer
+// nothing past its last row.
 pub fn decode_params(text: &[u8], payload: &[u8], offsets: Offsets, rows: &mut [u64]) -> Params
     ensures { λ r. ⌜ Decodes offsets (now (text .entry)) (now (payload .entry)) (now (rows .entry)) (told r) (now (rows .exit)) ⌝ }
 {

@@ -18,7 +18,8 @@ use Rattle.text.specs.Records.{isSome, Readable}
 use Rattle.text.specs.declared.Place.{Place}
 use Rattle.text.proofs.Laws.{tail}
 use Rattle.text.proofs.Tests.{and-left, and-right, value-of, optional-value-of}
-use Rattle.command_text.specs.Form.{Record, param, group, item, variant, array, bitFlag, bitField, const, bitmask, namedForm, bitsFields, bitsForm, bitsOf, said, form}
+use Rattle.command_text.specs.Form.{Record, param, group, item, variant, array, bitFlag, bitField, const, bitmask, namedForm, bitsFields, bitsForm, bitsOf}
+use Rattle.command_text.specs.Form.{said, form}
 use Rattle.command_text.specs.Rules.{rules}
 use Rattle.command_text.specs.declared.ParamType.the-variants.{Byte}
 use Rattle.command_text.proofs.Laws.{bits-shift}
@@ -55,7 +56,8 @@ field-ends (x ∷ xs) g h gs r e = go (eqb x 10) (eqb x 9) (first xs) refl refl 
           next = let z : suc (cut 9 xs) + 1 ≡ suc (cut 9 xs + 1) = omega arith in rw (un, z) (i .next ∙ b);
         }
 
-    go : (a b : Bool) (f : First) → eqb x 9 ≡ b → first xs ≡ f → cond a (ended ([] ∷ []) xs) (cond b (after ([] ∷ []) f) (longer x f)) ≡ ended (g ∷ h ∷ gs) r
+    go : (a b : Bool) (f : First) → eqb x 9 ≡ b → first xs ≡ f
+        → cond a (ended ([] ∷ []) xs) (cond b (after ([] ∷ []) f) (longer x f)) ≡ ended (g ∷ h ∷ gs) r
         → ((f d : List ℕ) (ds : List (List ℕ)) (q : List ℕ) → first xs ≡ ended (f ∷ d ∷ ds) q → Ends xs f (ended (d ∷ ds) q))
         → Ends (x ∷ xs) g (ended (h ∷ gs) r)
     go true b f is same y ih = absurd (let z : _≡_ {A = ℕ} 0 1 = cc in omega arith)
@@ -111,7 +113,8 @@ module _ (fs : List (List ℕ)) (formed : isSome (form fs) ≡ true) where
   field-said : readAs (kindOf fs) ≡ 83 → (bitsForm fs ≡ true) × (form fs ≡ some (item (bitField (bitsOf fs))))
   field-said is = go (eqb (kindOf fs) 85) refl is
     where
-      go : (b : Bool) → eqb (kindOf fs) 85 ≡ b → cond b 83 (kindOf fs) ≡ 83 → (bitsForm fs ≡ true) × (form fs ≡ some (item (bitField (bitsOf fs))))
+      go : (b : Bool) → eqb (kindOf fs) 85 ≡ b → cond b 83 (kindOf fs) ≡ 83 → (bitsForm fs ≡ true)
+          × (form fs ≡ some (item (bitField (bitsOf fs))))
       go true e q = said-good fs (bitsForm fs) _ (rw (eqb-true (kindOf fs) 85 e)) formed
       go false e q = said-good fs (bitsForm fs) _ (rw q) formed
 
@@ -185,7 +188,8 @@ module _ (t : List ℕ) (p : Place) (readable : Readable rules t p) (inside : p 
   tail-here = take (length t - (p .at + 2)) (drop (p .at + 2) t)
 
   -- the first number
-  first-field : (kind ≡ 0 → ⊥) → 3 ≤ length fs → (b : Behind (drop (p .at) t) fs (here .more)) → Ends tail-here (b .one) (ended (b .two ∷ b .others) (here .more))
+  first-field : (kind ≡ 0 → ⊥) → 3 ≤ length fs → (b : Behind (drop (p .at) t) fs (here .more))
+      → Ends tail-here (b .one) (ended (b .two ∷ b .others) (here .more))
   first-field h long b =
       field-ends tail-here (b .one) (b .two) (b .others) (here .more)
       (rw (tail t (p .at + 2), ← drop-drop 2 (p .at) t) (b .next))
@@ -207,7 +211,8 @@ module _ (t : List ℕ) (p : Place) (readable : Readable rules t p) (inside : p 
           says = s;
         }
 
-    pub numbered-const : kind ≡ 75 → Numbers t p (record { kind = kind; level = 0; typed = Byte; offset = 0; mask = 0; shift = 0; value = n; ascii = false })
+    pub numbered-const : kind ≡ 75 → Numbers t p (record { kind = kind; level = 0; typed = Byte; offset = 0; mask = 0; shift = 0; value = n;
+        ascii = false })
     numbered-const is =
         let s = const-said fs formed (is-const is) in
         says-as (item (const (worth 0 (field 1 fs)) (field 2 fs))) _ (s .1) is refl

@@ -11,7 +11,8 @@ use Rattle.text.specs.Print.{shown, orDash, Clean, said, Prints, Faithful}
 use Rattle.text.specs.declared.Verdict.the-variants.{Accepted}
 use Rattle.text.proofs.Printing.{clean-shown, clean-name, letter-clean, dash-clean, number-test, number-clean, shown-up-to, shown-worth, shown-given}
 use Rattle.text.proofs.Printing.{text-accepted, accepted-text}
-use Rattle.command_text.specs.Form.{Param, Bits, Record, param, group, item, Detail, variant, array, bitFlag, bitField, const, bitmask, given, shiftOf, asciiOf}
+use Rattle.command_text.specs.Form.{Param, Bits, Record, param, group, item, Detail, variant, array, bitFlag, bitField, const, bitmask, given, shiftOf}
+use Rattle.command_text.specs.Form.{asciiOf}
 use Rattle.command_text.specs.Form.{typeName, typeOf, form}
 use Rattle.command_text.specs.Rules.{shiftIn, shift, rules, verdict}
 use Rattle.command_class.specs.Definition.{entriesAt, definition}
@@ -128,7 +129,8 @@ prints-bits w b f z = record {
           shift-back (w .missing) (b .shift) z,
         )
 
-prints-item : (w : Spelling) (d : Detail) → ItemFits d → (w .missing ≡ true → shiftIn d ≡ 0) → Prints rules writing (record { says = item d; spelling = w })
+prints-item : (w : Spelling) (d : Detail) → ItemFits d → (w .missing ≡ true → shiftIn d ≡ 0)
+    → Prints rules writing (record { says = item d; spelling = w })
 prints-item w (variant s) f z = record {
   form-is =
       rw (

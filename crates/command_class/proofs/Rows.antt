@@ -214,7 +214,8 @@ module _ (t : List ℕ) (l : Line) (good : Good t l) where
     }
 
   -- no other kind
-  pub last-kind : among 84 83 75 (readAs (l .kind)) ≡ false → (l .kind ≡ 81 → ⊥) → (l .kind ≡ 71 → ⊥) → (l .kind ≡ 82 → ⊥) → (l .kind ≡ 65 → ⊥)
+  pub last-kind : among 84 83 75 (readAs (l .kind)) ≡ false → (l .kind ≡ 81 → ⊥) → (l .kind ≡ 71 → ⊥) → (l .kind ≡ 82 → ⊥)
+      → (l .kind ≡ 65 → ⊥)
       → l .kind ≡ 77
   last-kind other q g r a = go (form fs) refl (good .formed)
     where

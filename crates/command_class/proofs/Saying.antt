@@ -15,7 +15,8 @@ use Rattle.text.specs.Records.{onto, records}
 use Rattle.text.proofs.Tests.{and-left, and-right}
 use Rattle.text.proofs.Printing.{up-to-back, missing-is, same-is, all-fields, letter-field}
 use Rattle.command_text.specs.Form.{Record, param, group, item, Detail, variant, array, bitFlag, bitField, const, bitmask, value, given, shiftOf, asciiOf}
-use Rattle.command_text.specs.Form.{typeName, types, typeAmong, known, typeOf, paramWords, paramCondition, paramFields, paramForm, groupFields, groupForm, variantFields, variantForm}
+use Rattle.command_text.specs.Form.{typeName, types, typeAmong, known, typeOf, paramWords, paramCondition, paramFields, paramForm, groupFields, groupForm}
+use Rattle.command_text.specs.Form.{variantFields, variantForm}
 use Rattle.command_text.specs.Form.{arrayForm, namedForm, bitsFields, bitsForm, bitmaskForm, paramOf, groupOf, sizeOf, bitsOf, ofType, said, paramSaid, form}
 use Rattle.command_text.specs.declared.ParamType.{ParamType}
 use Rattle.command_text.specs.declared.Typed.{Typed}
@@ -82,7 +83,8 @@ module _ (fs : List (List ℕ)) where
   plain-line n x e p f =
       line n x (record { missing = false; enum = false }) e p f (λ q. absurd (let z : _≡_ {A = ℕ} 0 1 = cc in omega arith))
 
-  param-reads : (type : ParamType) → kindOf fs ≡ 81 → typeOf (field 2 fs) ≡ Is type → paramForm fs ≡ true → Reads rules writing fs (param (paramOf fs type))
+  param-reads : (type : ParamType) → kindOf fs ≡ 81 → typeOf (field 2 fs) ≡ Is type → paramForm fs ≡ true
+      → Reads rules writing fs (param (paramOf fs type))
   param-reads type k t e =
       let w : paramFields fs ≡ true = and-right (eqb (length fs) 6) _ e in
       let words : paramWords fs ≡ true = and-left (paramWords fs) (paramCondition fs) w in
@@ -161,7 +163,8 @@ module _ (fs : List (List ℕ)) where
       (λ n. rw (named e .number, ← letter-field fs 75 k (omega arith)) (all-fields 3 0 fs n)) (named e .most, named e .named)
 
   -- an S, or a U
-  bits-reads : (u : Bool) (k : ℕ) → cond u 85 83 ≡ k → 1 ≤ k → kindOf fs ≡ k → bitsForm fs ≡ true → Reads rules writing fs (item (bitField (bitsOf fs)))
+  bits-reads : (u : Bool) (k : ℕ) → cond u 85 83 ≡ k → 1 ≤ k → kindOf fs ≡ k → bitsForm fs ≡ true
+      → Reads rules writing fs (item (bitField (bitsOf fs)))
   bits-reads u k is some-k kind e =
       let w : bitsFields fs ≡ true = and-right (eqb (length fs) 4) _ e in
       let x : (optionalUpTo 255 (field 2 fs) && name (field 3 fs)) ≡ true = and-right (upTo 255 (field 1 fs)) _ w in
@@ -216,8 +219,10 @@ module _ (fs : List (List ℕ)) where
         by-kind false false true a t s u k m eq eg er ea et es eu ek em e = one (variantForm fs) _ (variant-reads (eqb-true _ _ er)) e
         by-kind false false false true t s u k m eq eg er ea et es eu ek em e = one (arrayForm fs) _ (array-reads (eqb-true _ _ ea)) e
         by-kind false false false false true s u k m eq eg er ea et es eu ek em e = one (namedForm fs) _ (flag-reads (eqb-true _ _ et)) e
-        by-kind false false false false false true u k m eq eg er ea et es eu ek em e = one (bitsForm fs) _ (bits-reads false 83 refl (omega arith) (eqb-true _ _ es)) e
-        by-kind false false false false false false true k m eq eg er ea et es eu ek em e = one (bitsForm fs) _ (bits-reads true 85 refl (omega arith) (eqb-true _ _ eu)) e
+        by-kind false false false false false true u k m eq eg er ea et es eu ek em e =
+            one (bitsForm fs) _ (bits-reads false 83 refl (omega arith) (eqb-true _ _ es)) e
+        by-kind false false false false false false true k m eq eg er ea et es eu ek em e =
+            one (bitsForm fs) _ (bits-reads true 85 refl (omega arith) (eqb-true _ _ eu)) e
         by-kind false false false false false false false true m eq eg er ea et es eu ek em e = one (namedForm fs) _ (const-reads (eqb-true _ _ ek)) e
         by-kind false false false false false false false false true eq eg er ea et es eu ek em e =
             one (bitmaskForm fs) _ (bitmask-reads (eqb-true _ _ em)) e

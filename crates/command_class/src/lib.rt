@@ -196,7 +196,8 @@ fn is_numbered(kind: u8) -> bool
 
 // What a T, S or K line says. Of its fields only the numbers are looked for: they stand behind the kind, and a tab ends each.
 fn read_numbered(text: &[u8], place: Place, kind: u8) -> Row
-    requires { ⌜ (Readable rules (now text) place) × (place .at < length (now text)) × (Begins (now text) place kind) × (among 84 83 75 kind ≡ true) ⌝ }
+    requires { ⌜ (Readable rules (now text) place) × (place .at < length (now text)) × (Begins (now text) place kind)
+        × (among 84 83 75 kind ≡ true) ⌝ }
     ensures { λ r. ⌜ Numbers (now (text .entry)) place r ⌝ }
 {
     let at = place.at + 2;

@@ -93,7 +93,8 @@ module _ (t payload rows : List ℕ) (k : ℕ) (table : List ℕ) (b : Bool) (is
   pub row-not : b ≡ false → RowNodes t payload rows k table (listing.Refused (NoSuchField k)) table
   row-not e = record { answer = rw (← is, e) refl; leaves = refl }
 
-  pub row-lists : (m : List ℕ) (r : Listed) (table′ : List ℕ) → m ≡ partIn payload (startAt rows k) (endAt rows k) → Lists m table r table′ → b ≡ true
+  pub row-lists : (m : List ℕ) (r : Listed) (table′ : List ℕ) → m ≡ partIn payload (startAt rows k) (endAt rows k) → Lists m table r table′
+      → b ≡ true
       → RowNodes t payload rows k table r table′
   row-lists m r table′ part l e = record { answer = rw (← is, e, ← part) (l .answer); leaves = rw (← part) (l .leaves) }
 
@@ -109,7 +110,8 @@ module _ (t payload rows : List ℕ) (k : ℕ) (table : List ℕ) (v : Verdict) 
     pub lent-past : length rows / rowWidth ≤ k → LentNodes t payload rows k table (listing.Refused (NoSuchField k)) table
     lent-past h = record { answer = rw (accepted, le-leb (length rows / rowWidth) k h) refl; leaves = refl }
 
-    pub lent-row : (r : Listed) (table′ : List ℕ) → RowNodes t payload rows k table r table′ → k < length rows / rowWidth → LentNodes t payload rows k table r table′
+    pub lent-row : (r : Listed) (table′ : List ℕ) → RowNodes t payload rows k table r table′ → k < length rows / rowWidth
+        → LentNodes t payload rows k table r table′
     lent-row r table′ l h = record { answer = rw (accepted, lt-leb (length rows / rowWidth) k h) (l .answer); leaves = l .leaves }
 
 pub lent-inside : (rows : List ℕ) (k : ℕ) → k < length rows / rowWidth → k * rowWidth + rowWidth ≤ length rows

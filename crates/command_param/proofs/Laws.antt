@@ -31,7 +31,8 @@ use Rattle.command_param.specs.declared.Param.the-variants.{Read, Absent
 use Rattle.command_param.specs.declared.Wrote.{Wrote}
 
 -- ---- its own row
-pub row-is : (t : List ℕ) (q : Loaded) (bs : List ℕ) (start parent : ℕ) (value : Uint) (a v k lacking : ℕ) → value ≡ valueOf bs → a ≡ valued value
+pub row-is : (t : List ℕ) (q : Loaded) (bs : List ℕ) (start parent : ℕ) (value : Uint) (a v k lacking : ℕ) → value ≡ valueOf bs
+    → a ≡ valued value
     → v ≡ orZero value → k ≡ constLine (fieldIn t q) value
     → _≡_ {A = Row} (record {
       kind = 0;
@@ -88,7 +89,8 @@ module _ (t : List ℕ) (q : Loaded) (body : List ℕ) (at : ℕ) (size : Length
   param-written d′ c value e ed w es ev ee =
       let b : take (at + size .taken - at) (drop at body) ≡ take (size .taken) (drop at body) = the-bytes in
       let kids : d′ ≡ written d 1 (childRows (fieldIn t q) (n + 1) (inPayload at) (take (size .taken) (drop at body))) = rw (b, es) at (w .rows) in
-      let own : d ≡ written d₀ 0 (rowOf (fieldIn t q) parent (inPayload at) (take (size .taken) (drop at body)) (size .lacking) ∷ []) = rw (b, es) at ed in
+      let own : d ≡ written d₀ 0 (rowOf (fieldIn t q) parent (inPayload at) (take (size .taken) (drop at body)) (size .lacking) ∷ []) =
+          rw (b, es) at ed in
       let c-is : c ≡ length (childRows (fieldIn t q) (n + 1) (inPayload at) (take (size .taken) (drop at body))) = rw (b, es) at (w .count) in
       record {
         rows = kids ∙ rw own (written-more d₀ 0 (rowOf (fieldIn t q) parent (inPayload at) (take (size .taken) (drop at body)) (size .lacking) ∷ [])

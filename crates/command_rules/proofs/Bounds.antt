@@ -37,7 +37,8 @@ pub size-facts : (body : List ℕ) (q : Field) (es : List Earlier) (at : ℕ) (l
 size-facts body q es at l e =
     (size-some (q .offset) (q .mask) (q .rule) es (length body - at) l e, size-within (q .offset) (q .mask) (q .rule) es (length body - at) l e)
 
-params-few : (body : List ℕ) (q : Parameter) (at : ℕ) (size : Length) (n parent : ℕ) → Small q → length (paramRows body (fieldOf q) at size n parent) ≤ 33
+params-few : (body : List ℕ) (q : Parameter) (at : ℕ) (size : Length) (n parent : ℕ) → Small q
+    → length (paramRows body (fieldOf q) at size n parent) ≤ 33
 unfolding paramRows
 params-few body q at size n parent small = go (eqb (length (bytesAt body at (size .taken))) 1)
   where
@@ -55,12 +56,14 @@ members-bound body (q ∷ qs) at es n parent small =
   where
     go : (s : Size) → sizeAt body (fieldOf q) es at ≡ s
         → ((size : Length) → Bound 33 (length body) (at + size .taken)
-        (members body qs (at + size .taken) (es ++ (paramEntry body at (size .taken) ∷ [])) (n + length (paramRows body (fieldOf q) at size n parent)) parent))
+        (members body qs (at + size .taken) (es ++ (paramEntry body at (size .taken) ∷ []))
+        (n + length (paramRows body (fieldOf q) at size n parent)) parent))
         → Bound 33 (length body) at
         (onSize s
         (λ size.
         after (paramRows body (fieldOf q) at size n parent)
-        (members body qs (at + size .taken) (es ++ (paramEntry body at (size .taken) ∷ [])) (n + length (paramRows body (fieldOf q) at size n parent)) parent))
+        (members body qs (at + size .taken) (es ++ (paramEntry body at (size .taken) ∷ []))
+        (n + length (paramRows body (fieldOf q) at size n parent)) parent))
         (ended at))
     go (Bytes size) e more =
         let f = size-facts body (fieldOf q) es at size e in

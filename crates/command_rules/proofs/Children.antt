@@ -15,7 +15,8 @@ bits-count b parent start [] = refl
 bits-count b parent start (i ∷ is) = go (i .says) (bits-count b parent start is)
   where
     go : (x : Record) → length (bitRows b parent start is) ≡ countBits is
-        → length (bitOnto (i .line) parent start (ofItem (bitValue b) x) (bitRows b parent start is)) ≡ countBits (record { line = i .line; says = x } ∷ is)
+        → length (bitOnto (i .line) parent start (ofItem (bitValue b) x) (bitRows b parent start is))
+        ≡ countBits (record { line = i .line; says = x } ∷ is)
     go (param q) ih = ih
     go (group g) ih = ih
     go (item (variant v)) ih = ih

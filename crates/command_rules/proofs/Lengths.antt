@@ -77,7 +77,8 @@ module _ (offset mask : Option ℕ) (rule : Rule) (es : List Earlier) (rest : �
       ne-zero : (m : ℕ) → (m ≡ 0 → ⊥) → 0 < m
       ne-zero m f = omega arith
 
-      go : (a b c : Bool) → eqb (cut (wanted rule es) rest .taken) 0 ≡ c → cond (a && (b && not c)) (Bytes (cut (wanted rule es) rest)) Missing ≡ Bytes l
+      go : (a b c : Bool) → eqb (cut (wanted rule es) rest .taken) 0 ≡ c
+          → cond (a && (b && not c)) (Bytes (cut (wanted rule es) rest)) Missing ≡ Bytes l
           → 0 < l .taken
       go true true true q e = absurd (let z : _≡_ {A = ℕ} 0 1 = cc in omega arith)
       go true true false q e = rw size-is at (ne-zero (cut (wanted rule es) rest .taken) (eqb-false (cut (wanted rule es) rest .taken) 0 q))

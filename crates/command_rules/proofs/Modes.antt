@@ -55,7 +55,8 @@ front-agrees body (q ∷ qs) at es n there =
     }
 
 -- D4: and the answer for what comes next is the same
-pub next-agrees : (body : List ℕ) (d : Entry) (at : ℕ) (es : List Earlier) (n : ℕ) → outer Answered body (d ∷ []) at es n ≡ outer Position body (d ∷ []) at es n
+pub next-agrees : (body : List ℕ) (d : Entry) (at : ℕ) (es : List Earlier) (n : ℕ)
+    → outer Answered body (d ∷ []) at es n ≡ outer Position body (d ∷ []) at es n
 unfolding outer
 next-agrees body (single q) at es n = refl
 next-agrees body (repeated line g qs) at es n = refl
@@ -75,7 +76,8 @@ pub record InPlace (body : List ℕ) (qs : List Parameter) (at : ℕ) (es : List
       ≡ after (front .rows) (members body rs (front .end) (front .entries) (front .next) parent)
   pub each : length (front .entries) ≡ length es + length qs
 
-pub members-in-place : (body : List ℕ) (qs : List Parameter) (at : ℕ) (es : List Earlier) (n parent : ℕ) → Exist body qs at es → InPlace body qs at es n parent
+pub members-in-place : (body : List ℕ) (qs : List Parameter) (at : ℕ) (es : List Earlier) (n parent : ℕ) → Exist body qs at es
+    → InPlace body qs at es n parent
 unfolding Exist members
 members-in-place body [] at es n parent there =
     record { front = record { rows = []; end = at; entries = es; next = n }; walked = λ rs. refl; each = sym (add-zero (length es)) }

@@ -118,7 +118,8 @@ Kept Position done es tops = es ≡ slots done tops
 
 module _ (low : ℕ) (done : List Entry) (es : List Earlier) (tops : List Row) (passed : Passed low done) where
   -- a Q that exists, and its row
-  pub kept-own : (o : Offsets) (q : Parameter) (own : Row) (e : Earlier) → Kept o done es tops → Under low tops → low ≤ q .line → own .line ≡ q .line
+  pub kept-own : (o : Offsets) (q : Parameter) (own : Row) (e : Earlier) → Kept o done es tops → Under low tops → low ≤ q .line
+      → own .line ≡ q .line
       → entryIn own ≡ e → Kept o (done ++ (single q ∷ [])) (es ++ (e ∷ [])) (tops ++ (own ∷ []))
   kept-own Answered q own e kept under h on is = (λ i. kept i ++ (sym is i ∷ [])) ∙ sym (map-append entryIn tops (own ∷ []))
   kept-own Position q own e kept under h on is =
@@ -137,7 +138,8 @@ module _ (low : ℕ) (done : List Entry) (es : List Earlier) (tops : List Row) (
 
   -- a group, and the rows of its repetitions
   pub kept-group : (o : Offsets) (line : ℕ) (g : Group) (qs : List Parameter) (times : ℕ) (reps : List Row) → Kept o done es tops → low ≤ line
-      → map entryIn reps ≡ replicate times NoValue → OnLine line reps → Kept o (done ++ (repeated line g qs ∷ [])) (es ++ unvalued o times) (tops ++ reps)
+      → map entryIn reps ≡ replicate times NoValue → OnLine line reps
+      → Kept o (done ++ (repeated line g qs ∷ [])) (es ++ unvalued o times) (tops ++ reps)
   kept-group Answered line g qs times reps kept h are on = (λ i. kept i ++ sym are i) ∙ sym (map-append entryIn tops reps)
   kept-group Position line g qs times reps kept h are on =
       let front : slots done (tops ++ reps) ≡ slots done tops = slots-other low line done tops reps passed h on in

@@ -231,7 +231,8 @@ inner-more rs at size n parent w s byte rest =
           (rest .placed tail (omega arith) (λ c u v. clear c u (omega (arith, all))) (rw all at t)));
     }
 
-pub inner-members : (body : List ℕ) (qs : List Parameter) (at : ℕ) (es : List Earlier) (n parent : ℕ) → Inner (members body qs at es n parent) at n parent
+pub inner-members : (body : List ℕ) (qs : List Parameter) (at : ℕ) (es : List Earlier) (n parent : ℕ)
+    → Inner (members body qs at es n parent) at n parent
 unfolding members
 inner-members body [] at es n parent = inner-end at n parent
 inner-members body (q ∷ qs) at es n parent =
@@ -245,7 +246,8 @@ inner-members body (q ∷ qs) at es n parent =
         (onSize s
         (λ size.
         after (paramRows body (fieldOf q) at size n parent)
-        (members body qs (at + size .taken) (es ++ (paramEntry body at (size .taken) ∷ [])) (n + length (paramRows body (fieldOf q) at size n parent)) parent))
+        (members body qs (at + size .taken) (es ++ (paramEntry body at (size .taken) ∷ []))
+        (n + length (paramRows body (fieldOf q) at size n parent)) parent))
         (ended at))
         at n parent
     go (Bytes size) e more =
@@ -375,7 +377,8 @@ outermost-group g w at n a b =
           (b .placed tail (λ c u v. clear c u (omega (arith, all))) (rw all at t)));
     }
 
-pub outermost : (offsets : Offsets) (body : List ℕ) (ds : List Entry) (at : ℕ) (es : List Earlier) (n : ℕ) → Outermost (outer offsets body ds at es n) at n
+pub outermost : (offsets : Offsets) (body : List ℕ) (ds : List Entry) (at : ℕ) (es : List Earlier) (n : ℕ)
+    → Outermost (outer offsets body ds at es n) at n
 unfolding outer groupAt
 outermost offsets body [] at es n = outermost-end at n
 outermost offsets body (single q ∷ ds) at es n = go (sizeAt body (fieldOf q) es at) refl (λ at′ es′ n′. outermost offsets body ds at′ es′ n′)
@@ -399,7 +402,8 @@ outermost offsets body (repeated line g qs ∷ ds) at es n =
     (outermost-repetitions body line qs (repeats (g .offset) (g .mask) (record { 0 = g .shift }) es (length body - at)) 0 at n)
     (λ at′ es′ n′. outermost offsets body ds at′ es′ n′)
   where
-    go : (w : Walked) → Outermost w at n → ((at′ : ℕ) (es′ : List Earlier) (n′ : ℕ) → Outermost (outer offsets body ds at′ es′ n′) at′ n′)
+    go : (w : Walked) → Outermost w at n → ((at′ : ℕ) (es′ : List Earlier) (n′ : ℕ)
+        → Outermost (outer offsets body ds at′ es′ n′) at′ n′)
         → Outermost (after (w .rows) (outer offsets body ds (w .end) (es ++ unvalued offsets (w .times)) (n + length (w .rows)))) at n
     go w o more = outermost-group w _ at n o (more (w .end) (es ++ unvalued offsets (w .times)) (n + length (w .rows)))
 
@@ -481,10 +485,12 @@ cut-repetitions body line qs (suc most) k at n =
       where
         by : (x : Bool) → CutAtEnd (2 + length body) (cond x (after (repetitionRow line at (m .end) k ∷ m .rows)
             (once (repetitions body line qs most (k + 1) (m .end) (n + 1 + length (m .rows))))) (ended at) .rows)
-        by true = cut-append (2 + length body) (repetitionRow line at (m .end) k ∷ m .rows) _ (cut-repetition (2 + length body) line at (m .end) k (m .rows) h) (more m)
+        by true = cut-append (2 + length body) (repetitionRow line at (m .end) k ∷ m .rows) _
+            (cut-repetition (2 + length body) line at (m .end) k (m .rows) h) (more m)
         by false = cut-none (2 + length body)
 
-pub cut-outer : (offsets : Offsets) (body : List ℕ) (ds : List Entry) (at : ℕ) (es : List Earlier) (n : ℕ) → CutAtEnd (2 + length body) (outer offsets body ds at es n .rows)
+pub cut-outer : (offsets : Offsets) (body : List ℕ) (ds : List Entry) (at : ℕ) (es : List Earlier) (n : ℕ)
+    → CutAtEnd (2 + length body) (outer offsets body ds at es n .rows)
 unfolding outer groupAt
 cut-outer offsets body [] at es n = cut-none (2 + length body)
 cut-outer offsets body (single q ∷ ds) at es n = go (sizeAt body (fieldOf q) es at) refl (λ at′ es′ n′. cut-outer offsets body ds at′ es′ n′)

@@ -32,7 +32,8 @@ use Rattle.command_rules.specs.Sum.{childrenOf, Follow, Placed, entryIn,
 use Rattle.command_rules.specs.Limits.{SmallEntries, Lined}
 use Rattle.command_rules.proofs.Lengths.{size-agrees}
 use Rattle.command_rules.proofs.Bounds.{size-facts, walk-inside}
-use Rattle.command_rules.proofs.Sums.{children-append, neither, Leaves, bits-leaves, Shape, shape, param-none, param-one, Inner, inner-members, repetition-one}
+use Rattle.command_rules.proofs.Sums.{children-append, neither, Leaves, bits-leaves, Shape, shape, param-none, param-one, Inner, inner-members}
+use Rattle.command_rules.proofs.Sums.{repetition-one}
 use Rattle.command_rules.proofs.Slots.{OnLine, Under, Passed, under-later, on-under, passed-later, Kept, kept-own, kept-none, kept-group, kept-found}
 use Rattle.command_rules.proofs.Sums.{outermost, follow-sum, cut-outer}
 
@@ -69,7 +70,8 @@ module _ (body : List ℕ) (q : Field) (es : List Earlier) (at : ℕ) (size : Le
       → es ++ (paramEntry body at (size .taken) ∷ []) ≡ map entryIn (childrenOf parent (before ++ paramRows body q at size n parent))
   with-own before h known =
       sym
-      (ap (map entryIn) (children-append parent before (paramRows body q at size n parent) ∙ ap (λ (l : List Row). childrenOf parent before ++ l) (own-child h))
+      (ap (map entryIn) (children-append parent before (paramRows body q at size n parent)
+      ∙ ap (λ (l : List Row). childrenOf parent before ++ l) (own-child h))
       ∙ map-append entryIn (childrenOf parent before) (own ∷ [])
       ∙ ap (λ (l : List Earlier). l ++ (entryIn own ∷ [])) (sym known)
       ∙ ap (λ (e : Earlier). es ++ (e ∷ [])) own-entry)
@@ -177,7 +179,8 @@ module _ (offsets : Offsets) (all : List Entry) where
       (λ at′ es′ n′ before′. met-members body qs at′ es′ n′ parent before′ (λ p i. stand p (List·Memᴰ·tail i)) inner)
     where
       go : (s : Size) → sizeAt body (fieldOf q) es at ≡ s
-          → ((at′ : ℕ) (es′ : List Earlier) (n′ : ℕ) (before′ : List Row) → parent ≤ n′ → es′ ≡ map entryIn (childrenOf parent before′)
+          → ((at′ : ℕ) (es′ : List Earlier) (n′ : ℕ) (before′ : List Row) → parent ≤ n′
+          → es′ ≡ map entryIn (childrenOf parent before′)
           → Met before′ n′ (members body qs at′ es′ n′ parent .rows))
           → Met before n
           (onSize s
@@ -252,7 +255,8 @@ module _ (offsets : Offsets) (all : List Entry) where
   met-repetitions body line qs (suc most) k at n before stand clear =
       go (members body qs at [] (n + 1) (n + 1)) (inner-members body qs at [] (n + 1) (n + 1))
       (λ m is. subst (λ (w : Walked). Met (before ++ (repetitionRow line at (m .end) k ∷ [])) (n + 1) (w .rows)) is
-      (met-members body qs at [] (n + 1) (n + 1) (before ++ (repetitionRow line at (m .end) k ∷ [])) stand (omega arith) (omega arith) (turned-new before line k at n m clear)))
+      (met-members body qs at [] (n + 1) (n + 1) (before ++ (repetitionRow line at (m .end) k ∷ [])) stand (omega arith) (omega arith)
+      (turned-new before line k at n m clear)))
       refl
       (λ m before′ clear′. met-repetitions body line qs most (k + 1) (m .end) (n + 1 + length (m .rows)) before′ stand clear′)
     where

@@ -12,7 +12,8 @@ use Rattle.text.specs.Text.{split, lines, fields, field}
 use Rattle.text.specs.Text as text
 use Rattle.text.specs.Records.{records, onto}
 use Rattle.text.specs.Place.{kindOf}
-use Rattle.command_text.specs.Form.{Record, group, item, Detail, variant, array, bitFlag, bitField, const, bitmask, typeOf, paramFields, groupFields, groupForm}
+use Rattle.command_text.specs.Form.{Record, group, item, Detail, variant, array, bitFlag, bitField, const, bitmask, typeOf, paramFields, groupFields}
+use Rattle.command_text.specs.Form.{groupForm}
 use Rattle.command_text.specs.Form.{variantForm, arrayForm, namedForm, bitsForm, bitmaskForm, ofType, said, paramSaid, form}
 use Rattle.command_text.specs.Form as form
 use Rattle.command_text.specs.Rules.{begins, count}

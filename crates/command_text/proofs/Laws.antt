@@ -17,7 +17,8 @@ use Rattle.text.proofs.Laws.{cells-length}
 use Rattle.text.proofs.Tests.{and-left, and-right, count-of, value-of, optional-value-of}
 use Rattle.command_kept.specs.declared.Form.{Form}
 use Rattle.command_kept.specs.declared.Form.the-variants.{Param, Group, Item, Bad}
-use Rattle.command_text.specs.Form.{Record, group, item, variant, bitField, typeName, types, typeAmong, typeOf, known, paramWords, paramCondition, paramFields}
+use Rattle.command_text.specs.Form.{Record, group, item, variant, bitField, typeName, types, typeAmong, typeOf, known, paramWords, paramCondition}
+use Rattle.command_text.specs.Form.{paramFields}
 use Rattle.command_text.specs.Form.{groupFields, groupForm, variantFields, variantForm, arrayForm, namedForm, bitsFields, bitsForm, bitmaskForm}
 use Rattle.command_text.specs.Form.{groupOf, sizeOf, bitsOf, ofType, said, paramSaid, form}
 use Rattle.command_text.specs.Shape.{tagged, shape}
@@ -47,7 +48,8 @@ module _ (s : List ℕ) (d : ParamType) where
   unfound [] h = refl
   unfound (type ∷ others) h = go (same s (typeName type)) h (unfound others)
     where
-      go : (b : Bool) → suc (length others) ≤ cond b 0 (suc (wordIn (words others) s)) → (length others ≤ wordIn (words others) s → Not ≡ typeAmong others s)
+      go : (b : Bool) → suc (length others) ≤ cond b 0 (suc (wordIn (words others) s))
+          → (length others ≤ wordIn (words others) s → Not ≡ typeAmong others s)
           → Not ≡ cond b (Is type) (typeAmong others s)
       go true h ih = absurd (omega arith)
       go false h ih = ih (omega arith)

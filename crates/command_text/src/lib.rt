@@ -189,7 +189,8 @@ fn read_group(text: &[u8], line: Line) -> Form
 
 fn read_variant(text: &[u8], line: Line) -> Form
     requires { ⌜ Marked (now text) (line .marks) (line .fields) ⌝ }
-    ensures { λ r. ⌜ r ≡ shape (said (variantForm (cells (now (text .entry)) line)) (some (item (variant (sizeOf (cells (now (text .entry)) line)))))) ⌝ }
+    ensures { λ r. ⌜ r ≡ shape (said (variantForm (cells (now (text .entry)) line))
+        (some (item (variant (sizeOf (cells (now (text .entry)) line)))))) ⌝ }
 {
     if line.fields != 5 {
         return Form::Bad;

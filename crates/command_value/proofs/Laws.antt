@@ -30,7 +30,8 @@ module _ (p : List ℕ) (start end : ℕ) where
   between-short l e h = rw e (simp (length-take, length-drop) (omega arith))
 
 -- ---- param_value, bit_value
-pub param-shown : (t p : List ℕ) (r : Row) (ascii : Bool) (name bytes b : List ℕ) (w : Written) (b′ : List ℕ) → Writes (display ascii name bytes) b w b′
+pub param-shown : (t p : List ℕ) (r : Row) (ascii : Bool) (name bytes b : List ℕ) (w : Written) (b′ : List ℕ)
+    → Writes (display ascii name bytes) b w b′
     → ascii ≡ asciiAt t (r .line) → name ≡ constName t (r .named) → bytes ≡ bytesBetween p (r .start) (r .end) → Writes (paramText t p r) b w b′
 unfolding paramText
 param-shown t p r ascii name bytes b w b′ s x y z = rw (x, y, z) at s

@@ -110,7 +110,8 @@ module _ (t : List ℕ) (p₀ : Place) (k : ℕ) (p : Place) (g : Seeking t p₀
         let same : firstAscii k (under (from t p)) ≡ firstAscii k (under (begin .others)) = here e ∙ rw (ne-eqb kind k other) in
         record { readable = follows .readable; so = g .so ∙ same ∙ ap (λ (is : List Item). firstAscii k (under is)) rest }
 
-    pub seek-hit : (r : Read) → IsRead t p r → among 65 82 82 k ≡ true → x ≡ false → kind ≡ k → r .row .ascii ≡ firstAscii k (under (from t p₀))
+    pub seek-hit : (r : Read) → IsRead t p r → among 65 82 82 k ≡ true → x ≡ false → kind ≡ k
+        → r .row .ascii ≡ firstAscii k (under (from t p₀))
     seek-hit r read a e h =
         let z : record { line = p .line; says = begin .said } ∷ begin .others ≡ record { line = p .line; says = read .said } ∷ from t (r .next) =
         sym (begin .lines) ∙ read .lines in

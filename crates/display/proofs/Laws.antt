@@ -104,7 +104,8 @@ module _ (ascii : Bool) (name bytes b : List ℕ) (r : Written) (b′ : List ℕ
   unfolding display
   param-few w e h f = rw (e, eq-eqb (length name) 0 h, le-leb (length bytes) 4 f) w
 
-  pub param-many : Writes (pairs 65 bytes) b r b′ → ascii ≡ false → length name ≡ 0 → 4 < length bytes → Writes (display ascii name bytes) b r b′
+  pub param-many : Writes (pairs 65 bytes) b r b′ → ascii ≡ false → length name ≡ 0 → 4 < length bytes
+      → Writes (display ascii name bytes) b r b′
   unfolding display
   param-many w e h f = rw (e, eq-eqb (length name) 0 h, lt-leb (length bytes) 4 f) w
 

@@ -78,7 +78,8 @@ piece-last b (x ∷ xs) k e = go (eqb x b) (split b xs) refl k e (piece-last b x
 
 -- ---- a line
 -- the bytes of a line's end
-name-bytes : (s l : List ℕ) (m : ℕ) → m ≤ length l → length l ≤ length s → take (length l) s ≡ l → take m (drop (length l - m) s) ≡ drop (length l - m) l
+name-bytes : (s l : List ℕ) (m : ℕ) → m ≤ length l → length l ≤ length s → take (length l) s ≡ l
+    → take m (drop (length l - m) s) ≡ drop (length l - m) l
 name-bytes s l m h fits e =
     let n : length l - m + m ≡ length l = omega arith in
     let parts : take (length l - m) s ++ take m (drop (length l - m) s) ≡ l = sym (rw n at (take-add (length l - m) m s)) ∙ e in
@@ -152,7 +153,8 @@ module _ (t : List ℕ) (p q : Place) (r : Record) (inn : In t p) (within : In t
       go (inr e) = absurd (let z : r ∷ from t q ≡ [] = sym rest-is ∙ ap (records form) e in let w : _≡_ {A = ℕ} 0 1 = cc in omega arith)
 
 -- a line that is read
-pub here-read : (t : List ℕ) (p : Place) (l : Line) (r : Record) → In t p → from t p ≡ r ∷ from t (l .next) → Steps t p l → (l .fields ≡ 0 → ⊥)
+pub here-read : (t : List ℕ) (p : Place) (l : Line) (r : Record) → In t p → from t p ≡ r ∷ from t (l .next) → Steps t p l
+    → (l .fields ≡ 0 → ⊥)
     → Here t p (l .next) r
 here-read t p l r inn rest-is step some-fields = go (first (left t p)) (first-reads (left t p)) (step .says ∙ rw (ne-eqb (l .fields) 0 some-fields) refl)
   where
@@ -172,7 +174,8 @@ module _ (t : List ℕ) (p q : Place) (r : Record) (w : Here t p q r) where
       ≡ placed (headerIn (some r)) (p .at) (length (w .line)) (nameFrom (q .at) (lines (left t q))) k
   names-step k =
       ap (λ (ls : List (List ℕ)). nameFrom (p .at) ls k) (w .lines-are)
-      ∙ ap (λ (x : Option Record). placed (headerIn x) (p .at) (length (w .line)) (nameFrom (p .at + suc (length (w .line))) (lines (left t q))) k) (w .form-is)
+      ∙ ap (λ (x : Option Record). placed (headerIn x) (p .at) (length (w .line)) (nameFrom (p .at + suc (length (w .line))) (lines (left t q))) k)
+      (w .form-is)
       ∙ ap (λ (at : ℕ). placed (headerIn (some r)) (p .at) (length (w .line)) (nameFrom at (lines (left t q))) k) (sym (w .next))
 
   -- another line
@@ -213,7 +216,8 @@ pieces-behind b [] l m ms e = absurd (let z : _≡_ {A = ℕ} 0 1 = cc in omega 
 pieces-behind b (x ∷ xs) l m ms e = go (eqb x b) (split b xs) refl e (λ p. pieces-behind b xs p m ms)
   where
     go : (t : Bool) (qs : List (List ℕ)) → split b xs ≡ qs → cond t ([] ∷ qs) (onto x qs) ≡ l ∷ m ∷ ms
-        → ((p : List ℕ) → split b xs ≡ p ∷ m ∷ ms → split b (drop (suc (length p)) xs) ≡ m ∷ ms) → split b (drop (suc (length l)) (x ∷ xs)) ≡ m ∷ ms
+        → ((p : List ℕ) → split b xs ≡ p ∷ m ∷ ms → split b (drop (suc (length p)) xs) ≡ m ∷ ms)
+        → split b (drop (suc (length l)) (x ∷ xs)) ≡ m ∷ ms
     go true qs q h ih =
         let z : [] ≡ l = cc in
         let w : qs ≡ m ∷ ms = cc in
@@ -262,7 +266,8 @@ module _ (t l m : List ℕ) (ms : List (List ℕ)) (at : ℕ) (e : lines (drop a
   named-line n more (some (set name)) q = named-other n (ap headerIn q) (more h n)
   named-line n more (some (entry key text)) q = named-other n (ap headerIn q) (more h n)
 
-frames-named : (t : List ℕ) (ls : List (List ℕ)) (at : ℕ) → lines (drop at t) ≡ ls → (h n : ℕ) → Every (Named t h at ls) (frames h n (records form ls))
+frames-named : (t : List ℕ) (ls : List (List ℕ)) (at : ℕ) → lines (drop at t) ≡ ls → (h n : ℕ)
+    → Every (Named t h at ls) (frames h n (records form ls))
 frames-named t [] at e h n = tt
 frames-named t (l ∷ []) at e h n = tt
 frames-named t (l ∷ m ∷ ms) at e h n =

@@ -20,7 +20,8 @@ use Rattle.text.proofs.Laws.{cells-length, number-most}
 use Rattle.text.proofs.Tests.{and-left, and-right, count-of}
 use Rattle.frame_kept.specs.declared.Form.{Form}
 use Rattle.frame_kept.specs.declared.Form.the-variants.{Frequency, Base, Header, Param, Validation, Set, Entry, Bad}
-use Rattle.frame_text.specs.Form.{Record, typeName, types, typeAmong, known, typeOf, flags, names, value, frequencyForm, baseForm, headerForm, paramNumbers, paramWords}
+use Rattle.frame_text.specs.Form.{Record, typeName, types, typeAmong, known, typeOf, flags, names, value, frequencyForm, baseForm, headerForm}
+use Rattle.frame_text.specs.Form.{paramNumbers, paramWords}
 use Rattle.frame_text.specs.Form.{paramForm, validationForm, setForm, entryForm, ofType, said, paramSaid, form}
 use Rattle.frame_text.specs.Rules.{isGiven}
 use Rattle.frame_text.specs.Shape.{least, levelOf, tagged, shape}
@@ -50,7 +51,8 @@ module _ (s : List ℕ) (d : ParamType) where
   unfound [] h = refl
   unfound (type ∷ others) h = go (same s (typeName type)) h (unfound others)
     where
-      go : (b : Bool) → suc (length others) ≤ cond b 0 (suc (wordIn (words others) s)) → (length others ≤ wordIn (words others) s → Not ≡ typeAmong others s)
+      go : (b : Bool) → suc (length others) ≤ cond b 0 (suc (wordIn (words others) s))
+          → (length others ≤ wordIn (words others) s → Not ≡ typeAmong others s)
           → Not ≡ cond b (Is type) (typeAmong others s)
       go true h ih = absurd (omega arith)
       go false h ih = ih (omega arith)

@@ -32,7 +32,8 @@ header-stands t d region speed table r table′ p =
     (told-says (definition t) d (length table / rowWidth) (keyOf t region speed) (toldOf t d region speed (length table)) refl))
   where
     go : (v : Verdict) (long short : Bool) (x : Told) → Says (definition t) d (length table / rowWidth) (keyOf t region speed) x
-        → Stands (length table) (judged v (cond long (Refused (TooLong (length d))) (cond short (Refused (TooShort (length d))) (ofTold t (right d speed) x))))
+        → Stands (length table) (judged v (cond long (Refused (TooLong (length d)))
+        (cond short (Refused (TooShort (length d))) (ofTold t (right d speed) x))))
     go (text.Refused y) long short x s = tt
     go text.Accepted true short x s = tt
     go text.Accepted false true x s = tt

@@ -35,7 +35,8 @@ module _ (t : List ℕ) (number start bits : ℕ) where
   unfolding isMask
   mask-bits s h = rw (eq-eqb (start % 8) 0 s, ne-eqb (bits % 8) 0 h)
 
-  pub mask-typed : (x : Typed) (b : Bool) → x ≡ paramType t number → b ≡ isTyped x → start % 8 ≡ 0 → bits % 8 ≡ 0 → b ≡ isMask t number start bits
+  pub mask-typed : (x : Typed) (b : Bool) → x ≡ paramType t number → b ≡ isTyped x → start % 8 ≡ 0 → bits % 8 ≡ 0
+      → b ≡ isMask t number start bits
   unfolding isMask
   mask-typed x b e is s h = rw (eq-eqb (start % 8) 0 s, eq-eqb (bits % 8) 0 h, ← e) is
 
@@ -44,7 +45,8 @@ module _ (t d rows : List ℕ) (k : ℕ) (table : List ℕ) (b : Bool) (is : b �
   pub row-not : b ≡ false → RowNodes t d rows k table (listing.Refused (NoSuchField k)) table
   row-not e = record { answer = rw (← is, e) refl; leaves = refl }
 
-  pub row-lists : (m : List ℕ) (r : Listed) (table′ : List ℕ) → m ≡ take (bitsAt rows k / 8) (drop (startAt rows k / 8) d) → Lists m table r table′ → b ≡ true
+  pub row-lists : (m : List ℕ) (r : Listed) (table′ : List ℕ) → m ≡ take (bitsAt rows k / 8) (drop (startAt rows k / 8) d)
+      → Lists m table r table′ → b ≡ true
       → RowNodes t d rows k table r table′
   row-lists m r table′ part l e = record { answer = rw (← is, e, ← part) (l .answer); leaves = rw (← part) (l .leaves) }
 
@@ -60,7 +62,8 @@ module _ (t d rows : List ℕ) (k : ℕ) (table : List ℕ) (v : Verdict) (is : 
     pub lent-past : length rows / rowWidth ≤ k → LentNodes t d rows k table (listing.Refused (NoSuchField k)) table
     lent-past h = record { answer = rw (accepted, le-leb (length rows / rowWidth) k h) refl; leaves = refl }
 
-    pub lent-row : (r : Listed) (table′ : List ℕ) → RowNodes t d rows k table r table′ → k < length rows / rowWidth → LentNodes t d rows k table r table′
+    pub lent-row : (r : Listed) (table′ : List ℕ) → RowNodes t d rows k table r table′ → k < length rows / rowWidth
+        → LentNodes t d rows k table r table′
     lent-row r table′ l h = record { answer = rw (accepted, lt-leb (length rows / rowWidth) k h) (l .answer); leaves = l .leaves }
 
 pub lent-inside : (rows : List ℕ) (k : ℕ) → k < length rows / rowWidth → k * rowWidth + rowWidth ≤ length rows
@@ -97,12 +100,14 @@ module _ (t d : List ℕ) (region speed : ℕ) (x : Decoded) (rows : List ℕ) (
       pub told-past : h .rows ≤ k → HeaderNodes t d region speed k table (listing.Refused (NoSuchField k)) table
       told-past past = told _ _ (rw (is, le-leb (h .rows) k past) refl) refl
 
-      pub told-row : (r : Listed) (table′ : List ℕ) → RowNodes t d rows k table r table′ → k < h .rows → HeaderNodes t d region speed k table r table′
+      pub told-row : (r : Listed) (table′ : List ℕ) → RowNodes t d rows k table r table′ → k < h .rows
+          → HeaderNodes t d region speed k table r table′
       told-row r table′ l inside = told r table′ (rw (is, lt-leb (h .rows) k inside) (l .answer)) (l .leaves)
 
       pub row-inside : k < h .rows → length rows ≡ 896 → k * rowWidth + rowWidth ≤ length rows
       row-inside inside long =
-          let s : h .rows * rowWidth ≤ 896 = rw (is, length-replicate {A = ℕ} 896 0) at (header-stands t d region speed (replicate {A = ℕ} 896 0) x rows dec) in
+          let s : h .rows * rowWidth ≤ 896 = rw (is, length-replicate {A = ℕ} 896 0) at
+              (header-stands t d region speed (replicate {A = ℕ} 896 0) x rows dec) in
           omega arith
 
 -- ---- header_nodes

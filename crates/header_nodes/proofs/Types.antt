@@ -66,7 +66,8 @@ type-start t k p a e = rw e (record { readable = readable-start rules t _ a refl
 pub type-end : (t : List ℕ) (k : ℕ) (p : Place) (n : ℕ) → Typing t k p n → length t ≤ p .at → Not ≡ paramType t k
 type-end t k p n g e = let q : from t p ≡ [] = rest-end rules t p e in sym (sym (g .so) ∙ rw q)
 
-pub type-over : (t : List ℕ) (k n : ℕ) (p q : Place) → Typing t k p n → p .at < length t → (getD t (p .at) 0 ≡ 80 → ⊥) → Passes t p q → Typing t k q n
+pub type-over : (t : List ℕ) (k n : ℕ) (p q : Place) → Typing t k p n → p .at < length t → (getD t (p .at) 0 ≡ 80 → ⊥) → Passes t p q
+    → Typing t k q n
 type-over t k n p q g inside other pass =
     let o : Over t p q = over-line t p q (g .readable) inside pass in
     record {
@@ -76,7 +77,8 @@ type-over t k n p q g inside other pass =
           ∙ ap (λ (rs : List Record). typeAmong k (params n rs)) (sym (o .rest-is)) ∙ g .so;
     }
 
-pub type-next : (t : List ℕ) (k n : ℕ) (p q : Place) → Typing t k p n → p .at < length t → getD t (p .at) 0 ≡ 80 → (n ≡ k → ⊥) → Passes t p q
+pub type-next : (t : List ℕ) (k n : ℕ) (p q : Place) → Typing t k p n → p .at < length t → getD t (p .at) 0 ≡ 80 → (n ≡ k → ⊥)
+    → Passes t p q
     → Typing t k q (n + 1)
 type-next t k n p q g inside byte other pass =
     let o : Over t p q = over-line t p q (g .readable) inside pass in
@@ -87,7 +89,8 @@ type-next t k n p q g inside byte other pass =
           ∙ ap (λ (rs : List Record). typeAmong k (params n rs)) (sym (o .rest-is)) ∙ g .so;
     }
 
-module _ (t : List ℕ) (k n : ℕ) (p : Place) (l : Line) (g : Typing t k p n) (inside : p .at < length t) (step : Steps t p l) (byte : getD t (p .at) 0 ≡ 80) where
+module _ (t : List ℕ) (k n : ℕ) (p : Place) (l : Line) (g : Typing t k p n) (inside : p .at < length t) (step : Steps t p l)
+    (byte : getD t (p .at) 0 ≡ 80) where
   abbrev found : Lined t p l
   found = lined t p l (g .readable) inside step
 

@@ -50,7 +50,8 @@ places-rise l b (q ∷ qs) = go (ltb (q .says .level) l) (eqb (q .says .level) l
 -- ---- the P line at a place
 module _ (ps : List Numbered) where
   abbrev Makes : ℕ → ℕ → Type 0
-  Makes n l = (j : ℕ) (q : Numbered) (rest : List Numbered) → since ps j ≡ q ∷ rest → q .says .level ≡ l → Holds n ps j (node q (kids n (suc l) rest))
+  Makes n l = (j : ℕ) (q : Numbered) (rest : List Numbered) → since ps j ≡ q ∷ rest → q .says .level ≡ l
+      → Holds n ps j (node q (kids n (suc l) rest))
 
   is-at : (n j l : ℕ) (q : Numbered) (rest : List Numbered) → since ps j ≡ q ∷ rest → IsAt ps j (node q (kids n (suc l) rest))
   is-at n j l q rest e =

@@ -55,7 +55,8 @@ module _ (d : List ℕ) (start bits : ℕ) where
   pub bytes-bits : 64 < bits → start % 8 ≡ 0 → (bits % 8 ≡ 0 → ⊥) → [] ≡ bytesOf d start bits
   bytes-bits h s b = rw (lt-ltb 64 bits h, eq-eqb (start % 8) 0 s, ne-eqb (bits % 8) 0 b)
 
-  pub bytes-are : (l : List ℕ) → l ≡ take (bits / 8) (drop (start / 8) d) → 64 < bits → start % 8 ≡ 0 → bits % 8 ≡ 0 → l ≡ bytesOf d start bits
+  pub bytes-are : (l : List ℕ) → l ≡ take (bits / 8) (drop (start / 8) d) → 64 < bits → start % 8 ≡ 0 → bits % 8 ≡ 0
+      → l ≡ bytesOf d start bits
   bytes-are l e h s b = e ∙ rw (lt-ltb 64 bits h, eq-eqb (start % 8) 0 s, eq-eqb (bits % 8) 0 b)
 
   pub bytes-short : (l : List ℕ) → l ≡ bytesOf d start bits → length d ≤ 2048 → length l ≤ 2048
@@ -68,8 +69,10 @@ module _ (d : List ℕ) (start bits : ℕ) where
 pub ruleset part-laws = (value-is, value-not, bytes-few, bytes-start, bytes-bits, bytes-are, bytes-short)
 
 -- ---- field_value, row_value
-pub field-shown : (t d : List ℕ) (f : Field) (start bits valued v n : ℕ) (symbol bytes : List ℕ) (value : Value) (b : List ℕ) (r : Written) (b′ : List ℕ)
-    → Writes (displayValue symbol (f .kind) value bytes) b r b′ → symbol ≡ symbolText t (heard (λ l. l) t (f .set)) n → bytes ≡ bytesOf d start bits
+pub field-shown : (t d : List ℕ) (f : Field) (start bits valued v n : ℕ) (symbol bytes : List ℕ) (value : Value) (b : List ℕ) (r : Written)
+    (b′ : List ℕ)
+    → Writes (displayValue symbol (f .kind) value bytes) b r b′ → symbol ≡ symbolText t (heard (λ l. l) t (f .set)) n
+    → bytes ≡ bytesOf d start bits
     → value ≡ valueBy valued v → Writes (fieldText t d (some (meant t f)) start bits valued v n) b r b′
 unfolding fieldText
 field-shown t d f start bits valued v n symbol bytes value b r b′ w s y e = rw (s, y, e) at w
@@ -104,7 +107,8 @@ module _ (t d : List ℕ) (region speed : ℕ) (x : Decoded) (rows : List ℕ) (
   mpdu-short : (h : DecodedHeader) → x ≡ Header h → length d ≤ 2048
   mpdu-short h is = go (verdict t) (ltb 2048 (length d)) refl (sym is ∙ dec .answer)
     where
-      go : (v : Verdict) (long : Bool) → ltb 2048 (length d) ≡ long → Header h ≡ judged v (cond long (Refused (TooLong (length d))) (cond (ltb (length d) 2)
+      go : (v : Verdict) (long : Bool) → ltb 2048 (length d) ≡ long
+          → Header h ≡ judged v (cond long (Refused (TooLong (length d))) (cond (ltb (length d) 2)
           (Refused (TooShort (length d))) (ofTold t (right d speed) (toldOf t d region speed (length (replicate {A = ℕ} 896 0)))))) → length d ≤ 2048
       go (text.Refused y) long q e = absurd (let z : _≡_ {A = ℕ} 0 1 = cc in omega arith)
       go text.Accepted true q e = absurd (let z : _≡_ {A = ℕ} 0 1 = cc in omega arith)
@@ -112,7 +116,8 @@ module _ (t d : List ℕ) (region speed : ℕ) (x : Decoded) (rows : List ℕ) (
 
   pub row-stands : (k : ℕ) (h : DecodedHeader) → x ≡ Header h → k < h .rows → length rows ≡ 896 → Stands d rows k
   row-stands k h is inside long =
-      let s : h .rows * rowWidth ≤ 896 = rw (is, length-replicate {A = ℕ} 896 0) at (header-stands t d region speed (replicate {A = ℕ} 896 0) x rows dec) in
+      let s : h .rows * rowWidth ≤ 896 = rw (is, length-replicate {A = ℕ} 896 0) at
+          (header-stands t d region speed (replicate {A = ℕ} 896 0) x rows dec) in
       record { short = mpdu-short h is; row = omega arith }
 
   module _ (k : ℕ) (b : List ℕ) where

@@ -56,13 +56,15 @@ firstSays d [] = d
 firstSays d (p ∷ ps) = p .says
 
 -- the first of them, if it has the number that is sought, is what the next P line of an owner says
-this-number : (t : List ℕ) (p : Place) (fs : List (List ℕ)) (rs : List Record) (k : ℕ) (x : Record) → View fs x → kindOf fs ≡ 80 → from t p ≡ x ∷ rs
+this-number : (t : List ℕ) (p : Place) (fs : List (List ℕ)) (rs : List Record) (k : ℕ) (x : Record) → View fs x → kindOf fs ≡ 80
+    → from t p ≡ x ∷ rs
     → (r : NextParam) → FindsParam t p k r → among k (params k (from t p)) ≡ paramOf t k → FindsNumbered t k r
 this-number t p fs rs k (frequency code key) v h e r f so = absurd (omega (arith, v .kind))
 this-number t p fs rs k (base key) v h e r f so = absurd (omega (arith, v .kind))
 this-number t p fs rs k (header x) v h e r f so = absurd (omega (arith, v .kind))
 this-number t p fs rs k (param x) v h e (At field q) f so =
-    let a : record { number = k; says = x } ∷ params (suc k) (below rs) ≡ record { number = k; says = meant t field } ∷ params (suc k) (below (from t q)) =
+    let a : record { number = k; says = x } ∷ params (suc k) (below rs)
+        ≡ record { number = k; says = meant t field } ∷ params (suc k) (below (from t q)) =
     sym (ap (λ (l : List Record). params k (below l)) e) ∙ f .first in
     let b : x ≡ meant t field = ap (firstSays x) a in
     sym so ∙ ap (λ (l : List Record). among k (params k l)) e ∙ rw (eq-eqb k k refl, b)
@@ -86,7 +88,8 @@ seek-start t k p a e = rw e (record { readable = readable-start rules t _ a refl
 pub seek-end : (t : List ℕ) (k : ℕ) (p : Place) (n : ℕ) → Seeking t k p n → length t ≤ p .at → FindsNumbered t k Nothing
 seek-end t k p n g e = let q : from t p ≡ [] = rest-end rules t p e in sym (g .so) ∙ rw q
 
-pub seek-over : (t : List ℕ) (k n : ℕ) (p q : Place) → Seeking t k p n → p .at < length t → (getD t (p .at) 0 ≡ 80 → ⊥) → Passes t p q → Seeking t k q n
+pub seek-over : (t : List ℕ) (k n : ℕ) (p q : Place) → Seeking t k p n → p .at < length t → (getD t (p .at) 0 ≡ 80 → ⊥) → Passes t p q
+    → Seeking t k q n
 seek-over t k n p q g inside other pass =
     let o : Over t p q = over-line t p q (g .readable) inside pass in
     record {
@@ -96,7 +99,8 @@ seek-over t k n p q g inside other pass =
           ∙ ap (λ (rs : List Record). among k (params n rs)) (sym (o .rest-is)) ∙ g .so;
     }
 
-pub seek-next : (t : List ℕ) (k n : ℕ) (p q : Place) → Seeking t k p n → p .at < length t → getD t (p .at) 0 ≡ 80 → (n ≡ k → ⊥) → Passes t p q
+pub seek-next : (t : List ℕ) (k n : ℕ) (p q : Place) → Seeking t k p n → p .at < length t → getD t (p .at) 0 ≡ 80 → (n ≡ k → ⊥)
+    → Passes t p q
     → Seeking t k q (n + 1)
 seek-next t k n p q g inside byte other pass =
     let o : Over t p q = over-line t p q (g .readable) inside pass in
@@ -107,7 +111,8 @@ seek-next t k n p q g inside byte other pass =
           ∙ ap (λ (rs : List Record). among k (params n rs)) (sym (o .rest-is)) ∙ g .so;
     }
 
-pub seek-hit : (t : List ℕ) (k n : ℕ) (p : Place) (r : NextParam) → Seeking t k p n → FindsParam t p k r → p .at < length t → getD t (p .at) 0 ≡ 80 → n ≡ k
+pub seek-hit : (t : List ℕ) (k n : ℕ) (p : Place) (r : NextParam) → Seeking t k p n → FindsParam t p k r → p .at < length t
+    → getD t (p .at) 0 ≡ 80 → n ≡ k
     → FindsNumbered t k r
 seek-hit t k n p r g f inside byte e =
     let w : (q : Place) × Passes t p q = passing rules t p (g .readable) inside in
@@ -142,7 +147,8 @@ ends-here (validation path v) rs e = absurd (let z : _≡_ {A = ℕ} 0 1 = cc in
 ends-here (set name) rs e = refl
 ends-here (entry key text) rs e = absurd (let z : _≡_ {A = ℕ} 0 1 = cc in omega arith)
 
-no-entry : (x : Record) (rs : List Record) → ownerKind (letter x) ≡ false → (letter x ≡ 69 → ⊥) → entries (below (x ∷ rs)) ≡ entries (below rs)
+no-entry : (x : Record) (rs : List Record) → ownerKind (letter x) ≡ false → (letter x ≡ 69 → ⊥)
+    → entries (below (x ∷ rs)) ≡ entries (below rs)
 no-entry (frequency code key) rs e h = absurd (let z : _≡_ {A = ℕ} 0 1 = cc in omega arith)
 no-entry (base key) rs e h = absurd (let z : _≡_ {A = ℕ} 0 1 = cc in omega arith)
 no-entry (header x) rs e h = absurd (let z : _≡_ {A = ℕ} 0 1 = cc in omega arith)

@@ -90,7 +90,8 @@ fn is_wanted(text: &[u8], fields: &[u64], count: usize, spot: Spot, rows: &[u64]
 
 // The width of a field, or 0 where it is over `left`.
 fn width_of(text: &[u8], fields: &[u64], count: usize, spot: Spot, rows: &[u64], left: u64) -> u64
-    requires { ⌜ (count * lineWidth ≤ length (now fields)) × (spot .place < count) × (spot .rows * scratchWidth ≤ length (now rows)) × (left ≤ 16384) ⌝ }
+    requires { ⌜ (count * lineWidth ≤ length (now fields)) × (spot .place < count) × (spot .rows * scratchWidth ≤ length (now rows))
+        × (left ≤ 16384) ⌝ }
     ensures { λ r.
         ⌜ r ≡ fitting (width (fieldsIn (now (text .entry)) (now (fields .entry)) count) (spot .place) (spot .parent)
         (rowsIn (now (rows .entry)) (spot .rows))) left ⌝ }
@@ -138,7 +139,8 @@ fn extent_of(
     rows: &[u64],
     left: u64,
 ) -> Extent
-    requires { ⌜ (count * lineWidth ≤ length (now fields)) × (spot .place < count) × (spot .rows * scratchWidth ≤ length (now rows)) × (left ≤ 16384) ⌝ }
+    requires { ⌜ (count * lineWidth ≤ length (now fields)) × (spot .place < count) × (spot .rows * scratchWidth ≤ length (now rows))
+        × (left ≤ 16384) ⌝ }
     ensures { λ r.
         ⌜ r ≡ extentOf (fieldsIn (now (text .entry)) (now (fields .entry)) count) (spot .place) (spot .parent) left
         (rowsIn (now (rows .entry)) (spot .rows)) ⌝ }

@@ -78,7 +78,8 @@ counts-all s c r so is-r = is-r ∙ ap answered (so .numbers)
 pub parts : (s : List ℕ) (k : ℕ) (b : Span) → IsBody s k b → ToldBody s k (record { start = b .start .0; length = b .end .0 - b .start .0 })
 parts s k b body = record { answer = rw (body .is) refl; inside = omega (arith, body .ordered, body .inside) }
 
-pub framed-row : (f : PtiFrame) (d rssi beams : ℕ) (target : TapTarget) → d ≡ directionNumber (f .direction) → rssi ≡ ofZ w8 (toZ w8 (ofZ w8 (f .rssi)))
+pub framed-row : (f : PtiFrame) (d rssi beams : ℕ) (target : TapTarget) → d ≡ directionNumber (f .direction)
+    → rssi ≡ ofZ w8 (toZ w8 (ofZ w8 (f .rssi)))
     → mag (f .rssi) < 2 ^ hbits w8 → beams ≡ beamsNumber (f .beams) → target ≡ aimed (targetNumbers (f .target))
     → record {
       refusal = 0;

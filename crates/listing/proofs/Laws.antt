@@ -65,7 +65,8 @@ same-yes : (k : ℕ) → orYes k ≡ Yes → k ≡ 0
 same-yes zero e = refl
 same-yes (suc k) e = absurd (let z : _≡_ {A = ℕ} 0 1 = cc in omega arith)
 
-same-base : (key : ℕ) (t : List ℕ) (a b : Base) → firstBase key (definition t .bases) ≡ some a → firstBase key (definition t .bases) ≡ some b → a ≡ b
+same-base : (key : ℕ) (t : List ℕ) (a b : Base) → firstBase key (definition t .bases) ≡ some a → firstBase key (definition t .bases) ≡ some b
+    → a ≡ b
 same-base key t a b p q = let e : some a ≡ some b = sym p ∙ q in cc
 
 some-none : {A : Type 0} (o : Option A) (a : A) → o ≡ some a → o ≡ none → ⊥
@@ -146,7 +147,8 @@ module _ (t d : List ℕ) (key own-number count : ℕ) (table : List ℕ) (own :
   named-own : named (own .one .number) cs ≡ some (own .one)
   named-own = named-at t key (own .first .front) (own .one) (own .first .back) (own .first .place)
 
-  pub beside-wrong : (l : List ℕ) (x : Form) (k : ℕ) → x ≡ formOf 1 (lines l) → x ≡ Wrong k → ByForm t d key l (formOf 1 (lines l)) (Refused (Listing k))
+  pub beside-wrong : (l : List ℕ) (x : Form) (k : ℕ) → x ≡ formOf 1 (lines l) → x ≡ Wrong k
+      → ByForm t d key l (formOf 1 (lines l)) (Refused (Listing k))
   beside-wrong l x k e q = rw (sym e ∙ q) refl
 
   module _ (l : List ℕ) (x : Form) (number last : ℕ) (is-form : x ≡ formOf 1 (lines l)) (names : x ≡ Names number last) where
@@ -282,7 +284,8 @@ writes-refused t d region speed b table r table′ x c size q =
           (let z : header.Refused x ≡ header.Header h = sym is ∙ e in let w : _≡_ {A = ℕ} 0 1 = cc in omega arith);
     }
 
-pub writes-own : (t d : List ℕ) (region speed : ℕ) (b table : List ℕ) (r : Decoded) (table′ : List ℕ) (h : DecodedHeader) (x : Written) (b′ : List ℕ)
+pub writes-own : (t d : List ℕ) (region speed : ℕ) (b table : List ℕ) (r : Decoded) (table′ : List ℕ) (h : DecodedHeader) (x : Written)
+    (b′ : List ℕ)
     → Decodes t d region speed table r table′ → length table ≡ room → r ≡ header.Header h
     → WritesRows (closed (rowsIn (h .rows) table′) (h .number)) b x b′
     → Writes t d region speed b x b′

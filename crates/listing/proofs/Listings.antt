@@ -61,7 +61,8 @@ module _ (t d : List ℕ) (region speed : ℕ) where
   own-yes b x b′ n w e r j = go (decoded t d region speed room) refl
     where
       go : (y : Decoded) → decoded t d region speed room ≡ y → r ≡ Yes
-      go (header.Refused y) q = absurd (let z : written.Length n ≡ written.Refused y = sym e ∙ w .refused y q .0 in let u : _≡_ {A = ℕ} 0 1 = cc in omega arith)
+      go (header.Refused y) q = absurd (let z : written.Length n ≡ written.Refused y = sym e ∙ w .refused y q .0 in let u : _≡_ {A = ℕ} 0 1 = cc in
+          omega arith)
       go (header.Header h) q =
           let own = owns t d region speed h q in
           let g = w .written h q (own .base) (own .base-is) (own .one) (own .fields) (own .first) in
@@ -71,17 +72,20 @@ module _ (t d : List ℕ) (region speed : ℕ) where
           (own .one, own .fields, own .first, l-is)
 
   -- R12: a length that is answered is within the buffer
-  pub written-within : (b : List ℕ) (x : Written) (b′ : List ℕ) (n : ℕ) → Writes t d region speed b x b′ → x ≡ written.Length n → n ≤ length b
+  pub written-within : (b : List ℕ) (x : Written) (b′ : List ℕ) (n : ℕ) → Writes t d region speed b x b′ → x ≡ written.Length n
+      → n ≤ length b
   written-within b x b′ n w e = go (decoded t d region speed room) refl
     where
       go : (y : Decoded) → decoded t d region speed room ≡ y → n ≤ length b
-      go (header.Refused y) q = absurd (let z : written.Length n ≡ written.Refused y = sym e ∙ w .refused y q .0 in let u : _≡_ {A = ℕ} 0 1 = cc in omega arith)
+      go (header.Refused y) q = absurd (let z : written.Length n ≡ written.Refused y = sym e ∙ w .refused y q .0 in let u : _≡_ {A = ℕ} 0 1 = cc in
+          omega arith)
       go (header.Header h) q =
           let own = owns t d region speed h q in
           given-within _ b x b′ n (w .written h q (own .base) (own .base-is) (own .one) (own .fields) (own .first) .gives) e
 
   -- LS7: what gets yes is the listing of the first candidate that holds
-  yes-own : (l : List ℕ) (r : Judgement) → Judges t d region speed l r → r ≡ Yes → (h : DecodedHeader) → decoded t d region speed room ≡ header.Header h
+  yes-own : (l : List ℕ) (r : Judgement) → Judges t d region speed l r → r ≡ Yes → (h : DecodedHeader)
+      → decoded t d region speed room ≡ header.Header h
       → (own : Own t d (keyOf t region speed) (h .number) (h .rows) (filled t d region speed h))
       → l ≡ listingOf (tableOf 7 d (definition t .sets) (own .fields)) (own .one .number)
   yes-own l r j y h q own = go (formOf 1 (lines l)) refl

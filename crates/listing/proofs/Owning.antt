@@ -130,7 +130,8 @@ owns t d region speed h q =
     (ap (λ (k : ℕ). tableAfter fresh (toldOf t d region speed k) (Header h)) (sym n))) refl n
 
 -- R8 does not come: the table has rows enough
-pub never-eight : (t d : List ℕ) (region speed : ℕ) (x : Refusal) → Within t d → decoded t d region speed room ≡ Refused x → numberOf x ≡ 8 → ⊥
+pub never-eight : (t d : List ℕ) (region speed : ℕ) (x : Refusal) → Within t d → decoded t d region speed room ≡ Refused x → numberOf x ≡ 8
+    → ⊥
 never-eight t d region speed x w q e =
     let n : length fresh ≡ room = length-replicate {A = ℕ} room 0 in
     decodes t d region speed fresh (Refused x) fresh (sym q ∙ ap (decoded t d region speed) (sym n)) refl .by-readings w .enough (omega arith) e

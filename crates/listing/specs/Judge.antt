@@ -56,7 +56,8 @@ pub record Against (def : Definition) (d : List ℕ) (key : ℕ) (b : Base) (l :
 -- LS4: what `judge_listing` answers: first as the header's call refuses, then by the listing's form, then by its lines
 pub record Judges (t d : List ℕ) (region speed : ℕ) (l : List ℕ) (r : Judgement) : Type 0 where
   pub refused : (x : Refusal) → decoded t d region speed room ≡ header.Refused x → r ≡ Refused x
-  pub wrong : (h : DecodedHeader) (k : ℕ) → decoded t d region speed room ≡ header.Header h → formOf 1 (lines l) ≡ Wrong k → r ≡ Refused (Listing k)
+  pub wrong : (h : DecodedHeader) (k : ℕ) → decoded t d region speed room ≡ header.Header h → formOf 1 (lines l) ≡ Wrong k
+      → r ≡ Refused (Listing k)
   pub judged : (h : DecodedHeader) (number last : ℕ) → decoded t d region speed room ≡ header.Header h → formOf 1 (lines l) ≡ Names number last
       → (b : Base) → firstBase (keyOf t region speed) (definition t .bases) ≡ some b
       → Against (definition t) d (keyOf t region speed) b l number last r

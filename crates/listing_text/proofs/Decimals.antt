@@ -95,7 +95,8 @@ digits-same (suc k) (suc m) n h g = go (ltb n 10) refl (digits-same k m (n / 10)
     parts = div-add-mod' n 10
 
     go : (b : Bool) → ltb n 10 ≡ b → (n / 10 < k → n / 10 < m → digitsIn k (n / 10) ≡ digitsIn m (n / 10))
-        → cond b ((48 + n) ∷ []) (digitsIn k (n / 10) ++ ((48 + n % 10) ∷ [])) ≡ cond b ((48 + n) ∷ []) (digitsIn m (n / 10) ++ ((48 + n % 10) ∷ []))
+        → cond b ((48 + n) ∷ []) (digitsIn k (n / 10) ++ ((48 + n % 10) ∷ []))
+        ≡ cond b ((48 + n) ∷ []) (digitsIn m (n / 10) ++ ((48 + n % 10) ∷ []))
     go true q ih = refl
     go false q ih =
         let l : 10 ≤ n = ltb-false n 10 q in

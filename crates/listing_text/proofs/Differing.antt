@@ -135,7 +135,8 @@ module _ (listing rows : List ℕ) (count number at k : ℕ) (w : Comparing list
     pub comparing-end : at + n ≤ length listing
     comparing-end = omega (arith, p .within, size, w .within)
 
-pub slice-some : (rows : List ℕ) (k : ℕ) → (k + 1) * rowWidth ≤ length rows → 1 ≤ length (take (k * rowWidth + rowWidth - k * rowWidth) (drop (k * rowWidth) rows))
+pub slice-some : (rows : List ℕ) (k : ℕ) → (k + 1) * rowWidth ≤ length rows
+    → 1 ≤ length (take (k * rowWidth + rowWidth - k * rowWidth) (drop (k * rowWidth) rows))
 slice-some rows k h =
     let s : k * rowWidth + rowWidth - k * rowWidth ≡ rowWidth = omega arith in
     rw s (omega (arith, length-take-le rowWidth (drop (k * rowWidth) rows) (omega (arith, length-drop (k * rowWidth) rows))))

@@ -95,7 +95,8 @@ module _ (s : List ℕ) (at more : ℕ) (w : Counting s at more) (some : 0 < mor
             within = omega (arith, w .within);
             so = counts (fields (drop (e + 1) rest)) (further-field l h)
                 ∙ ap (λ (t : Bool). t && numbersIn (more - 1) (fields (drop (e + 1) rest))) number
-                ∙ ap (λ (l : List ℕ). numbersIn (more - 1) (fields l)) (ap (drop (e + 1)) left ∙ drop-drop (e + 1) at s ∙ ap (λ (k : ℕ). drop k s) d);
+                ∙ ap (λ (l : List ℕ). numbersIn (more - 1) (fields l))
+                (ap (drop (e + 1)) left ∙ drop-drop (e + 1) at s ∙ ap (λ (k : ℕ). drop k s) d);
           }
 
 -- ---- the last line
@@ -162,7 +163,8 @@ module _ (listing : List ℕ) (p : Place) (w : Forming listing p) (e : ℕ)
         ∙ ap (λ (k : ℕ). take k text ∷ lines (drop (k + 1) text)) (sym is-cut)
         ∙ ap (λ (z : List ℕ). take e text ∷ lines z)
         (ap (drop (e + 1)) text-is ∙ drop-drop (e + 1) (p .at) listing ∙ ap (λ (k : ℕ). drop k listing) d) in
-        w .so ∙ ap (formOf (p .line)) s ∙ (form-line (p .line) (take e text) (lines (drop (p .at + e + 1) listing)) (split-some 10 (drop (p .at + e + 1) listing)))
+        w .so ∙ ap (formOf (p .line)) s ∙ (form-line (p .line) (take e text) (lines (drop (p .at + e + 1) listing))
+            (split-some 10 (drop (p .at + e + 1) listing)))
 
     pub forming-last : (r : Form) → p .at + e + 1 ≡ length listing → r ≡ lastOf (p .line) (take e text) → r ≡ formOf 1 (lines listing)
     forming-last r n q = q ∙ sym (here ∙ rw (done listing (p .at + e + 1) (omega arith)) refl)

@@ -27,7 +27,8 @@ module _ (n stop : ℕ) (line : List ℕ) (at : ℕ) (r : Digits) (shows : Shows
       → PutsNumber n stop line at (at + (20 - r .start) + 1) (set line₁ (at + (20 - r .start)) stop)
   number-put line₁ e =
       let is : line₁ ≡ sets line at (shown n) =
-      e ∙ ap (put line at) (ap (λ (k : ℕ). take (k - r .start) (drop (r .start) (r .bytes))) (sym (shows .size)) ∙ tail (r .bytes) (r .start) ∙ shows .says)
+      e ∙ ap (put line at) (ap (λ (k : ℕ). take (k - r .start) (drop (r .start) (r .bytes))) (sym (shows .size)) ∙ tail (r .bytes) (r .start)
+          ∙ shows .says)
       ∙ (put-room line (shown n) at (omega (arith, long))) in
       record {
         says = rw (is, ← long) (sym (sets-append line at (shown n) (stop ∷ [])));
@@ -110,15 +111,18 @@ lining-done numbers line₀ line at i w h seven =
     }
 
 -- ---- a line in a buffer
-pub line-front : (numbers line₀ : List ℕ) (n : ℕ) (line : List ℕ) → Writes numbers line₀ n line → length line₀ ≡ rowWidth * 21 → take n line ≡ lineOf numbers
+pub line-front : (numbers line₀ : List ℕ) (n : ℕ) (line : List ℕ) → Writes numbers line₀ n line → length line₀ ≡ rowWidth * 21
+    → take n line ≡ lineOf numbers
 line-front numbers line₀ n line w size =
     let room : 0 + length (lineOf numbers) ≤ length line₀ = omega (arith, w .count, w .few) in
     rw (w .says, sets-eq (lineOf numbers) line₀ 0 room) (take-at (lineOf numbers) _ n (sym (w .count)))
 
-pub line-count : (numbers line₀ : List ℕ) (n : ℕ) (line : List ℕ) → Writes numbers line₀ n line → length line ≡ rowWidth * 21 → n ≡ length (take n line)
+pub line-count : (numbers line₀ : List ℕ) (n : ℕ) (line : List ℕ) → Writes numbers line₀ n line → length line ≡ rowWidth * 21
+    → n ≡ length (take n line)
 line-count numbers line₀ n line w size = sym (length-take-le n line (omega (arith, w .few)))
 
-pub line-put : (numbers line₀ : List ℕ) (n : ℕ) (line b : List ℕ) (at : ℕ) (b′ : List ℕ) → Writes numbers line₀ n line → length line₀ ≡ rowWidth * 21
+pub line-put : (numbers line₀ : List ℕ) (n : ℕ) (line b : List ℕ) (at : ℕ) (b′ : List ℕ) → Writes numbers line₀ n line
+    → length line₀ ≡ rowWidth * 21
     → b′ ≡ put b at (take n line)
     → Puts numbers b at (at + n) b′
 line-put numbers line₀ n line b at b′ w size e =
@@ -177,7 +181,8 @@ module _ (rows : List ℕ) (count number : ℕ) (b₀ b : List ℕ) (at k : ℕ)
         small = λ m. w .small (rw e (q .small, m));
       }
 
-  pub filling-done : (r : ℕ) (b′ : List ℕ) → Puts (number ∷ []) b at r b′ → count ≤ k → PutsAll (closed (rowsIn count rows) number) b₀ r b′
+  pub filling-done : (r : ℕ) (b′ : List ℕ) → Puts (number ∷ []) b at r b′ → count ≤ k
+      → PutsAll (closed (rowsIn count rows) number) b₀ r b′
   filling-done r b′ p h =
       let e = rows-none rows count k h in
       let n : at + length (textOf ((number ∷ []) ∷ [])) ≡ length (textOf (closed (rowsIn count rows) number)) = rw e at (w .total) in
@@ -187,7 +192,8 @@ module _ (rows : List ℕ) (count number : ℕ) (b₀ b : List ℕ) (at k : ℕ)
         small = w .small (rw e (p .small, tt));
       }
 
-pub slice-seven : (rows : List ℕ) (k : ℕ) → (k + 1) * rowWidth ≤ length rows → length (take (k * rowWidth + rowWidth - k * rowWidth) (drop (k * rowWidth) rows)) ≤ rowWidth
+pub slice-seven : (rows : List ℕ) (k : ℕ) → (k + 1) * rowWidth ≤ length rows
+    → length (take (k * rowWidth + rowWidth - k * rowWidth) (drop (k * rowWidth) rows)) ≤ rowWidth
 slice-seven rows k h =
     let s : k * rowWidth + rowWidth - k * rowWidth ≡ rowWidth = omega arith in
     let n : length (drop (k * rowWidth) rows) ≡ length rows - k * rowWidth = length-drop (k * rowWidth) rows in

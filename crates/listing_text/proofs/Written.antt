@@ -158,5 +158,6 @@ differs-same n (r ∷ rs) s h e = go (begins (lineOf r) s) refl e (differs-same 
         → (differs (n + 1) rs (drop (length (lineOf r)) s) ≡ 0 → drop (length (lineOf r)) s ≡ textOf rs) → s ≡ lineOf r ++ textOf rs
     go true q z ih =
         let f : take (length (lineOf r)) s ≡ lineOf r = same-is (take (length (lineOf r)) s) (lineOf r) q in
-        sym (take-append-drop (length (lineOf r)) s) ∙ ap (λ (l : List ℕ). l ++ drop (length (lineOf r)) s) f ∙ ap (λ (l : List ℕ). lineOf r ++ l) (ih z)
+        sym (take-append-drop (length (lineOf r)) s) ∙ ap (λ (l : List ℕ). l ++ drop (length (lineOf r)) s) f
+            ∙ ap (λ (l : List ℕ). lineOf r ++ l) (ih z)
     go false q z ih = absurd (omega arith)

@@ -13,11 +13,13 @@ use Rattle.listing.specs.declared.Written.the-variants.{Length}
 use Rattle.listing.proofs.Listings.{written-within}
 
 -- the bytes of a listing that was written stand in the buffer
-pub written-inside : (t d : List ℕ) (region speed : ℕ) (b : List ℕ) (x : Written) (b′ : List ℕ) (n : ℕ) → Writes t d region speed b x b′ → x ≡ Length n
+pub written-inside : (t d : List ℕ) (region speed : ℕ) (b : List ℕ) (x : Written) (b′ : List ℕ) (n : ℕ) → Writes t d region speed b x b′
+    → x ≡ Length n
     → length b′ ≡ length b → n ≤ length b′
 written-inside t d region speed b x b′ n w e same = subst (λ (k : ℕ). n ≤ k) (sym same) (written-within t d region speed b x b′ n w e)
 
-pub written-count : (t d : List ℕ) (region speed : ℕ) (b : List ℕ) (x : Written) (b′ : List ℕ) (n : ℕ) → Writes t d region speed b x b′ → x ≡ Length n
+pub written-count : (t d : List ℕ) (region speed : ℕ) (b : List ℕ) (x : Written) (b′ : List ℕ) (n : ℕ) → Writes t d region speed b x b′
+    → x ≡ Length n
     → length b′ ≡ length b → n ≡ length (take n b′)
 written-count t d region speed b x b′ n w e same =
     sym (length-take-le n b′ (written-inside t d region speed b x b′ n w e same))

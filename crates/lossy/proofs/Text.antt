@@ -37,7 +37,8 @@ ill-one x xs e = piece x xs ∙ ap (λ (b : Bool). cond b (take (cut (x ∷ xs) 
 -- a well-formed sequence is left as it is
 pub well-same : (x : ℕ) (xs : List ℕ) → cut (x ∷ xs) .well ≡ true
     → replaced (x ∷ xs) ≡ take (cut (x ∷ xs) .size) (x ∷ xs) ++ replaced (drop (cut (x ∷ xs) .size) (x ∷ xs))
-well-same x xs e = piece x xs ∙ ap (λ (b : Bool). cond b (take (cut (x ∷ xs) .size) (x ∷ xs)) mark ++ replaced (drop (cut (x ∷ xs) .size) (x ∷ xs))) e
+well-same x xs e = piece x xs ∙ ap (λ (b : Bool). cond b (take (cut (x ∷ xs) .size) (x ∷ xs)) mark ++ replaced
+    (drop (cut (x ∷ xs) .size) (x ∷ xs))) e
 
 -- ---- well-formed text comes through unchanged
 drop-seam : (p l : List ℕ) → passing (p ++ l) (length p) ≡ replaced l
@@ -95,7 +96,8 @@ passing-length [] k = omega arith
 passing-length (x ∷ xs) (suc k) = omega (arith, passing-length xs k)
 passing-length (x ∷ xs) zero =
     let h : Sized (x ∷ xs) = cut-sized x xs in
-    let w : length (first (x ∷ xs)) ≤ 3 * cut (x ∷ xs) .size = rw (first-length x xs) (width-le (cut (x ∷ xs) .well) (cut (x ∷ xs) .size) (h .some-size)) in
+    let w : length (first (x ∷ xs)) ≤ 3 * cut (x ∷ xs) .size =
+        rw (first-length x xs) (width-le (cut (x ∷ xs) .well) (cut (x ∷ xs) .size) (h .some-size)) in
     let i : length (passing xs (cut (x ∷ xs) .size - 1)) ≤ 3 * (length xs - (cut (x ∷ xs) .size - 1)) = passing-length xs (cut (x ∷ xs) .size - 1) in
     let a : length (first (x ∷ xs) ++ passing xs (cut (x ∷ xs) .size - 1)) ≡ length (first (x ∷ xs)) + length (passing xs (cut (x ∷ xs) .size - 1)) =
     length-append (first (x ∷ xs)) (passing xs (cut (x ∷ xs) .size - 1)) in

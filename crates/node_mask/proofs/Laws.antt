@@ -31,9 +31,12 @@ module _ (l : List ℕ) (at a b c d : ℕ) (first : a ≡ getD l at 0 % 256) (se
       let s2 : suc (at + 2) ≡ at + 3 = omega arith in
       let s3 : suc (at + 3) ≡ at + 4 = omega arith in
       let d0 : drop at l ≡ getD l at 0 ∷ drop (at + 1) l = rw add-one (drop-cons l at 0 (omega arith)) in
-      let d1 : drop (at + 1) l ≡ getD l (at + 1) 0 ∷ drop (at + 2) l = drop-cons l (at + 1) 0 (omega arith) ∙ ap (λ (x : ℕ). getD l (at + 1) 0 ∷ drop x l) s1 in
-      let d2 : drop (at + 2) l ≡ getD l (at + 2) 0 ∷ drop (at + 3) l = drop-cons l (at + 2) 0 (omega arith) ∙ ap (λ (x : ℕ). getD l (at + 2) 0 ∷ drop x l) s2 in
-      let d3 : drop (at + 3) l ≡ getD l (at + 3) 0 ∷ drop (at + 4) l = drop-cons l (at + 3) 0 (omega arith) ∙ ap (λ (x : ℕ). getD l (at + 3) 0 ∷ drop x l) s3 in
+      let d1 : drop (at + 1) l ≡ getD l (at + 1) 0 ∷ drop (at + 2) l = drop-cons l (at + 1) 0 (omega arith)
+          ∙ ap (λ (x : ℕ). getD l (at + 1) 0 ∷ drop x l) s1 in
+      let d2 : drop (at + 2) l ≡ getD l (at + 2) 0 ∷ drop (at + 3) l = drop-cons l (at + 2) 0 (omega arith)
+          ∙ ap (λ (x : ℕ). getD l (at + 2) 0 ∷ drop x l) s2 in
+      let d3 : drop (at + 3) l ≡ getD l (at + 3) 0 ∷ drop (at + 4) l = drop-cons l (at + 3) 0 (omega arith)
+          ∙ ap (λ (x : ℕ). getD l (at + 3) 0 ∷ drop x l) s3 in
       rw (d0, d1, d2, d3) (omega arith)
 
   pub half-lt : a + b * 256 + (c + d * 256) * 65536 < 2 ^ 32
@@ -47,7 +50,8 @@ little-halves (a ∷ b ∷ []) = omega arith
 little-halves (a ∷ b ∷ c ∷ []) = omega arith
 little-halves (a ∷ b ∷ c ∷ d ∷ l) = omega arith
 
-pub whole-word : (l : List ℕ) (x y : ℕ) → x ≡ little (take 4 (drop 0 l)) → y ≡ little (take 4 (drop 4 l)) → length l ≤ 8 → x + y * 4294967296 ≡ little l
+pub whole-word : (l : List ℕ) (x y : ℕ) → x ≡ little (take 4 (drop 0 l)) → y ≡ little (take 4 (drop 4 l)) → length l ≤ 8
+    → x + y * 4294967296 ≡ little l
 whole-word l x y low high h =
     let all : take 4 (drop 4 l) ≡ drop 4 l = take-all 4 (drop 4 l) (omega (arith, length-drop 4 l)) in
     rw (low, high, all) (sym (little-halves l))
@@ -221,7 +225,8 @@ module _ (m t₀ t : List ℕ) (at i : ℕ) (g : Laying m t₀ t at i) where
       let a : at + n ≤ length m = omega (arith, g .inside) in
       omega (arith, g .count, g .room, g .same, split-length m at n a)
 
-  pub lay-more : (n r : ℕ) (t′ : List ℕ) → r ≡ i + length (nodesIn m at n) → t′ ≡ sets t i (nodesIn m at n) → n ≤ length m - at → Laying m t₀ t′ (at + n) r
+  pub lay-more : (n r : ℕ) (t′ : List ℕ) → r ≡ i + length (nodesIn m at n) → t′ ≡ sets t i (nodesIn m at n) → n ≤ length m - at
+      → Laying m t₀ t′ (at + n) r
   lay-more n r t′ is e l =
       let a : at + n ≤ length m = omega (arith, g .inside) in
       record {
@@ -236,7 +241,8 @@ module _ (m t₀ t : List ℕ) (at i : ℕ) (g : Laying m t₀ t at i) where
   lay-done h = rw (none m at h) at (g .rows)
 
 -- ---- mask_nodes
-pub put-all : (m t : List ℕ) (n : ℕ) (t′ : List ℕ) → t′ ≡ sets t 0 (nodesOf m) → n ≡ length (nodesOf m) → length m ≤ 8191 → n ≤ length t
+pub put-all : (m t : List ℕ) (n : ℕ) (t′ : List ℕ) → t′ ≡ sets t 0 (nodesOf m) → n ≡ length (nodesOf m) → length m ≤ 8191
+    → n ≤ length t
     → Lists m t (Nodes n) t′
 put-all m t n t′ is e short room =
     let z : 0 + length (nodesOf m) ≡ length (nodesOf m) = omega arith in
@@ -249,7 +255,8 @@ put-all m t n t′ is e short room =
 
 pub too-short : (m t : List ℕ) (n : ℕ) → n ≡ length (nodesOf m) → length m ≤ 8191 → length t < n → Lists m t (Refused (MoreRows n)) t
 too-short m t n e short h =
-    record { answer = rw (le-ltb 8191 (length m) short, lt-ltb (length t) (length (nodesOf m)) (omega arith), e); leaves = refl; lists = nodes-address m; most = most m }
+    record { answer = rw (le-ltb 8191 (length m) short, lt-ltb (length t) (length (nodesOf m)) (omega arith), e); leaves = refl; lists = nodes-address m;
+        most = most m }
 
 pub too-long : (m t : List ℕ) → 8191 < length m → Lists m t (Refused (TooLong (length m))) t
 too-long m t h = record { answer = rw (lt-ltb 8191 (length m) h); leaves = refl; lists = nodes-address m; most = most m }

@@ -65,7 +65,8 @@ unfolding nodesFrom
 inside m j i zero l h = absurd (omega arith)
 inside m j i (suc n) l h = go (decLe (suc i) j) (λ s. inside m j (i + 1) n (omega arith) (omega arith))
   where
-    past : (d : ℕ) → i < j → has (suc j) (nodesFrom m (i + 1) n) ≡ eqb (bitAt m j) 1 → has (suc j) (put d (i + 1) (nodesFrom m (i + 1) n)) ≡ eqb (bitAt m j) 1
+    past : (d : ℕ) → i < j → has (suc j) (nodesFrom m (i + 1) n) ≡ eqb (bitAt m j) 1
+        → has (suc j) (put d (i + 1) (nodesFrom m (i + 1) n)) ≡ eqb (bitAt m j) 1
     past zero s e = e
     past (suc d) s e = rw (ne-eqb (suc j) (i + 1) (omega arith)) e
 
@@ -73,7 +74,8 @@ inside m j i (suc n) l h = go (decLe (suc i) j) (λ s. inside m j (i + 1) n (ome
     here zero s e = low-none (suc j) (i + 1) (nodesFrom m (i + 1) n) (omega arith) (nodes-rising m (i + 1) n)
     here (suc d) s e = let z : d ≡ 0 = omega arith in rw (eq-eqb (suc j) (i + 1) (omega arith), z)
 
-    go : Dec (i < j) → (i < j → has (suc j) (nodesFrom m (i + 1) n) ≡ eqb (bitAt m j) 1) → has (suc j) (put (bitAt m i) (i + 1) (nodesFrom m (i + 1) n)) ≡ eqb (bitAt m j) 1
+    go : Dec (i < j) → (i < j → has (suc j) (nodesFrom m (i + 1) n) ≡ eqb (bitAt m j) 1)
+        → has (suc j) (put (bitAt m i) (i + 1) (nodesFrom m (i + 1) n)) ≡ eqb (bitAt m j) 1
     go (yes s) ih = past (bitAt m i) s (ih s)
     go (no s) ih = let e : i ≡ j = omega arith in here (bitAt m i) (omega arith) e ∙ rw e
 

@@ -93,7 +93,8 @@ fn node_of(at: usize, bit: usize) -> u16
 
 // Writes the nodes of the n bytes from `at` on, the first as entry `first`. Says where the next entry stands.
 fn put_word(mask: &[u8], at: usize, n: usize, nodes: &mut [u16], first: usize) -> usize
-    requires { ⌜ (length (now mask) ≤ 8191) × (at + n ≤ length (now mask)) × (n ≤ 8) × (first + length (nodesIn (now mask) at n) ≤ length (now nodes)) ⌝ }
+    requires { ⌜ (length (now mask) ≤ 8191) × (at + n ≤ length (now mask)) × (n ≤ 8)
+        × (first + length (nodesIn (now mask) at n) ≤ length (now nodes)) ⌝ }
     ensures { λ r. ⌜ (r ≡ first + length (nodesIn (now (mask .entry)) at n))
         × (now (nodes .exit) ≡ sets (now (nodes .entry)) first (nodesIn (now (mask .entry)) at n)) ⌝ }
 {

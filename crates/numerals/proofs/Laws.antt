@@ -49,7 +49,8 @@ pub record Spelling (base ten least n : ℕ) (out : List ℕ) (at rest left : �
   pub few : left ≤ at - 2
   pub text : spelled base ten (at - 2) left rest ++ drop at out ≡ spelled base ten 20 least n
 
-pub spell-start : (base ten least n : ℕ) (out : List ℕ) → length out ≡ 22 → n < base ^ 20 → least ≤ 20 → Spelling base ten least n out 22 n least
+pub spell-start : (base ten least n : ℕ) (out : List ℕ) → length out ≡ 22 → n < base ^ 20 → least ≤ 20
+    → Spelling base ten least n out 22 n least
 spell-start base ten least n out l s f =
     record { low = omega arith; all = l; within = omega arith; small = s; few = f; text = rw (done out 22 (omega arith)) (append-nil _) }
 
@@ -111,7 +112,8 @@ pub hex-fits : (n : ℕ) → n < 2 ^ 64 → n < 16 ^ 20
 hex-fits n h = omega arith
 
 -- ---- a mark before a number
-mark-before : (room : ℕ) (l : List ℕ) (at : ℕ) (out : List ℕ) (v : ℕ) → Spells (room + 1) l at out → Spells room (v ∷ l) (at - 1) (set out (at - 1) v)
+mark-before : (room : ℕ) (l : List ℕ) (at : ℕ) (out : List ℕ) (v : ℕ) → Spells (room + 1) l at out
+    → Spells room (v ∷ l) (at - 1) (set out (at - 1) v)
 mark-before room l at out v s =
     let k : suc (at - 1) ≡ at = omega (arith, s .before) in
     let d : drop (at - 1) (set out (at - 1) v) ≡ v ∷ drop (suc (at - 1)) out = put-before out (at - 1) v (omega (arith, s .before, s .within)) in
@@ -136,7 +138,8 @@ signed-high low at out s h b =
     let m : Spells 1 (0x2d ∷ decimal (256 - low)) (at - 1) (set out (at - 1) 0x2d) = mark-before 1 (decimal (256 - low)) at out 0x2d (rw z at s) in
     rw (le-ltb low 128 h) m
 
-pub hex-marked : (n at : ℕ) (out : List ℕ) → Spells 2 (spelled 16 65 20 2 n) at out → Spells 0 (hex n) (at - 2) (set (set out (at - 1) 0x78) (at - 2) 0x30)
+pub hex-marked : (n at : ℕ) (out : List ℕ) → Spells 2 (spelled 16 65 20 2 n) at out
+    → Spells 0 (hex n) (at - 2) (set (set out (at - 1) 0x78) (at - 2) 0x30)
 hex-marked n at out s =
     let z : at - 1 - 1 ≡ at - 2 = omega arith in
     rw z at (mark-before 0 (0x78 ∷ spelled 16 65 20 2 n) (at - 1) (set out (at - 1) 0x78) 0x30 (mark-before 1 (spelled 16 65 20 2 n) at out 0x78 s))
@@ -144,7 +147,8 @@ hex-marked n at out s =
 pub ruleset mark-laws = (mark-inside, signed-low, signed-high, hex-marked)
 
 -- ---- a byte
-pub pair-put : (to : List ℕ) (at b g h : ℕ) → g ≡ glyph 65 (b / 16) → h ≡ glyph 65 (b % 16) → set (set to at g) (at + 1) h ≡ sets to at (pairs 65 (b ∷ []))
+pub pair-put : (to : List ℕ) (at b g h : ℕ) → g ≡ glyph 65 (b / 16) → h ≡ glyph 65 (b % 16)
+    → set (set to at g) (at + 1) h ≡ sets to at (pairs 65 (b ∷ []))
 pair-put to at b g h e f = let s : at + 1 ≡ suc at = omega arith in rw (e, f, s)
 
 pub pair-inside : (to : List ℕ) (at g : ℕ) → at + 2 ≤ length to → at + 1 < length (set to at g)
@@ -188,10 +192,12 @@ module _ (mark bytes b : List ℕ) where
       → Writes (mark ++ pairs 65 bytes) b (Refused (MoreBytes (length mark + 2 * length bytes))) b
   pairs-longer h = writes-short (mark ++ pairs 65 bytes) b (length mark + 2 * length bytes) counted h
 
-  pub pairs-room : (b₁ : List ℕ) → b₁ ≡ sets b 0 mark → length mark + 2 * length bytes ≤ length b → length mark + 2 * length bytes ≤ length b₁
+  pub pairs-room : (b₁ : List ℕ) → b₁ ≡ sets b 0 mark → length mark + 2 * length bytes ≤ length b
+      → length mark + 2 * length bytes ≤ length b₁
   pairs-room b₁ e h = rw (e, length-sets) h
 
-  pub pairs-written : (b₁ b₂ : List ℕ) → b₁ ≡ sets b 0 mark → b₂ ≡ sets b₁ (length mark) (pairs 65 bytes) → length mark + 2 * length bytes ≤ length b
+  pub pairs-written : (b₁ b₂ : List ℕ) → b₁ ≡ sets b 0 mark → b₂ ≡ sets b₁ (length mark) (pairs 65 bytes)
+      → length mark + 2 * length bytes ≤ length b
       → Writes (mark ++ pairs 65 bytes) b (Length (length mark + 2 * length bytes)) b₂
   pairs-written b₁ b₂ e f h =
       let z : 0 + length mark ≡ length mark = omega arith in

@@ -350,7 +350,8 @@ module _ (w : Rules) (s : List ℕ) (short : length s ≤ 65535) where
     opened : getD s (at - 1) 0 ≡ 0x5B
     closed : getD s (at + n) 0 ≡ 0x5D
 
-  placed-row : (k at n : ℕ) → Here at n → 2 ≤ n → getD (bodies s) (k + 0) (0, 0) ≡ (at + 2, n - 2) → isFrame w (bytesOf s (at + 2, n - 2)) ≡ true
+  placed-row : (k at n : ℕ) → Here at n → 2 ≤ n → getD (bodies s) (k + 0) (0, 0) ≡ (at + 2, n - 2)
+      → isFrame w (bytesOf s (at + 2, n - 2)) ≡ true
       → Placed s (rowOf k (at + 2) (frameOf w (bytesOf s (at + 2, n - 2))))
   placed-row k at n here two first whole =
       let b = bytesOf s (at + 2, n - 2) in

@@ -129,7 +129,8 @@ module _ (t t′ : List ℕ) (w : Reordered t t′) (h g : ℕ → ℕ) (f : Fol
       every-split (Named t) xs c ys (subst (Every (Named t)) e (candidates-named t key)) in
       let after : partOf t′ (headerName t′ (h (c .number))) ≡ c .says .name =
       every-split (Named t′) (map (recandidate h g 7) (stand .front)) (recandidate h g 7 c) (map (recandidate h g 7) (stand .back))
-      (subst (Every (Named t′)) (stands-same ∙ ap (map (recandidate h g 7)) (stand .place) ∙ map-append (recandidate h g 7) (stand .front) (c ∷ stand .back))
+      (subst (Every (Named t′)) (stands-same ∙ ap (map (recandidate h g 7)) (stand .place)
+      ∙ map-append (recandidate h g 7) (stand .front) (c ∷ stand .back))
       (candidates-named t′ key)) in
       after ∙ sym before
     where
@@ -179,7 +180,8 @@ module _ (t t′ : List ℕ) (w : Reordered t t′) (h g : ℕ → ℕ) (f : Fol
     tells-after : (x : Told) → told (definition t′) d most key ≡ x → toldOf t′ d region speed (length table) ≡ x
     tells-after x e = ap (told (definition t′) d most) key-is ∙ e
 
-    heading-header : (k : Heading) → headerOf t′ (right d speed) (reheading h g d (definition t .sets) k) ≡ withNumber h t′ (headerOf t (right d speed) k)
+    heading-header : (k : Heading) → headerOf t′ (right d speed) (reheading h g d (definition t .sets) k)
+        ≡ withNumber h t′ (headerOf t (right d speed) k)
     heading-header k =
         λ i. record {
           number = h (k .number);

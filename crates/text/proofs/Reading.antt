@@ -120,7 +120,8 @@ module _ {R : Type 0} (rules : Rules R) where
         next = record {
           inn = step .passes .within;
           before = a .said ∷ readable .before;
-          good = ap (λ (n : ℕ). judge rules (a .said ∷ readable .before) n (lines (left t (l .next)))) (step .passes .count ∙ add-one (p .line)) ∙ a .on;
+          good = ap (λ (n : ℕ). judge rules (a .said ∷ readable .before) n (lines (left t (l .next)))) (step .passes .count ∙ add-one (p .line))
+              ∙ a .on;
         };
       }
 

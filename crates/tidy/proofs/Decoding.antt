@@ -14,7 +14,8 @@ unfolding answerOf
 same-answer offsets t payload room = rw (tidied-verdict t, tidied-definition t)
 
 -- U4: and what a call by the tidied text answers and leaves of a table, one by the text does
-pub same-rows : (offsets : Offsets) (t payload table : List ℕ) (r : Told) (table′ : List ℕ) → Decodes offsets (tidied t) payload table r table′ → Decodes offsets t payload table r table′
+pub same-rows : (offsets : Offsets) (t payload table : List ℕ) (r : Told) (table′ : List ℕ) → Decodes offsets (tidied t) payload table r table′
+    → Decodes offsets t payload table r table′
 same-rows offsets t payload table r table′ d = record {
   answer = rw (same-answer offsets t payload (length table)) at (d .answer);
   table-is = rw (tidied-definition t) at (d .table-is);

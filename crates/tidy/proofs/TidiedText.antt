@@ -104,7 +104,8 @@ lines-from first (x ∷ xs) = rw (end-stays first x) (go (eqb x 10) refl (lines-
     longer false (p ∷ ps) h = refl
 
     go : (e : Bool) → eqb x 10 ≡ e → lines (tidyFrom e xs) ≡ tidyRest e (lines xs)
-        → cond e ([] ∷ lines (tidyFrom e xs)) (onto (tidyByte first x) (lines (tidyFrom e xs))) ≡ tidyRest first (cond e ([] ∷ lines xs) (onto x (lines xs)))
+        → cond e ([] ∷ lines (tidyFrom e xs)) (onto (tidyByte first x) (lines (tidyFrom e xs)))
+        ≡ tidyRest first (cond e ([] ∷ lines xs) (onto x (lines xs)))
     go true q ih = rw ih (sym (begun first (lines xs)))
     go false q ih = rw ih (longer first (lines xs) (split-some 10 xs))
 

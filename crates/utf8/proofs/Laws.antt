@@ -118,7 +118,8 @@ record Begun (rows : List Row) (lo x n : ℕ) : Type 0 where
   above : lo ≤ x
   others : rest rows x ≡ some (othersOf (getD rows n []))
 
-begun : (rows : List Row) (lo x n : ℕ) → apart lo rows ≡ true → firstOf (getD rows n []) .0 ≤ x → x ≤ firstOf (getD rows n []) .1 → Begun rows lo x n
+begun : (rows : List Row) (lo x n : ℕ) → apart lo rows ≡ true → firstOf (getD rows n []) .0 ≤ x → x ≤ firstOf (getD rows n []) .1
+    → Begun rows lo x n
 begun [] lo x n a l u = absurd (omega arith)
 begun ([] ∷ rows) lo x n a l u = absurd (let z : _≡_ {A = ℕ} 0 1 = cc in omega arith)
 begun ((r ∷ rs) ∷ rows) lo x zero a l u =
@@ -214,7 +215,8 @@ length-tails : (n lo hi : ℕ) → length (tails n lo hi) ≡ n
 length-tails zero lo hi = refl
 length-tails (suc n) lo hi = ap suc (length-tails n 0x80 0xBF)
 
-pub cut-never : (s : List ℕ) (r : Lead) → 1 ≤ length s → rest table (getD s 0 0) ≡ told r → r ≡ Never → record { size = 1; well = false } ≡ cut s
+pub cut-never : (s : List ℕ) (r : Lead) → 1 ≤ length s → rest table (getD s 0 0) ≡ told r → r ≡ Never
+    → record { size = 1; well = false } ≡ cut s
 unfolding cut
 cut-never [] r n t e = absurd (omega arith)
 cut-never (x ∷ xs) r n t e =

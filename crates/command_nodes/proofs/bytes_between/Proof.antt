@@ -5,4 +5,5 @@ use Rattle.command_nodes.proofs.bytes_between.Statement.{statement}
 use Rattle.command_nodes.proofs.bytes_between.Tie as tie
 
 pub bytes-between-spec : {M : Type 1} → statement M
-bytes-between-spec = tie.close (tie.spec (λ c κs. search (needs, laws)) (λ c. search (needs, laws)) (λ c κs. search (needs, laws)) (λ c. search (needs, laws)))
+bytes-between-spec = tie.close (tie.spec (λ c κs. search (needs, laws)) (λ c. search (needs, laws)) (λ c κs. search (needs, laws))
+    (λ c. search (needs, laws)))

@@ -5,4 +5,5 @@ use Rattle.command_value.proofs.bit_value.Statement.{statement}
 use Rattle.command_value.proofs.bit_value.Tie as tie
 
 pub bit-value-spec : {M : Type 1} → statement M
-bit-value-spec = tie.close (tie.spec (λ c κs. search (needs, laws)) (λ c κs. search (needs, laws)) (λ c. search (needs, laws)) (λ c. search (needs, laws)))
+bit-value-spec = tie.close (tie.spec (λ c κs. search (needs, laws)) (λ c κs. search (needs, laws)) (λ c. search (needs, laws))
+    (λ c. search (needs, laws)))

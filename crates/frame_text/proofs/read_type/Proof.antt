@@ -7,4 +7,5 @@ use Rattle.frame_text.proofs.read_type.Tie as tie
 pub read-type-spec : {M : Type 1} → statement M
 read-type-spec =
     tie.close
-    (tie.spec (λ c. search (needs, type-laws)) (λ c κs. search (needs, type-laws)) (λ c. search (needs, type-laws)) (λ c. search (needs, type-laws)) (λ c. search (needs, type-laws)))
+    (tie.spec (λ c. search (needs, type-laws)) (λ c κs. search (needs, type-laws)) (λ c. search (needs, type-laws)) (λ c. search (needs, type-laws))
+    (λ c. search (needs, type-laws)))

@@ -119,10 +119,12 @@ decode-inner-decode-param-requires t c κs = (
     search (needs, inner-laws),
     (
       next-in _ _ _ _ _ _ _ (c .before .before .before .before .before .next-field .ensures) _ _ _
-          (c .before .before .before .j .given .1) (c .before .before .before .before .before .before .before .before .before .before .before .before .pre .1 .0 .few)
+          (c .before .before .before .j .given .1)
+          (c .before .before .before .before .before .before .before .before .before .before .before .before .pre .1 .0 .few)
           (omega arith),
       next-level _ _ _ _ _ _ _ (c .before .before .before .before .before .next-field .ensures) _ _ _
-          (c .before .before .before .j .given .1) (c .before .before .before .before .before .before .before .before .before .before .before .before .pre .1 .0 .few)
+          (c .before .before .before .j .given .1)
+          (c .before .before .before .before .before .before .before .before .before .before .before .before .pre .1 .0 .few)
           (omega arith) _ (c .before .before .before .before .before .before .before .loop .inv .level-is),
       search (needs, inner-laws),
       search (needs, inner-laws),

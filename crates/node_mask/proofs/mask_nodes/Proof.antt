@@ -7,4 +7,5 @@ use Rattle.node_mask.proofs.mask_nodes.Tie as tie
 pub mask-nodes-spec : {M : Type 1} → statement M
 mask-nodes-spec =
     tie.close
-    (tie.spec (λ c. search (needs, laws)) (λ c κs. search (needs, laws)) (λ c. search (needs, laws)) (λ c κs. search (needs, laws)) (λ c. search (needs, laws)) (λ c. search (needs, laws)))
+    (tie.spec (λ c. search (needs, laws)) (λ c κs. search (needs, laws)) (λ c. search (needs, laws)) (λ c κs. search (needs, laws))
+    (λ c. search (needs, laws)) (λ c. search (needs, laws)))

@@ -14,37 +14,16 @@ Inv-loop text index payload table n out₀ shown₀ i₀ out shown i = verdict t
 abbrev μ-loop : tie.MeasureT-loop
 μ-loop text index payload table n out₀ shown₀ i₀ out shown i = n - i
 
-loop-holds : tie.Need-loop-holds Inv-loop μ-loop
-loop-holds c = search (needs, laws)
-
-record-at-requires : tie.Need-record-at-requires Inv-loop μ-loop
-record-at-requires c κs = search (needs, laws)
-
-put-frame-requires : tie.Need-put-frame-requires Inv-loop μ-loop
-put-frame-requires c κs = search (needs, laws)
-
-add-i : tie.Need-add-i Inv-loop μ-loop
-add-i c = search (needs, laws)
-
-loop-less : tie.Need-loop-less Inv-loop μ-loop
-loop-less c = search (needs, laws)
-
-loop-again : tie.Need-loop-again Inv-loop μ-loop
-loop-again c = search (needs, laws)
-
-returns : tie.Need-returns Inv-loop μ-loop
-returns c = search (needs, laws)
-
 pub put-frames-spec : {M : Type 1} → statement M
 put-frames-spec =
     tie.close
     (tie.spec
     Inv-loop
     μ-loop
-    loop-holds
-    record-at-requires
-    put-frame-requires
-    add-i
-    loop-less
-    loop-again
-    returns)
+    (λ c. search (needs, laws))
+    (λ c κs. search (needs, laws))
+    (λ c κs. search (needs, laws))
+    (λ c. search (needs, laws))
+    (λ c. search (needs, laws))
+    (λ c. search (needs, laws))
+    (λ c. search (needs, laws)))
