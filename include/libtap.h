@@ -23,7 +23,7 @@
  *   7  no candidate holds                                                           0
  *   8  the answer does not fit into the table                                       how many rows or nodes it has
  *   9  a body is not a frame                                                        0
- *  11  the row is no mask of nodes                                                its number
+ *  11  there is no such row, or it is no mask of nodes                              its number
  *  12  the text does not fit into the buffer                                        how many bytes it has
  *  13  there is no such capture firmware                                            its number
  *  16  a line of a listing is not of its form                                       its number, from 1
@@ -205,6 +205,32 @@ typedef struct {
  * (D1). Refuses by 1 to 5 and 8. */
 TapParams tap_decode_params(const uint8_t *text, size_t text_length, const uint8_t *payload, size_t payload_length, bool by_position,
                             uint64_t *rows, size_t rows_length);
+
+/* One row of a command. `refusal` is 0 and the ten numbers behind `carried` are the row's, in the order of `tap_decode_params`; or `refusal` is a number of
+ * the table above, `carried` what it carries, and the others are 0. */
+typedef struct {
+    uint64_t refusal;
+    uint64_t carried;
+    uint64_t kind;
+    uint64_t line;
+    uint64_t parent;
+    uint64_t start;
+    uint64_t end;
+    uint64_t valued;
+    uint64_t value;
+    uint64_t named;
+    uint64_t number;
+    uint64_t lacking;
+} TapRow;
+
+/* Row `row`, from 0, of those that `tap_decode_params` writes, without a table: the walk passes over the rows before it. Refuses by 1 to 5 as that does, then
+ * 11, so a screen pages through a command until 11 comes. */
+TapRow tap_command_row(const uint8_t *text, size_t text_length, const uint8_t *payload, size_t payload_length, bool by_position, size_t row);
+
+/* The nodes of row `row`, from 0, of those that `tap_decode_params` writes, if that row is a parameter of type BITMASK. It takes no table of rows. Answers
+ * how many. Refuses by 1 to 5 as `tap_decode_params` does, then 11, then 8. */
+TapAnswer tap_command_nodes(const uint8_t *text, size_t text_length, const uint8_t *payload, size_t payload_length, bool by_position, size_t row,
+                            uint16_t *nodes, size_t nodes_length);
 
 #ifdef __cplusplus
 }

@@ -3,6 +3,7 @@
  * as on a handheld. examples/c/run builds it and runs it. */
 #include <stdio.h>
 #include <stdlib.h>
+#include <string.h>
 
 #include "libtap.h"
 
@@ -68,6 +69,14 @@ static void print_numbers(const char *what, const uint64_t *row, int count) {
     printf("\n");
 }
 
+static void print_nodes(uint64_t count) {
+    printf("      %llu nodes:", (unsigned long long)count);
+    for (uint64_t i = 0; i < count; i++) {
+        printf(" %u", nodes[i]);
+    }
+    printf("\n");
+}
+
 /* Row `row` of a header as people read it. */
 static void show_value(const uint8_t *mpdu, size_t length, const uint16_t *frame, uint64_t row, size_t text_length) {
     TapAnswer shown = tap_header_value(frame_text, text_length, mpdu, length, code_of(frame[1]), frame[3], row, value, sizeof value);
@@ -84,11 +93,7 @@ static void show_nodes(const uint8_t *mpdu, size_t length, const uint16_t *frame
     if (listed.refusal) {
         return;
     }
-    printf("      %llu nodes:", (unsigned long long)listed.value);
-    for (uint64_t i = 0; i < listed.value; i++) {
-        printf(" %u", nodes[i]);
-    }
-    printf("\n");
+    print_nodes(listed.value);
 }
 
 /* Our own listing of a header, which is judged right, and with its last line cut off is not. */
@@ -98,6 +103,26 @@ static void show_listing(const uint8_t *mpdu, size_t length, const uint16_t *fra
     TapAnswer cut = tap_judge_listing(frame_text, text_length, mpdu, length, code_of(frame[1]), frame[3], listing, written.value - 1);
     printf("    listing of %llu bytes: %s, without its line end refused %llu %llu\n", (unsigned long long)written.value,
            whole.refusal || whole.value ? "no" : "yes", (unsigned long long)cut.refusal, (unsigned long long)cut.value);
+}
+
+/* The same of row `row` of a command. */
+static void show_command_nodes(const uint8_t *bytes, size_t length, uint64_t row, size_t text_length) {
+    TapAnswer listed = tap_command_nodes(command_text, text_length, bytes, length, false, row, nodes, NODES);
+    if (!listed.refusal) {
+        print_nodes(listed.value);
+    }
+}
+
+/* Pages through a command without a table: are its rows those that stand in the table, and is there none behind them? */
+static bool is_paged(const uint8_t *bytes, size_t length, uint64_t rows, size_t text_length) {
+    for (uint64_t i = 0; i < rows; i++) {
+        const uint64_t *told = command_rows + i * TAP_COMMAND_WIDTH;
+        TapRow row = tap_command_row(command_text, text_length, bytes, length, false, i);
+        if (row.refusal || memcmp(&row.kind, told, TAP_COMMAND_WIDTH * sizeof *told)) {
+            return false;
+        }
+    }
+    return tap_command_row(command_text, text_length, bytes, length, false, rows).refusal == 11;
 }
 
 static void show_command(const uint8_t *bytes, size_t length, size_t text_length) {
@@ -110,7 +135,9 @@ static void show_command(const uint8_t *bytes, size_t length, size_t text_length
     printf("  command %02x %02x, remainder at %llu\n", bytes[0], bytes[1], (unsigned long long)params.remainder);
     for (uint64_t i = 0; i < params.rows; i++) {
         print_numbers("    parameter", command_rows + i * TAP_COMMAND_WIDTH, TAP_COMMAND_WIDTH);
+        show_command_nodes(bytes, length, i, text_length);
     }
+    printf("    paged one by one: %s\n", is_paged(bytes, length, params.rows, text_length) ? "the same" : "not the same");
 }
 
 static void show_frame(const uint16_t *frame, size_t frame_text_length, size_t command_text_length) {

@@ -68,6 +68,9 @@ pub fn full_answer(line: &[u8]) -> Answer {
         Request::Headernodes { cap, row, region, speed, text, mpdu } => {
             headernodes(*cap, *row, *region, *speed, text, mpdu)
         }
+        Request::Commandnodes { offsets, cap, row, text, payload } => {
+            commandnodes(*offsets, *cap, *row, text, payload)
+        }
         Request::Listing { region, speed, text, mpdu, listing } => {
             judge(*region, *speed, text, mpdu, listing)
         }
@@ -304,6 +307,19 @@ fn headernodes(
     let definition: FrameDefinition = definition::read(text)?;
     let mask = reading::nodes::header_mask(&definition, mpdu, region, speed, row)?;
     reading::nodes::listed("headernodes", mask, cap)
+}
+
+/// BM6: the nodes of a command's row, by the second reading.
+fn commandnodes(
+    offsets: Offsets,
+    cap: u64,
+    row: u64,
+    text: &[u8],
+    payload: &[u8],
+) -> Result<String, Refusal> {
+    let definition: CommandDefinition = definition::read(text)?;
+    let mask = reading::nodes::command_mask(&definition, payload, offsets, row)?;
+    reading::nodes::listed("commandnodes", mask, cap)
 }
 
 /// LS4: a listing, judged by the second reading: the Rust judges none.

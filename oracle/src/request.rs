@@ -26,6 +26,7 @@ pub enum Request {
     Checksum { speed: u64, mpdu: Vec<u8> },
     Tidy { cap: u64, text: Vec<u8> },
     Headernodes { cap: u64, row: u64, region: u64, speed: u64, text: Vec<u8>, mpdu: Vec<u8> },
+    Commandnodes { offsets: Offsets, cap: u64, row: u64, text: Vec<u8>, payload: Vec<u8> },
     Listing { region: u64, speed: u64, text: Vec<u8>, mpdu: Vec<u8>, listing: Vec<u8> },
     Headervalue { cap: u64, row: u64, region: u64, speed: u64, text: Vec<u8>, mpdu: Vec<u8> },
 }
@@ -87,6 +88,13 @@ impl Request {
                 text: words.bytes()?,
                 mpdu: words.bytes()?,
             },
+            b"commandnodes" => Request::Commandnodes {
+                offsets: words.offsets()?,
+                cap: words.cap()?,
+                row: words.number()?,
+                text: words.bytes()?,
+                payload: words.bytes()?,
+            },
             b"listing" => Request::Listing {
                 region: words.number()?,
                 speed: words.number()?,
@@ -138,6 +146,9 @@ impl Request {
             Request::Tidy { cap, text } => ("tidy", vec![*cap], vec![text]),
             Request::Headernodes { cap, row, region, speed, text, mpdu } => {
                 ("headernodes", vec![*cap, *row, *region, *speed], vec![text, mpdu])
+            }
+            Request::Commandnodes { offsets, cap, row, text, payload } => {
+                ("commandnodes", vec![*offsets as u64, *cap, *row], vec![text, payload])
             }
             Request::Listing { region, speed, text, mpdu, listing } => {
                 ("listing", vec![*region, *speed], vec![text, mpdu, listing])

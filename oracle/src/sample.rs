@@ -13,7 +13,7 @@ const DRAWN: usize = 2_000;
 const DRAWN_LENGTH: usize = 300;
 /// The same of each walk, whose requests have a text.
 const WALKS: &[(&str, usize, usize)] =
-    &[("header", 300, 1_600), ("command", 300, 800), ("commandby", 200, 800), ("headernodes", 200, 900), ("listing", 200, 1_600), ("headervalue", 300, 1_200)];
+    &[("header", 300, 1_600), ("command", 300, 800), ("commandby", 200, 800), ("headernodes", 200, 900), ("commandnodes", 200, 900), ("listing", 200, 1_600), ("headervalue", 300, 1_200)];
 
 /// The sample of a seed, line by line: requests of those kinds, and lines that are no request.
 pub fn sample(seed: u64, kinds: &str) -> Result<Vec<Vec<u8>>, String> {
@@ -34,6 +34,7 @@ pub fn sample(seed: u64, kinds: &str) -> Result<Vec<Vec<u8>>, String> {
     requests.extend(about_bits());
     requests.extend(about_tidied());
     requests.extend(about_nodes());
+    requests.extend(about_command_nodes());
     requests.extend(about_listings());
     lines.extend(requests.iter().map(Request::line));
 
@@ -544,6 +545,32 @@ fn about_nodes() -> Vec<Request> {
     });
     let others = [(0, 1, 7), (0, 1, 8), (limits::CAP, 1, 255), (0, u64::MAX, 8), (0, u64::MAX, 7)];
     rows.chain(caps).chain(others.map(|(cap, row, length)| nodes(cap, row, length, 0))).collect()
+}
+
+/// Rows of every kind of a command with masks outside and inside a group, tables of as many nodes, one more and one less, and rows that there
+/// are not.
+fn about_command_nodes() -> Vec<Request> {
+    let text = "Q|0|BYTE|n|-|-\nT|1|odd\nQ|0|BITMASK|m|-|-\nM|9\nT|1|no\nQ|0|MULTI_ARRAY|a|-|-\nM|2\n\
+        Q|0|BITMASK|one|-|-\nM|1\nT|1|low\nG|g|0|3|0\nQ|1|BYTE|k|-|-\nQ|1|BITMASK|i|-|-\nR|0|255|-|0\nQ|0|BITMASK|rest|-|-\n";
+    let text = text.replace('|', "\t").into_bytes();
+    let masks = [&[2][..], &[0x11; 9], &[3, 3], &[0x80], &[1, 0xFF], &[2, 1, 0x80], &[0; 3], &[1]].concat();
+    let nodes = |offsets: Offsets, cap: u64, row: u64, payload: &[u8]| Request::Commandnodes {
+        offsets,
+        cap,
+        row,
+        text: text.clone(),
+        payload: [&[0x20, 0x01][..], payload].concat(),
+    };
+    let modes = [Offsets::Answered, Offsets::Position];
+    let rows = (0..16).flat_map(|row| modes.map(|offsets| nodes(offsets, 18, row, &masks)));
+    let caps = [17, 18, 19, 0].map(|cap| nodes(Offsets::Answered, cap, 2, &masks));
+    let others = [0, 1, 2, 5, 10].map(|length| nodes(Offsets::Position, 0, 2, &masks[..length]));
+    let past = [u64::MAX, 16_384].map(|row| nodes(Offsets::Answered, 0, row, &masks));
+    let mut short = vec![nodes(Offsets::Answered, 0, 0, &[0; 2_047]), nodes(Offsets::Answered, 0, 7, &[])];
+    if let Some(Request::Commandnodes { payload, .. }) = short.last_mut() {
+        payload.truncate(1);
+    }
+    rows.chain(caps).chain(others).chain(past).chain(short).collect()
 }
 
 /// Listings by a text of three headers of which the last two hold for it: our own and what is wrong by one byte or line.

@@ -47,7 +47,7 @@ use Rattle.command_rules.proofs.Slots.{entries-lined}
 use Rattle.command_rules.proofs.Wanting.{walk-adds}
 
 -- ---- one pass
-pub body-rows : (w : Walked) (t t′ : List ℕ) (r : Taken) (p : PayloadOffset) → Gives w t 0 t′ r → length (w .rows) ≤ length t / rowWidth
+pub body-rows : (w : Walked) (t t′ : List ℕ) (r : Taken) (p : PayloadOffset) → Gives w 0 t 0 t′ r → length (w .rows) ≤ length t / rowWidth
     → p .0 ≡ inPayload (r .end .0) → Fills w t (told (Rows (r .count) p)) t′
 unfolding told within
 body-rows w t t′ r p wrote h ep =
@@ -55,10 +55,10 @@ body-rows w t t′ r p wrote h ep =
     record { answer = rw (le-leb (length (w .rows)) (length t / rowWidth) h, wrote .count, q) refl; table-is = wrote .rows ∙ written-table t (w .rows) h }
 
 -- ---- the two passes
-module _ (w : Walked) (t ys : List ℕ) (m : Taken) (first : Gives w [] 0 ys m) where
+module _ (w : Walked) (t ys : List ℕ) (m : Taken) (first : Gives w 0 [] 0 ys m) where
   -- the first writes nothing
   nothing : ys ≡ []
-  nothing = first .rows ∙ written-full [] 0 (w .rows) (omega arith)
+  nothing = first .rows ∙ written-full 0 [] 0 (w .rows) (omega arith)
 
   pub body-needs : length (ys ++ t) / rowWidth < m .count → Fills w t (told (Refused (MoreRows (m .count)))) (ys ++ t)
   unfolding told within
@@ -79,7 +79,7 @@ pub body-part : (t : List ℕ) (n : ℕ) → n ≤ length t → n ≡ length (ta
 body-part t n h = sym (length-take-le n t h)
 
 pub body-inside : (offsets : Offsets) (x l body : List ℕ) (count : ℕ) (t t′ : List ℕ) (r : Taken) → IsLoaded x l count → length body < 65536
-    → Gives (walk offsets body (entriesOf (headsOf x))) t 0 t′ r → r .end .0 < 2 ^ 32
+    → Gives (walk offsets body (entriesOf (headsOf x))) 0 t 0 t′ r → r .end .0 < 2 ^ 32
 body-inside offsets x l body count t t′ r loaded h w = let i = walk-inside offsets body (entriesOf (headsOf x)) (entries-small x l count loaded) in let e =
     w .end in omega arith
 

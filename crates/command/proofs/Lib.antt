@@ -1,2 +1,1 @@
-mod Outer
 pub mod Decoding

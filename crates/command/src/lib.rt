@@ -1,20 +1,10 @@
 // The parameters of a command, by a definition text: C1 to C19 of docs/RULES.md. Counterpart of command_class/decode.rs, whose
 // calls are all to be had here.
-// The definition is loaded once (crate `command_schema`). One walker reads a list of Qs and Gs over the body, writes the rows for which there is
-// room in its part of the table, and counts all. Where the table may be too small it is run first over an empty part, so that nothing is written before
-// all rows are known to fit.
-use command_groups::Group;
-use command_groups::Taken;
-use command_groups::keep;
-use command_groups::keep_unvalued;
-use command_groups::param_at;
-use command_groups::read_group;
-use command_groups::repeats_at;
-use command_param::Param;
-use command_param::Spot;
+// The definition is loaded once (crate `command_schema`). One walker (crate `command_walk`) writes the rows for which there is room in its part of the
+// table, and counts all. Where the table may be too small it is run first over an empty part, so that nothing is written before all rows are known to fit.
 use command_rows::ROW_WIDTH;
 use command_schema::LOADED_WIDTH;
-use records::BodyOffset;
+use command_walk::walk_params;
 use records::PayloadOffset;
 use refusal::Refusal;
 use text::Verdict;
@@ -27,7 +17,6 @@ ghost use Rattle.command_schema.specs.Heads.{headsOf, entriesOf};
 ghost use Rattle.command_schema.specs.Loaded.{loadedWidth, IsLoaded};
 ghost use Rattle.command_rules.specs.Rows.{rowWidth};
 ghost use Rattle.command_rules.specs.Walk.{walk};
-ghost use Rattle.command_groups.specs.Steps.{Gives};
 ghost use Rattle.command.specs.Answer.{offsetsBy, told, Fills, DecodesBy, Decodes};
 pub use command_lengths::is_present;
 pub use command_lengths::variable_len;
@@ -36,13 +25,13 @@ pub use command_param::read_uint;
 pub use command_rules::Offsets;
 
 // The numbers of the loaded definition: it has at most 256 rows.
-const LOADED: usize = 256 * LOADED_WIDTH;
+pub const LOADED: usize = 256 * LOADED_WIDTH;
 
 // A text of so few bytes has at most 48 rows, as a Q or G has at least five: a small table does, and is laid out sooner.
-const SHORT: usize = 240;
+pub const SHORT: usize = 240;
 
 // The numbers of its rows.
-const LOADED_SHORT: usize = 48 * LOADED_WIDTH;
+pub const LOADED_SHORT: usize = 48 * LOADED_WIDTH;
 
 // The most numbers that a byte of the body makes: 34 rows, for a repetition, a parameter and 32 bit children.
 const MOST: usize = 34 * ROW_WIDTH;
@@ -66,69 +55,6 @@ pub fn offsets_by(position: bool) -> Offsets
     Offsets::Answered
 }
 
-// The outer list.
-fn walk_params(
-    text: &[u8],
-    loaded: &[u16],
-    count: usize,
-    offsets: Offsets,
-    body: &[u8],
-    rows: &mut [u64],
-) -> Taken
-    requires { ⌜ (IsLoaded (now text) (now loaded) count) × (length (now body) < 65536) ⌝ }
-    ensures { λ r. ⌜ Gives (walk offsets (now (body .entry)) (entriesOf (headsOf (now (text .entry))))) (now (rows .entry)) 0 (now (rows .exit)) r ⌝ }
-{
-    let mut kept = [256u16; 256];
-    let mut have: usize = 0;
-    let mut at = BodyOffset(0);
-    let mut next: usize = 0;
-    let mut j: usize = 0;
-    while j < count {
-        let q = command_schema::loaded_at(loaded, j);
-        let spot = Spot {
-            at,
-            row: next,
-            parent: 0,
-        };
-        if q.is_outer() {
-            let Param::Read {
-                end,
-                entry,
-                count: more,
-            } = param_at(text, q, body, spot, &kept[..have], rows, next)
-            else {
-                have = keep_unvalued(offsets, &mut kept, have, 0);
-                j += 1;
-                continue;
-            };
-            have = keep(&mut kept, have, entry);
-            next += more;
-            at = end;
-            j += 1;
-            continue;
-        }
-        if q.kind == 71 {
-            let group = Group {
-                line: q.line,
-                first: j + 1,
-                count,
-            };
-            let most = repeats_at(q, body, at, &kept[..have]);
-            let g = read_group(text, loaded, group, most, body, spot, rows);
-            have = keep_unvalued(offsets, &mut kept, have, g.times);
-            next += g.count;
-            at = g.end;
-            j += 1;
-            continue;
-        }
-        j += 1;
-    }
-    Taken {
-        end: at,
-        count: next,
-    }
-}
-
 // Writes all rows of a body, for which the table has room.
 fn write_body(
     text: &[u8],
@@ -142,7 +68,7 @@ fn write_body(
         × (length (walk offsets (now body) (entriesOf (headsOf (now text))) .rows) ≤ length (now rows) / rowWidth) ⌝ }
     ensures { λ r. ⌜ Fills (walk offsets (now (body .entry)) (entriesOf (headsOf (now (text .entry))))) (now (rows .entry)) (told r) (now (rows .exit)) ⌝ }
 {
-    let taken = walk_params(text, loaded, count, offsets, body, rows);
+    let taken = walk_params(text, loaded, count, offsets, body, 0, rows);
     let end = taken.end;
     Params::Rows {
         count: taken.count,
@@ -166,7 +92,7 @@ fn decode_body(
         return write_body(text, loaded, count, offsets, body, rows);
     }
     let none: usize = 0;
-    let counted = walk_params(text, loaded, count, offsets, body, &mut rows[..none]);
+    let counted = walk_params(text, loaded, count, offsets, body, 0, &mut rows[..none]);
     if rows.len() / ROW_WIDTH < counted.count {
         return Params::Refused(Refusal::MoreRows(counted.count));
     }

@@ -39,21 +39,21 @@ none-of [] h = refl
 none-of (r ∷ rs) h = absurd (omega arith)
 
 -- ---- one repetition: its members from row 1 on
-pub turn-part : (x body : List ℕ) (i at n : ℕ) (t ys : List ℕ) (rest : ℕ) (m : Taken)
-    → Gives (members body (membersOf (drop i (headsOf x))) at [] (n + 1) (n + 1)) (take (length t - rest) (drop rest t)) 0 ys m
-    → rest ≡ rowAt 1 (length t)
-    → Gives (turn body (membersOf (drop i (headsOf x))) at n) t 1 (take rest t ++ (ys ++ drop (length t - rest) (drop rest t))) m
+pub turn-part : (x body : List ℕ) (i at n s left : ℕ) (t ys : List ℕ) (rest : ℕ) (m : Taken)
+    → Gives (members body (membersOf (drop i (headsOf x))) at [] (n + 1) (n + 1)) left (take (length t - rest) (drop rest t)) 0 ys m
+    → rest ≡ rowAt s 1 (length t) → left ≡ s - 1
+    → Gives (turn body (membersOf (drop i (headsOf x))) at n) s t 1 (take rest t ++ (ys ++ drop (length t - rest) (drop rest t))) m
 unfolding turn
-turn-part x body i at n t ys rest m w is =
+turn-part x body i at n s left t ys rest m w is behind =
     record {
-      rows = part-back t ys 1 rest (members body (membersOf (drop i (headsOf x))) at [] (n + 1) (n + 1) .rows) is (w .rows);
+      rows = part-back s t ys 1 rest left (members body (membersOf (drop i (headsOf x))) at [] (n + 1) (n + 1) .rows) is behind (w .rows);
       count = w .count;
       end =
           w .end;
     }
 
-module _ (x l body : List ℕ) (count i at n : ℕ) (loaded : IsLoaded x l count) (t t₁ : List ℕ) (m : Taken)
-    (given : Gives (turn body (membersOf (drop i (headsOf x))) at n) t 1 t₁ m) where
+module _ (x l body : List ℕ) (count i at n : ℕ) (loaded : IsLoaded x l count) (s : ℕ) (t t₁ : List ℕ) (m : Taken)
+    (given : Gives (turn body (membersOf (drop i (headsOf x))) at n) s t 1 t₁ m) where
   bound : Bound 33 (length body) at (turn body (membersOf (drop i (headsOf x))) at n)
   bound = turn-bound body (membersOf (drop i (headsOf x))) at n (members-small x l count loaded i)
 
@@ -66,18 +66,18 @@ module _ (x l body : List ℕ) (count i at n : ℕ) (loaded : IsLoaded x l count
   pub repetition-fits : length body < 65536 → Fits w64 (m .count + 1)
   repetition-fits b = let b1 = bound .inside in let b2 = bound .few in let z = given .count in omega arith
 
-  pub repetition-nothing : (line k : ℕ) → m .end .0 ≤ at → Repeats body line (membersOf (drop i (headsOf x))) k at n t 0 t₁ Nothing
+  pub repetition-nothing : (line k : ℕ) → m .end .0 ≤ at → Repeats body line (membersOf (drop i (headsOf x))) k at n s t 0 t₁ Nothing
   repetition-nothing line k h =
       let b0 = bound .forward in
       let b2 = bound .few in
       let z = given .end in
       let nothing : turn body (membersOf (drop i (headsOf x))) at n .rows ≡ [] =
       none-of (turn body (membersOf (drop i (headsOf x))) at n .rows) (omega arith) in
-      record { took = le-ltb at (turn body (membersOf (drop i (headsOf x))) at n .end) (omega arith); rows = given .rows ∙ rw nothing (written-none t 1) }
+      record { took = le-ltb at (turn body (membersOf (drop i (headsOf x))) at n .end) (omega arith); rows = given .rows ∙ rw nothing (written-none s t 1) }
 
-  pub repetition-took : (line k : ℕ) (row : Row) (t′ : List ℕ) → row ≡ repetitionRow line at (m .end .0) k → t′ ≡ written t₁ 0 (row ∷ [])
+  pub repetition-took : (line k : ℕ) (row : Row) (t′ : List ℕ) → row ≡ repetitionRow line at (m .end .0) k → t′ ≡ written s t₁ 0 (row ∷ [])
       → at < m .end .0
-      → Repeats body line (membersOf (drop i (headsOf x))) k at n t 0 t′ (Took (m .end) (m .count + 1))
+      → Repeats body line (membersOf (drop i (headsOf x))) k at n s t 0 t′ (Took (m .end) (m .count + 1))
   repetition-took line k row t′ er et h =
       let z = given .end in
       let own : row ≡ repetitionRow line at (turn body (membersOf (drop i (headsOf x))) at n .end) k = rw z at er in
@@ -86,36 +86,41 @@ module _ (x l body : List ℕ) (count i at n : ℕ) (loaded : IsLoaded x l count
         took = lt-ltb at (turn body (membersOf (drop i (headsOf x))) at n .end) (omega arith);
         end = z;
         count = omega arith;
-        rows = et ∙ rw (given .rows, own) (written-first t (repetitionRow line at (turn body (membersOf (drop i (headsOf x))) at n .end) k)
+        rows = et ∙ rw (given .rows, own) (written-first s t (repetitionRow line at (turn body (membersOf (drop i (headsOf x))) at n .end) k)
             (turn body (membersOf (drop i (headsOf x))) at n .rows));
       }
 
 -- in a part of the table: from row k on
-repeats-from : (body : List ℕ) (line : ℕ) (qs : List Parameter) (number at n : ℕ) (t ys : List ℕ) (k rest : ℕ) (r : Repetition)
-    → rest ≡ rowAt k (length t)
-    → Repeats body line qs number at n (take (length t - rest) (drop rest t)) 0 ys r
-    → Repeats body line qs number at n t k (take rest t ++ (ys ++ drop (length t - rest) (drop rest t))) r
-repeats-from body line qs number at n t ys k rest (Took e c) is w =
+repeats-from : (body : List ℕ) (line : ℕ) (qs : List Parameter) (number at n s left : ℕ) (t ys : List ℕ) (k rest : ℕ) (r : Repetition)
+    → rest ≡ rowAt s k (length t) → left ≡ s - k
+    → Repeats body line qs number at n left (take (length t - rest) (drop rest t)) 0 ys r
+    → Repeats body line qs number at n s t k (take rest t ++ (ys ++ drop (length t - rest) (drop rest t))) r
+repeats-from body line qs number at n s left t ys k rest (Took e c) is behind w =
     record {
       took = w .took;
       end = w .end;
       count = w .count;
       rows =
-          part-back t ys k rest (repetitionRow line at (turn body qs at n .end) number ∷ turn body qs at n .rows) is (w .rows);
+          part-back s t ys k rest left (repetitionRow line at (turn body qs at n .end) number ∷ turn body qs at n .rows) is behind (w .rows);
     }
-repeats-from body line qs number at n t ys k rest Nothing is w =
-    record { took = w .took; rows = part-back t ys k rest [] is (w .rows ∙ sym (written-none (take (length t - rest) (drop rest t)) 0)) ∙ written-none t k }
+repeats-from body line qs number at n s left t ys k rest Nothing is behind w =
+    record {
+      took = w .took;
+      rows = part-back s t ys k rest left [] is behind (w .rows ∙ sym (written-none left (take (length t - rest) (drop rest t)) 0)) ∙ written-none s t k;
+    }
 
-pub repetition-part : (x body : List ℕ) (line i number at n : ℕ) (t ys : List ℕ) (k rest : ℕ) (r : Repetition)
-    → Repeats body line (membersOf (drop i (headsOf x))) number at n (take (length t - rest) (drop rest t)) 0 ys r → rest ≡ rowAt k (length t)
-    → Repeats body line (membersOf (drop i (headsOf x))) number at n t k (take rest t ++ (ys ++ drop (length t - rest) (drop rest t))) r
-repetition-part x body line i number at n t ys k rest r w is = repeats-from body line (membersOf (drop i (headsOf x))) number at n t ys k rest r is w
+pub repetition-part : (x body : List ℕ) (line i number at n s left : ℕ) (t ys : List ℕ) (k rest : ℕ) (r : Repetition)
+    → Repeats body line (membersOf (drop i (headsOf x))) number at n left (take (length t - rest) (drop rest t)) 0 ys r
+    → rest ≡ rowAt s k (length t) → left ≡ s - k
+    → Repeats body line (membersOf (drop i (headsOf x))) number at n s t k (take rest t ++ (ys ++ drop (length t - rest) (drop rest t))) r
+repetition-part x body line i number at n s left t ys k rest r w is behind =
+    repeats-from body line (membersOf (drop i (headsOf x))) number at n s left t ys k rest r is behind w
 
 pub ruleset repetition-laws = (row-is, turn-part, repetition-inside, repetition-starts, repetition-fits, repetition-nothing, repetition-took, repetition-part)
 
 -- ---- the group: what is left of the repetitions, after k of them
-pub record Turns (body : List ℕ) (qs : List Parameter) (line most start n : ℕ) (t₀ t : List ℕ) (at next k : ℕ) : Type 0 where
-  pub rows : written t (n + next) (repetitions body line qs (most - k) k at (n + next) .rows) ≡ written t₀ n (repetitions body line qs most 0 start n .rows)
+pub record Turns (body : List ℕ) (qs : List Parameter) (line most start n s : ℕ) (t₀ t : List ℕ) (at next k : ℕ) : Type 0 where
+  pub rows : written s t (n + next) (repetitions body line qs (most - k) k at (n + next) .rows) ≡ written s t₀ n (repetitions body line qs most 0 start n .rows)
   pub count : next + length (repetitions body line qs (most - k) k at (n + next) .rows) ≡ length (repetitions body line qs most 0 start n .rows)
   pub end : repetitions body line qs (most - k) k at (n + next) .end ≡ repetitions body line qs most 0 start n .end
   pub times : k + repetitions body line qs (most - k) k at (n + next) .times ≡ repetitions body line qs most 0 start n .times
@@ -123,9 +128,9 @@ pub record Turns (body : List ℕ) (qs : List Parameter) (line most start n : �
   pub within : k ≤ most
   pub same : length t ≡ length t₀
 
-pub turns-start : (x l body : List ℕ) (count i line most start n : ℕ) (t₀ : List ℕ) → IsLoaded x l count → length body < 65536
-    → Turns body (membersOf (drop i (headsOf x))) line most start n t₀ t₀ start 0 0
-turns-start x l body count i line most start n t₀ loaded v =
+pub turns-start : (x l body : List ℕ) (count i line most start n s : ℕ) (t₀ : List ℕ) → IsLoaded x l count → length body < 65536
+    → Turns body (membersOf (drop i (headsOf x))) line most start n s t₀ t₀ start 0 0
+turns-start x l body count i line most start n s t₀ loaded v =
     let b = repetitions-bound body line (membersOf (drop i (headsOf x))) most 0 start n (members-small x l count loaded i) in
     let b1 = b .inside in
     let b2 = b .few in
@@ -140,19 +145,19 @@ turns-start x l body count i line most start n t₀ loaded v =
       same = refl;
     }
 
-module _ (body : List ℕ) (qs : List Parameter) (line most start n : ℕ) (t₀ t : List ℕ) (o : BodyOffset) (next k : ℕ)
-    (g : Turns body qs line most start n t₀ t (o .0) next k) where
+module _ (body : List ℕ) (qs : List Parameter) (line most start n s : ℕ) (t₀ t : List ℕ) (o : BodyOffset) (next k : ℕ)
+    (g : Turns body qs line most start n s t₀ t (o .0) next k) where
   none-left : (t′ : List ℕ) → t′ ≡ t → repetitions body line qs (most - k) k (o .0) (n + next) ≡ ended (o .0)
-      → GivesGroup (repetitions body line qs most 0 start n) t₀ n t′ (record { end = o; count = next; times = k })
+      → GivesGroup (repetitions body line qs most 0 start n) s t₀ n t′ (record { end = o; count = next; times = k })
   none-left t′ et e =
       record {
-        rows = et ∙ sym (written-none t (n + next)) ∙ (rw e at (g .rows));
+        rows = et ∙ sym (written-none s t (n + next)) ∙ (rw e at (g .rows));
         count = let q = rw e at (g .count) in omega arith;
         end = rw e at (g .end);
         times = let q = rw e at (g .times) in omega arith;
       }
 
-  pub turns-end : most ≤ k → GivesGroup (repetitions body line qs most 0 start n) t₀ n t (record { end = o; count = next; times = k })
+  pub turns-end : most ≤ k → GivesGroup (repetitions body line qs most 0 start n) s t₀ n t (record { end = o; count = next; times = k })
   unfolding repetitions
   turns-end h = let z : most - k ≡ 0 = omega arith in none-left t refl (rw z refl)
 
@@ -166,7 +171,7 @@ module _ (body : List ℕ) (qs : List Parameter) (line most start n : ℕ) (t₀
     left-over : most - k ≡ suc (most - (k + 1))
     left-over = omega arith
 
-    module _ (t′ : List ℕ) (q : BodyOffset) (c : ℕ) (w : IsTook body line qs k (o .0) (n + next) t (n + next) t′ q c) where
+    module _ (t′ : List ℕ) (q : BodyOffset) (c : ℕ) (w : IsTook body line qs k (o .0) (n + next) s t (n + next) t′ q c) where
       one-more : repetitions body line qs (most - k) k (o .0) (n + next)
           ≡ after (repetitionRow line (o .0) (turn body qs (o .0) (n + next) .end) k ∷ turn body qs (o .0) (n + next) .rows)
           (once (repetitions body line qs (most - (k + 1)) (k + 1) (q .0) (n + (next + c))))
@@ -182,18 +187,18 @@ module _ (body : List ℕ) (qs : List Parameter) (line most start n : ℕ) (t₀
       small : Fits w64 (next + c)
       small = let a = g .few in let b = w .count in omega (arith, all-count)
 
-      taken : Turns body qs line most start n t₀ t′ (q .0) (next + c) (k + 1)
+      taken : Turns body qs line most start n s t₀ t′ (q .0) (next + c) (k + 1)
       taken =
           let b = w .count in
-          let p : written t (n + next) ((repetitionRow line (o .0) (turn body qs (o .0) (n + next) .end) k ∷ turn body qs (o .0) (n + next) .rows)
+          let p : written s t (n + next) ((repetitionRow line (o .0) (turn body qs (o .0) (n + next) .end) k ∷ turn body qs (o .0) (n + next) .rows)
           ++ repetitions body line qs (most - (k + 1)) (k + 1) (q .0) (n + (next + c)) .rows)
-          ≡ written t₀ n (repetitions body line qs most 0 start n .rows) = rw one-more at (g .rows) in
-          let s : n + (next + c) ≡ n + next + suc (length (turn body qs (o .0) (n + next) .rows)) = omega arith in
+          ≡ written s t₀ n (repetitions body line qs most 0 start n .rows) = rw one-more at (g .rows) in
+          let z : n + (next + c) ≡ n + next + suc (length (turn body qs (o .0) (n + next) .rows)) = omega arith in
           let u : k + (repetitions body line qs (most - (k + 1)) (k + 1) (q .0) (n + (next + c)) .times + 1)
           ≡ repetitions body line qs most 0 start n .times = rw one-more at (g .times) in
           record {
-            rows = rw (w .rows) (written-more t (n + next) (repetitionRow line (o .0) (turn body qs (o .0) (n + next) .end) k ∷ turn body qs (o .0)
-                (n + next) .rows) (repetitions body line qs (most - (k + 1)) (k + 1) (q .0) (n + (next + c)) .rows) (n + (next + c)) s ∙ p);
+            rows = rw (w .rows) (written-more s t (n + next) (repetitionRow line (o .0) (turn body qs (o .0) (n + next) .end) k ∷ turn body qs (o .0)
+                (n + next) .rows) (repetitions body line qs (most - (k + 1)) (k + 1) (q .0) (n + (next + c)) .rows) (n + (next + c)) z ∙ p);
             count = omega (arith, all-count);
             end = rw one-more at (g .end);
             times = omega arith;
@@ -202,18 +207,18 @@ module _ (body : List ℕ) (qs : List Parameter) (line most start n : ℕ) (t₀
             same = rw (w .rows, length-written) (g .same);
           }
 
-    module _ (t′ : List ℕ) (r : Repetition) (given : Repeats body line qs k (o .0) (n + next) t (n + next) t′ r) where
-      pub turns-nothing : r ≡ Nothing → GivesGroup (repetitions body line qs most 0 start n) t₀ n t′ (record { end = o; count = next; times = k })
+    module _ (t′ : List ℕ) (r : Repetition) (given : Repeats body line qs k (o .0) (n + next) s t (n + next) t′ r) where
+      pub turns-nothing : r ≡ Nothing → GivesGroup (repetitions body line qs most 0 start n) s t₀ n t′ (record { end = o; count = next; times = k })
       unfolding repetitions
       turns-nothing f =
-          let v : IsNothing body line qs k (o .0) (n + next) t (n + next) t′ = rw f at given in
+          let v : IsNothing body line qs k (o .0) (n + next) s t (n + next) t′ = rw f at given in
           none-left t′ (v .rows) (rw (left-over, v .took) refl)
 
       module _ (q : BodyOffset) (c : ℕ) (f : r ≡ Took q c) where
         pub turns-fits : Fits w64 (next + c)
         turns-fits = small t′ q c (rw f at given)
 
-        pub turns-take : Turns body qs line most start n t₀ t′ (q .0) (next + c) (k + 1)
+        pub turns-take : Turns body qs line most start n s t₀ t′ (q .0) (next + c) (k + 1)
         turns-take = taken t′ q c (rw f at given)
 
 pub ruleset turns-laws = (turns-start, turns-end, turns-low, turns-next-low, turns-nothing, turns-fits, turns-take)

@@ -32,11 +32,11 @@ use Rattle.command_rules.proofs.Bounds.{members-bound}
 use Rattle.command_groups.proofs.Answers.{is-read, is-absent}
 
 -- what is left of the members, from loaded row j on
-pub record Members (t body : List ℕ) (count i start n parent : ℕ) (d₀ d kept : List ℕ) (have at next j : ℕ) : Type 0 where
+pub record Members (t body : List ℕ) (count i start n parent s : ℕ) (d₀ d kept : List ℕ) (have at next j : ℕ) : Type 0 where
   pub es : List Earlier
   pub kept-are : Kept kept have es
-  pub rows : written d next (members body (membersOf (drop j (headsOf t))) at es (n + next) parent .rows)
-      ≡ written d₀ 0 (members body (membersOf (drop i (headsOf t))) start [] n parent .rows)
+  pub rows : written s d next (members body (membersOf (drop j (headsOf t))) at es (n + next) parent .rows)
+      ≡ written s d₀ 0 (members body (membersOf (drop i (headsOf t))) start [] n parent .rows)
   pub count-is : next + length (members body (membersOf (drop j (headsOf t))) at es (n + next) parent .rows)
       ≡ length (members body (membersOf (drop i (headsOf t))) start [] n parent .rows)
   pub end : members body (membersOf (drop j (headsOf t))) at es (n + next) parent .end ≡ members body (membersOf (drop i (headsOf t))) start [] n parent .end
@@ -45,9 +45,9 @@ pub record Members (t body : List ℕ) (count i start n parent : ℕ) (d₀ d ke
   pub same : length d ≡ length d₀
   pub same-kept : length kept ≡ 256
 
-module _ (t l body : List ℕ) (count i n parent : ℕ) (loaded : IsLoaded t l count) where
+module _ (t l body : List ℕ) (count i n parent s : ℕ) (loaded : IsLoaded t l count) where
   pub members-start : (start : ℕ) (d₀ kept : List ℕ) → i ≤ count → length body < 65536 → length kept ≡ 256
-      → Members t body count i start n parent d₀ d₀ kept 0 start 0 i
+      → Members t body count i start n parent s d₀ d₀ kept 0 start 0 i
   members-start start d₀ kept h u size =
       let b = members-bound body (membersOf (drop i (headsOf t))) start [] n parent (members-small t l count loaded i) in
       let b1 = b .inside in
@@ -65,13 +65,13 @@ module _ (t l body : List ℕ) (count i n parent : ℕ) (loaded : IsLoaded t l c
       }
 
   module _ (start : ℕ) (d₀ d kept : List ℕ) (have : ℕ) (o : BodyOffset) (next j : ℕ)
-      (g : Members t body count i start n parent d₀ d kept have (o .0) next j) where
-    none-left : membersOf (drop j (headsOf t)) ≡ [] → Gives (members body (membersOf (drop i (headsOf t))) start [] n parent) d₀ 0 d
+      (g : Members t body count i start n parent s d₀ d kept have (o .0) next j) where
+    none-left : membersOf (drop j (headsOf t)) ≡ [] → Gives (members body (membersOf (drop i (headsOf t))) start [] n parent) s d₀ 0 d
         (record { end = o; count = next })
     unfolding members
     none-left e =
         record {
-          rows = sym (written-none d next) ∙ (rw e at (g .rows));
+          rows = sym (written-none s d next) ∙ (rw e at (g .rows));
           count = let q = rw e at (g .count-is) in omega arith;
           end = rw e at (g .end);
         }
@@ -79,7 +79,7 @@ module _ (t l body : List ℕ) (count i n parent : ℕ) (loaded : IsLoaded t l c
     pub members-part : have ≡ length (take have kept)
     members-part = kept-part kept (g .es) have (g .kept-are)
 
-    pub members-end : count ≤ j → Gives (members body (membersOf (drop i (headsOf t))) start [] n parent) d₀ 0 d (record { end = o; count = next })
+    pub members-end : count ≤ j → Gives (members body (membersOf (drop i (headsOf t))) start [] n parent) s d₀ 0 d (record { end = o; count = next })
     unfolding membersOf
     members-end h = none-left (ap membersOf (none-at t l count loaded j h))
 
@@ -90,7 +90,7 @@ module _ (t l body : List ℕ) (count i n parent : ℕ) (loaded : IsLoaded t l c
     members-next-low = let a = g .few in let b = g .count-is in omega arith
 
     module _ (q : Loaded) (is-q : q ≡ loadedAt l j) (h : j < count) (x : Bool) (is-x : x ≡ isMember q) where
-      pub members-stop : x ≡ false → Gives (members body (membersOf (drop i (headsOf t))) start [] n parent) d₀ 0 d (record { end = o; count = next })
+      pub members-stop : x ≡ false → Gives (members body (membersOf (drop i (headsOf t))) start [] n parent) s d₀ 0 d (record { end = o; count = next })
       members-stop f = none-left (no-member-at t l count loaded j q is-q h (sym is-x ∙ f))
 
       pub members-stands : x ≡ true → Stands t q
@@ -99,17 +99,17 @@ module _ (t l body : List ℕ) (count i n parent : ℕ) (loaded : IsLoaded t l c
     -- a member
     module _ (p : Parameter) (rest : membersOf (drop j (headsOf t)) ≡ p ∷ membersOf (drop (j + 1) (headsOf t))) (h : j < count) where
       absent : sizeAt body (fieldOf p) (g .es) (o .0) ≡ Missing → (d′ : List ℕ) → d′ ≡ d
-          → Gives (members body (membersOf (drop i (headsOf t))) start [] n parent) d₀ 0 d′ (record { end = o; count = next })
+          → Gives (members body (membersOf (drop i (headsOf t))) start [] n parent) s d₀ 0 d′ (record { end = o; count = next })
       unfolding members
       absent e d′ ed =
           let nothing : members body (membersOf (drop j (headsOf t))) (o .0) (g .es) (n + next) parent ≡ ended (o .0) = rw (rest, e) refl in
           record {
-            rows = ed ∙ sym (written-none d next) ∙ (rw nothing at (g .rows));
+            rows = ed ∙ sym (written-none s d next) ∙ (rw nothing at (g .rows));
             count = let q = rw nothing at (g .count-is) in omega arith;
             end = rw nothing at (g .end);
           }
 
-      module _ (d′ : List ℕ) (e : BodyOffset) (y c : ℕ) (w : IsRead body (fieldOf p) (g .es) (o .0) (n + next) parent d next d′ e y c) where
+      module _ (d′ : List ℕ) (e : BodyOffset) (y c : ℕ) (w : IsRead body (fieldOf p) (g .es) (o .0) (n + next) parent s d next d′ e y c) where
         one-more : members body (membersOf (drop j (headsOf t))) (o .0) (g .es) (n + next) parent
             ≡ after (paramRows body (fieldOf p) (o .0) (w .size) (n + next) parent)
             (members body (membersOf (drop (j + 1) (headsOf t))) (e .0) (g .es ++ (paramEntry body (o .0) (w .size .taken) ∷ [])) (n + (next + c)) parent)
@@ -119,8 +119,7 @@ module _ (t l body : List ℕ) (count i n parent : ℕ) (loaded : IsLoaded t l c
             rw (rest, w .there, z, w .end) refl
 
         all-count : next + (length (paramRows body (fieldOf p) (o .0) (w .size) (n + next) parent) + length
-            (members body (membersOf (drop (j + 1) (headsOf t))) (e .0) (g .es ++ (paramEntry body (o .0) (w .size .taken) ∷ []))
-            (n + (next + c)) parent .rows))
+            (members body (membersOf (drop (j + 1) (headsOf t))) (e .0) (g .es ++ (paramEntry body (o .0) (w .size .taken) ∷ [])) (n + (next + c)) parent .rows))
             ≡ length (members body (membersOf (drop i (headsOf t))) start [] n parent .rows)
         all-count = rw (one-more, length-append) at (g .count-is)
 
@@ -128,22 +127,20 @@ module _ (t l body : List ℕ) (count i n parent : ℕ) (loaded : IsLoaded t l c
         small = let a = g .few in let b = w .count in omega (arith, all-count)
 
         taken : (kept′ : List ℕ) (have′ : ℕ) → kept′ ≡ set kept have y → have′ ≡ least (have + 1) 256
-            → Members t body count i start n parent d₀ d′ kept′ have′ (e .0) (next + c) (j + 1)
+            → Members t body count i start n parent s d₀ d′ kept′ have′ (e .0) (next + c) (j + 1)
         taken kept′ have′ ek eh =
             let b = w .count in
-            let r : written d next (paramRows body (fieldOf p) (o .0) (w .size) (n + next) parent
-            ++ members body (membersOf (drop (j + 1) (headsOf t))) (e .0) (g .es ++ (paramEntry body (o .0) (w .size .taken) ∷ []))
-                (n + (next + c)) parent .rows)
-            ≡ written d₀ 0 (members body (membersOf (drop i (headsOf t))) start [] n parent .rows) = rw one-more at (g .rows) in
-            let s : next + c ≡ next + length (paramRows body (fieldOf p) (o .0) (w .size) (n + next) parent) = omega arith in
+            let r : written s d next (paramRows body (fieldOf p) (o .0) (w .size) (n + next) parent
+            ++ members body (membersOf (drop (j + 1) (headsOf t))) (e .0) (g .es ++ (paramEntry body (o .0) (w .size .taken) ∷ [])) (n + (next + c)) parent .rows)
+            ≡ written s d₀ 0 (members body (membersOf (drop i (headsOf t))) start [] n parent .rows) = rw one-more at (g .rows) in
+            let z : next + c ≡ next + length (paramRows body (fieldOf p) (o .0) (w .size) (n + next) parent) = omega arith in
             record {
               es = g .es ++ (paramEntry body (o .0) (w .size .taken) ∷ []);
               kept-are = rw (ek, eh) (kept-push kept (g .es) have y (paramEntry body (o .0) (w .size .taken)) (w .entry) (g .kept-are));
               rows = rw (w .rows)
-                  (written-more d next (paramRows body (fieldOf p) (o .0) (w .size) (n + next) parent)
-                  (members body (membersOf (drop (j + 1) (headsOf t))) (e .0) (g .es ++ (paramEntry body (o .0) (w .size .taken) ∷ []))
-                  (n + (next + c)) parent .rows)
-                  (next + c) s ∙ r);
+                  (written-more s d next (paramRows body (fieldOf p) (o .0) (w .size) (n + next) parent)
+                  (members body (membersOf (drop (j + 1) (headsOf t))) (e .0) (g .es ++ (paramEntry body (o .0) (w .size .taken) ∷ [])) (n + (next + c)) parent .rows)
+                  (next + c) z ∙ r);
               count-is = omega (arith, all-count);
               end = rw one-more at (g .end);
               few = g .few;
@@ -153,25 +150,24 @@ module _ (t l body : List ℕ) (count i n parent : ℕ) (loaded : IsLoaded t l c
             }
 
     module _ (q : Loaded) (is-q : q ≡ loadedAt l j) (h : j < count) (x : Bool) (is-x : x ≡ isMember q) (d′ : List ℕ) (r : Param)
-        (given : ReadsParam body (fieldIn t q) (entries (take have kept)) (o .0) (n + next) parent d next d′ r) (member : x ≡ true) where
+        (given : ReadsParam body (fieldIn t q) (entries (take have kept)) (o .0) (n + next) parent s d next d′ r) (member : x ≡ true) where
       m : MemberAt t l count loaded j q is-q h
       m = member-at t l count loaded j q is-q h (sym is-x ∙ member)
 
-      pub members-missing : r ≡ Absent → Gives (members body (membersOf (drop i (headsOf t))) start [] n parent) d₀ 0 d′
-          (record { end = o; count = next })
+      pub members-missing : r ≡ Absent → Gives (members body (membersOf (drop i (headsOf t))) start [] n parent) s d₀ 0 d′ (record { end = o; count = next })
       members-missing f =
-          let v = is-absent t q (m .param) (m .is) body kept (g .es) have (g .kept-are) (o .0) (n + next) parent d next d′ r given f in
+          let v = is-absent t q (m .param) (m .is) body kept (g .es) have (g .kept-are) (o .0) (n + next) parent s d next d′ r given f in
           absent (m .param) (m .rest) h (v .there) d′ (v .rows)
 
       module _ (e : BodyOffset) (y c : ℕ) (f : r ≡ Read e y c) where
         pub members-fits : Fits w64 (next + c)
         members-fits = small (m .param) (m .rest) h d′ e y c
-            (is-read t q (m .param) (m .is) body kept (g .es) have (g .kept-are) (o .0) (n + next) parent d next d′ r given e y c f)
+            (is-read t q (m .param) (m .is) body kept (g .es) have (g .kept-are) (o .0) (n + next) parent s d next d′ r given e y c f)
 
         pub members-take : (kept′ : List ℕ) (have′ : ℕ) → kept′ ≡ set kept have y → have′ ≡ least (have + 1) 256
-            → Members t body count i start n parent d₀ d′ kept′ have′ (e .0) (next + c) (j + 1)
+            → Members t body count i start n parent s d₀ d′ kept′ have′ (e .0) (next + c) (j + 1)
         members-take = taken (m .param) (m .rest) h d′ e y c
-            (is-read t q (m .param) (m .is) body kept (g .es) have (g .kept-are) (o .0) (n + next) parent d next d′ r given e y c f)
+            (is-read t q (m .param) (m .is) body kept (g .es) have (g .kept-are) (o .0) (n + next) parent s d next d′ r given e y c f)
 
 pub ruleset members-laws =
     (members-start, members-part, members-end, members-low, members-next-low, members-stop, members-stands, members-missing, members-fits, members-take)

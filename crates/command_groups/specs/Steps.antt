@@ -1,4 +1,5 @@
--- What the functions of the walk answer, over the definitions of the rules. The table t becomes t′, from row k on.
+-- What the functions of the walk answer, over the definitions of the rules. The table t, which passes over s rows, becomes t′, from row k
+-- on.
 use mathlib.Core.Bool.{true, false}
 use mathlib.Core.Path.{_≡_}
 use mathlib.Core.List.{List, _∷_}
@@ -18,25 +19,25 @@ use Rattle.command_groups.specs.declared.Repetition.{Repetition}
 use Rattle.command_groups.specs.declared.Repetition.the-variants.{Took, Nothing}
 
 -- a list: its rows, how many they are, where it ends
-pub record Gives (w : Walked) (t : List ℕ) (k : ℕ) (t′ : List ℕ) (r : Taken) : Type 0 where
-  pub rows : t′ ≡ written t k (w .rows)
+pub record Gives (w : Walked) (s : ℕ) (t : List ℕ) (k : ℕ) (t′ : List ℕ) (r : Taken) : Type 0 where
+  pub rows : t′ ≡ written s t k (w .rows)
   pub count : r .count ≡ length (w .rows)
   pub end : r .end .0 ≡ w .end
 
 -- a group: how often it repeats, besides
-pub record GivesGroup (w : Walked) (t : List ℕ) (k : ℕ) (t′ : List ℕ) (r : Repeated) : Type 0 where
-  pub rows : t′ ≡ written t k (w .rows)
+pub record GivesGroup (w : Walked) (s : ℕ) (t : List ℕ) (k : ℕ) (t′ : List ℕ) (r : Repeated) : Type 0 where
+  pub rows : t′ ≡ written s t k (w .rows)
   pub count : r .count ≡ length (w .rows)
   pub end : r .end .0 ≡ w .end
   pub times : r .times ≡ w .times
 
-module _ (body : List ℕ) (line : ℕ) (qs : List Parameter) (number at n : ℕ) (t : List ℕ) (k : ℕ) (t′ : List ℕ) where
+module _ (body : List ℕ) (line : ℕ) (qs : List Parameter) (number at n s : ℕ) (t : List ℕ) (k : ℕ) (t′ : List ℕ) where
   -- a repetition takes something
   pub record IsTook (e : BodyOffset) (c : ℕ) : Type 0 where
     pub took : ltb at (turn body qs at n .end) ≡ true
     pub end : e .0 ≡ turn body qs at n .end
     pub count : c ≡ length (turn body qs at n .rows) + 1
-    pub rows : t′ ≡ written t k (repetitionRow line at (turn body qs at n .end) number ∷ turn body qs at n .rows)
+    pub rows : t′ ≡ written s t k (repetitionRow line at (turn body qs at n .end) number ∷ turn body qs at n .rows)
 
   -- it takes nothing
   pub record IsNothing : Type 0 where

@@ -32,11 +32,12 @@ pub struct Group {
     pub count: usize,
 }
 
-// A repetition: its number, from 0, its place in the body, and the number of its own row.
+// A repetition: its number, from 0, its place in the body, the number of its own row, and how many rows the table passes over.
 pub struct Turn {
     pub number: usize,
     pub at: BodyOffset,
     pub row: usize,
+    pub skip: usize,
 }
 
 // What a list takes: where it ends, and how many rows it has.
@@ -105,10 +106,17 @@ pub fn param_at(
 ) -> Param
     requires { ⌜ (Stands (now text) q) × (length (now body) < 65536) × (spot .row < 2 ^ 50) × (k < 2 ^ 50) ⌝ }
     ensures { λ r. ⌜ ReadsParam (now (body .entry)) (fieldIn (now (text .entry)) q) (entries (now (es .entry))) (spot .at .0) (spot .row) (spot .parent)
-        (now (rows .entry)) k (now (rows .exit)) r ⌝ }
+        (spot .skip) (now (rows .entry)) k (now (rows .exit)) r ⌝ }
 {
-    let rest = command_rows::row_at(k, rows.len());
-    command_param::decode_param(text, q, body, spot, es, &mut rows[rest..])
+    let rest = command_rows::row_at(spot.skip, k, rows.len());
+    let at = spot.at;
+    let here = Spot {
+        at,
+        row: spot.row,
+        parent: spot.parent,
+        skip: command_rows::less(spot.skip, k),
+    };
+    command_param::decode_param(text, q, body, here, es, &mut rows[rest..])
 }
 
 // The members of one repetition: the loaded rows from the group's first on, up to the first that is no member. `spot` is that of the first member, and
@@ -125,7 +133,7 @@ fn read_members(
     requires { ⌜ (IsLoaded (now text) (now loaded) (group .count)) × (group .first ≤ group .count) × (length (now body) < 65536)
         × (length (now kept) ≡ 256) × (spot .row < 2 ^ 49) ⌝ }
     ensures { λ r. ⌜ Gives (members (now (body .entry)) (membersOf (drop (group .first) (headsOf (now (text .entry))))) (spot .at .0) [] (spot .row)
-        (spot .parent)) (now (rows .entry)) 0 (now (rows .exit)) r ⌝ }
+        (spot .parent)) (spot .skip) (now (rows .entry)) 0 (now (rows .exit)) r ⌝ }
 {
     let mut have: usize = 0;
     let mut at = spot.at;
@@ -138,6 +146,7 @@ fn read_members(
                 at,
                 row: spot.row + next,
                 parent: spot.parent,
+                skip: spot.skip,
             };
             let Param::Read {
                 end,
@@ -200,15 +209,16 @@ fn members_at(
     requires { ⌜ (IsLoaded (now text) (now loaded) (group .count)) × (group .first ≤ group .count) × (length (now body) < 65536)
         × (length (now kept) ≡ 256) × (repetition .row < 2 ^ 48) ⌝ }
     ensures { λ r. ⌜ Gives (turn (now (body .entry)) (membersOf (drop (group .first) (headsOf (now (text .entry))))) (repetition .at .0) (repetition .row))
-        (now (rows .entry)) 1 (now (rows .exit)) r ⌝ }
+        (repetition .skip) (now (rows .entry)) 1 (now (rows .exit)) r ⌝ }
 {
-    let rest = command_rows::row_at(1, rows.len());
+    let rest = command_rows::row_at(repetition.skip, 1, rows.len());
     let at = repetition.at;
     let first = repetition.row + 1;
     let spot = Spot {
         at,
         row: first,
         parent: first as u64,
+        skip: command_rows::less(repetition.skip, 1),
     };
     read_members(text, loaded, group, body, spot, kept, &mut rows[rest..])
 }
@@ -225,9 +235,8 @@ fn read_repetition(
 ) -> Repetition
     requires { ⌜ (IsLoaded (now text) (now loaded) (group .count)) × (group .first ≤ group .count) × (length (now body) < 65536)
         × (length (now kept) ≡ 256) × (repetition .row < 2 ^ 48) ⌝ }
-    ensures { λ r. ⌜ Repeats (now (body .entry)) (group .line) (membersOf (drop (group .first) (headsOf (now (text .entry))))) (repetition .number)
-        (repetition .at .0)
-        (repetition .row) (now (rows .entry)) 0 (now (rows .exit)) r ⌝ }
+    ensures { λ r. ⌜ Repeats (now (body .entry)) (group .line) (membersOf (drop (group .first) (headsOf (now (text .entry))))) (repetition .number) (repetition .at .0)
+        (repetition .row) (repetition .skip) (now (rows .entry)) 0 (now (rows .exit)) r ⌝ }
 {
     let at = repetition.at;
     let taken = members_at(text, loaded, group, body, repetition, kept, rows);
@@ -237,6 +246,7 @@ fn read_repetition(
     }
     command_rows::write_row(
         rows,
+        repetition.skip,
         0,
         repetition_row(group.line, at, end, repetition.number),
     );
@@ -258,26 +268,23 @@ fn repetition_at(
 ) -> Repetition
     requires { ⌜ (IsLoaded (now text) (now loaded) (group .count)) × (group .first ≤ group .count) × (length (now body) < 65536)
         × (length (now kept) ≡ 256) × (repetition .row < 2 ^ 48) ⌝ }
-    ensures { λ r. ⌜ Repeats (now (body .entry)) (group .line) (membersOf (drop (group .first) (headsOf (now (text .entry))))) (repetition .number)
-        (repetition .at .0)
-        (repetition .row) (now (rows .entry)) (repetition .row) (now (rows .exit)) r ⌝ }
+    ensures { λ r. ⌜ Repeats (now (body .entry)) (group .line) (membersOf (drop (group .first) (headsOf (now (text .entry))))) (repetition .number) (repetition .at .0)
+        (repetition .row) (repetition .skip) (now (rows .entry)) (repetition .row) (now (rows .exit)) r ⌝ }
 {
-    let rest = command_rows::row_at(repetition.row, rows.len());
-    read_repetition(
-        text,
-        loaded,
-        group,
-        body,
-        repetition,
-        kept,
-        &mut rows[rest..],
-    )
+    let rest = command_rows::row_at(repetition.skip, repetition.row, rows.len());
+    let at = repetition.at;
+    let here = Turn {
+        number: repetition.number,
+        at,
+        row: repetition.row,
+        skip: command_rows::less(repetition.skip, repetition.row),
+    };
+    read_repetition(text, loaded, group, body, here, kept, &mut rows[rest..])
 }
 
 // How often a group repeats at most, after the entries `es` of the outer list.
 pub fn repeats_at(g: Loaded, body: &[u8], at: BodyOffset, es: &[u16]) -> usize
-    ensures { λ r. ⌜ r ≡ repeats (g .paramoffs) (g .sizemask) (record { 0 = g .sizeoffs }) (entries (now (es .entry)))
-        (length (now (body .entry)) - at .0) ⌝ }
+    ensures { λ r. ⌜ r ≡ repeats (g .paramoffs) (g .sizemask) (record { 0 = g .sizeoffs }) (entries (now (es .entry))) (length (now (body .entry)) - at .0) ⌝ }
 {
     let rest = command_param::remaining(body, at);
     command_lengths::repeats_of(g.paramoffs, g.sizemask, BitShift(g.sizeoffs), es, rest)
@@ -293,10 +300,9 @@ pub fn read_group(
     spot: Spot,
     rows: &mut [u64],
 ) -> Repeated
-    requires { ⌜ (IsLoaded (now text) (now loaded) (group .count)) × (group .first ≤ group .count) × (length (now body) < 65536)
-        × (spot .row < 2 ^ 47) ⌝ }
+    requires { ⌜ (IsLoaded (now text) (now loaded) (group .count)) × (group .first ≤ group .count) × (length (now body) < 65536) × (spot .row < 2 ^ 47) ⌝ }
     ensures { λ r. ⌜ GivesGroup (repetitions (now (body .entry)) (group .line) (membersOf (drop (group .first) (headsOf (now (text .entry))))) most 0
-        (spot .at .0) (spot .row)) (now (rows .entry)) (spot .row) (now (rows .exit)) r ⌝ }
+        (spot .at .0) (spot .row)) (spot .skip) (now (rows .entry)) (spot .row) (now (rows .exit)) r ⌝ }
 {
     let mut kept = [0u16; 256];
     let mut from = spot.at;
@@ -307,6 +313,7 @@ pub fn read_group(
             number: times,
             at: from,
             row: spot.row + next,
+            skip: spot.skip,
         };
         let Repetition::Took { end, count: more } = repetition_at(
             text,

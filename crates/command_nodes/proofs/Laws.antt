@@ -18,22 +18,29 @@ use Rattle.command_text.specs.Form.{Record, param, group, item, Detail, variant
 use Rattle.command_text.specs.Rules.{rules, verdict}
 use Rattle.command_text.specs.declared.Typed.{Typed}
 use Rattle.command_text.specs.declared.Typed.the-variants.{Is, Not}
-use Rattle.command_class.specs.Definition.{Item, letter, letterOf, numbered}
+use Rattle.command_class.specs.Definition.{Item, letter, letterOf, numbered, definition}
 use Rattle.command_class.specs.Find.{from, IsRead, Says}
 use Rattle.command_class.specs.declared.Read.{Read}
-use Rattle.command_class.specs.declared.Row.{Row}
+use Rattle.command_class.specs.declared.Row.{Row as Line}
 use Rattle.command_rules.specs.Rows.{rowWidth}
+use Rattle.command_rules.specs.declared.Offsets.{Offsets}
+use Rattle.command_rules.specs.declared.Row.{Row}
+use Rattle.command_rows.specs.Rows.{rowIn}
+use Rattle.command_row.specs.Answer.{rowBy, rowOf}
+use Rattle.command_row.specs.declared.Found.{Found}
+use Rattle.command_row.specs.declared.Found.the-variants as found
 use Rattle.node_mask.specs.Nodes.{Lists}
+use Rattle.node_mask.proofs.NodeLaws.{nodes-address}
 use Rattle.node_mask.specs.declared.Listed.{Listed}
 use Rattle.node_mask.specs.declared.Listed.the-variants as listing
-use Rattle.command_nodes.specs.Fields.{typeSaid, typeRead, typeAmong, paramType, isTyped, isMask, kindAt, lineAt, startAt, endAt, partIn, maskAt}
-use Rattle.command_nodes.specs.Answer.{RowNodes, LentNodes}
+use Rattle.command_nodes.specs.Fields.{typeSaid, typeRead, typeAmong, paramType, isTyped, isMask, partIn, maskOf}
+use Rattle.command_nodes.specs.Answer.{RowNodes, LentNodes, ofFound, leftBy, CommandNodes}
 
 -- ---- type_read
-pub read-q : (r : Row) → r .kind ≡ 81 → Is (r .typed) ≡ typeRead r
+pub read-q : (r : Line) → r .kind ≡ 81 → Is (r .typed) ≡ typeRead r
 read-q r h = rw (eq-eqb (r .kind) 81 h)
 
-pub read-other : (r : Row) → (r .kind ≡ 81 → ⊥) → Not ≡ typeRead r
+pub read-other : (r : Line) → (r .kind ≡ 81 → ⊥) → Not ≡ typeRead r
 read-other r h = rw (ne-eqb (r .kind) 81 h)
 
 item-kind : (d : Detail) → letterOf d ≡ 81 → ⊥
@@ -45,7 +52,7 @@ item-kind (const value name) e = omega arith
 item-kind (bitmask length) e = omega arith
 
 -- the numbers of a line tell its type
-told-type : (x : Record) (r : Row) → r .kind ≡ letter x → Says x r → typeRead r ≡ typeSaid x
+told-type : (x : Record) (r : Line) → r .kind ≡ letter x → Says x r → typeRead r ≡ typeSaid x
 told-type (param q) r k s = rw (eq-eqb (r .kind) 81 k, s .1)
 told-type (group g) r k s = rw (ne-eqb (r .kind) 81 (λ e. omega arith))
 told-type (item d) r k s = rw (ne-eqb (r .kind) 81 (λ e. item-kind d (sym k ∙ e)))
@@ -89,13 +96,12 @@ pub no-bytes : (payload l : List ℕ) (start end : ℕ) → l ≡ take 0 (drop s
 no-bytes payload l start end e h = let z : end - start ≡ 0 = omega arith in rw z e
 
 -- ---- nodes_of_row
-module _ (t payload rows : List ℕ) (k : ℕ) (table : List ℕ) (b : Bool) (is : b ≡ isMask t (kindAt rows k) (lineAt rows k)) where
-  pub row-not : b ≡ false → RowNodes t payload rows k table (listing.Refused (NoSuchField k)) table
+module _ (t payload : List ℕ) (row : Row) (k : ℕ) (table : List ℕ) (b : Bool) (is : b ≡ isMask t (row .kind) (row .line)) where
+  pub row-not : b ≡ false → RowNodes t payload row k table (listing.Refused (NoSuchField k)) table
   row-not e = record { answer = rw (← is, e) refl; leaves = refl }
 
-  pub row-lists : (m : List ℕ) (r : Listed) (table′ : List ℕ) → m ≡ partIn payload (startAt rows k) (endAt rows k) → Lists m table r table′
-      → b ≡ true
-      → RowNodes t payload rows k table r table′
+  pub row-lists : (m : List ℕ) (r : Listed) (table′ : List ℕ) → m ≡ partIn payload (row .start) (row .end) → Lists m table r table′ → b ≡ true
+      → RowNodes t payload row k table r table′
   row-lists m r table′ part l e = record { answer = rw (← is, e, ← part) (l .answer); leaves = rw (← part) (l .leaves) }
 
 -- ---- row_nodes
@@ -110,12 +116,40 @@ module _ (t payload rows : List ℕ) (k : ℕ) (table : List ℕ) (v : Verdict) 
     pub lent-past : length rows / rowWidth ≤ k → LentNodes t payload rows k table (listing.Refused (NoSuchField k)) table
     lent-past h = record { answer = rw (accepted, le-leb (length rows / rowWidth) k h) refl; leaves = refl }
 
-    pub lent-row : (r : Listed) (table′ : List ℕ) → RowNodes t payload rows k table r table′ → k < length rows / rowWidth
+    pub lent-row : (row : Row) (r : Listed) (table′ : List ℕ) → RowNodes t payload row k table r table′ → row ≡ rowIn rows k → k < length rows / rowWidth
         → LentNodes t payload rows k table r table′
-    lent-row r table′ l h = record { answer = rw (accepted, lt-leb (length rows / rowWidth) k h) (l .answer); leaves = l .leaves }
+    lent-row row r table′ l is-row h =
+        record { answer = rw (accepted, lt-leb (length rows / rowWidth) k h) (rw is-row at (l .answer)); leaves = rw is-row at (l .leaves) }
 
 pub lent-inside : (rows : List ℕ) (k : ℕ) → k < length rows / rowWidth → k * rowWidth + rowWidth ≤ length rows
 lent-inside rows k h = omega arith
+
+-- ---- nodes_accepted: behind the row x that `row_accepted` answers
+module _ (offsets : Offsets) (t payload : List ℕ) (k : ℕ) (table : List ℕ) (x : Found) (is : x ≡ rowBy offsets (definition t) payload k)
+    (a : verdict t ≡ text.Accepted) where
+  found-is : x ≡ rowOf offsets t payload k
+  unfolding rowOf
+  found-is = rw a is
+
+  told : (r : Listed) (table′ : List ℕ) → r ≡ ofFound t payload k (length table) x → table′ ≡ leftBy payload table r x
+      → CommandNodes offsets t payload k table r table′
+  told r table′ e l =
+      record { answer = rw (← found-is) e; leaves = rw (← found-is) l; lists = λ row h. nodes-address (maskOf payload row) }
+
+  pub told-refused : (y : Refusal) → x ≡ found.Refused y → CommandNodes offsets t payload k table (listing.Refused y) table
+  told-refused y e = told _ _ (rw e refl) (rw e refl)
+
+  pub told-row : (row : Row) (r : Listed) (table′ : List ℕ) → RowNodes t payload row k table r table′ → x ≡ found.Row row
+      → CommandNodes offsets t payload k table r table′
+  told-row row r table′ l e = told r table′ (rw e (l .answer)) (rw e (l .leaves))
+
+-- ---- command_nodes
+pub told-not : (offsets : Offsets) (t payload : List ℕ) (k : ℕ) (table : List ℕ) (v : Verdict) (y : Refusal) → v ≡ verdict t → v ≡ text.Refused y
+    → CommandNodes offsets t payload k table (listing.Refused y) table
+unfolding rowOf
+told-not offsets t payload k table v y is e =
+    let w : verdict t ≡ text.Refused y = sym is ∙ e in
+    record { answer = rw w refl; leaves = rw w refl; lists = λ row h. nodes-address (maskOf payload row) }
 
 pub told-judged : (t : List ℕ) (v : Verdict) → v ≡ verdict t → v ≡ text.Accepted → verdict t ≡ text.Accepted
 told-judged t v is e = sym is ∙ e
@@ -137,5 +171,8 @@ pub ruleset laws = (
   lent-past,
   lent-row,
   lent-inside,
+  told-refused,
+  told-row,
+  told-not,
   told-judged,
 )

@@ -1,9 +1,9 @@
 -- BM2 (docs/RULES.md): which rows of a command are masks of nodes.
-use Prim.Native.Nat.{ℕ, _+_, _-_, _*_}
+use Prim.Native.Nat.{ℕ, _-_}
 use mathlib.Core.Bool.{Bool, true, false, cond, _&&_}
 use mathlib.Core.List.{List, [], _∷_}
 use lib.Dec.{eqb}
-use lib.ListN.{getD, take, drop}
+use lib.ListN.{take, drop}
 use Rattle.text.specs.Text.{lines}
 use Rattle.text.specs.Records.{records}
 use Rattle.command_text.specs.Form.{Record, param, group, item, form}
@@ -12,8 +12,8 @@ use Rattle.command_text.specs.declared.ParamType.the-variants.{Byte, StructByte
 use Rattle.command_text.specs.declared.Typed.{Typed}
 use Rattle.command_text.specs.declared.Typed.the-variants.{Is, Not}
 use Rattle.command_class.specs.Definition.{Item, numbered}
-use Rattle.command_class.specs.declared.Row.{Row}
-use Rattle.command_rules.specs.Rows.{rowWidth}
+use Rattle.command_class.specs.declared.Row.{Row as Line}
+use Rattle.command_rules.specs.declared.Row.{Row}
 
 -- the type that a line says, if it is a Q
 abbrev pub typeSaid : Record → Typed
@@ -22,7 +22,7 @@ typeSaid (group g) = Not
 typeSaid (item d) = Not
 
 -- the same by the numbers of the line
-abbrev pub typeRead : Row → Typed
+abbrev pub typeRead : Line → Typed
 typeRead r = cond (eqb (r .kind) 0x51) (Is (r .typed)) Not
 
 -- the type that line k says, among these
@@ -55,27 +55,14 @@ isTyped Not = false
 unfoldable pub isMask : List ℕ → ℕ → ℕ → Bool
 isMask t kind line = eqb kind 0 && isTyped (paramType t line)
 
--- C16: the kind, the line, the first byte and the end of row k of a command's rows
-abbrev pub kindAt : List ℕ → ℕ → ℕ
-kindAt rows k = getD rows (k * rowWidth + 0) 0
-
-abbrev pub lineAt : List ℕ → ℕ → ℕ
-lineAt rows k = getD rows (k * rowWidth + 1) 0
-
-abbrev pub startAt : List ℕ → ℕ → ℕ
-startAt rows k = getD rows (k * rowWidth + 3) 0
-
-abbrev pub endAt : List ℕ → ℕ → ℕ
-endAt rows k = getD rows (k * rowWidth + 4) 0
-
 -- the bytes from one place to another
 abbrev pub partIn : List ℕ → ℕ → ℕ → List ℕ
 partIn payload start end = take (end - start) (drop start payload)
 
--- BM2: is row k such a parameter
-abbrev pub isMaskRow : List ℕ → List ℕ → ℕ → Bool
-isMaskRow t rows k = isMask t (kindAt rows k) (lineAt rows k)
+-- BM2: is it the row of such a parameter
+abbrev pub isMaskRow : List ℕ → Row → Bool
+isMaskRow t r = isMask t (r .kind) (r .line)
 
 -- BM2: its bytes of the payload
-abbrev pub maskAt : List ℕ → List ℕ → ℕ → List ℕ
-maskAt payload rows k = partIn payload (startAt rows k) (endAt rows k)
+abbrev pub maskOf : List ℕ → Row → List ℕ
+maskOf payload r = partIn payload (r .start) (r .end)

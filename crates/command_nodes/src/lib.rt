@@ -1,11 +1,12 @@
-// The nodes that a parameter of a command addresses: BM2 and BM4 of docs/RULES.md. Such a parameter is the row of a Q whose type is BITMASK.
-use command_class::Row;
+// The nodes that a parameter of a command addresses: BM2, BM4 and BM6 of docs/RULES.md. Such a parameter is the row of a Q whose type is BITMASK.
+use command_class::Row as Line;
 use command_class::read_at;
-use command_rows::END;
-use command_rows::KIND;
-use command_rows::LINE;
+use command_row::Found;
+use command_row::row_accepted;
 use command_rows::ROW_WIDTH;
-use command_rows::START;
+use command_rows::read_row;
+use command_rules::Offsets;
+use command_rules::Row;
 use command_text::ParamType;
 use command_text::Typed;
 use command_text::check_command_text;
@@ -16,16 +17,13 @@ use refusal::Refusal;
 use text::Place;
 use text::Verdict;
 ghost use mathlib.Core.Path.{_≡_};
-ghost use Prim.Native.Nat.{_+_, _*_, _≤_};
-ghost use lib.ListN.{length};
 ghost use Rattle.text.specs.declared.Verdict.the-variants.{Accepted};
 ghost use Rattle.command_text.specs.Rules.{verdict};
-ghost use Rattle.command_rules.specs.Rows.{rowWidth};
 ghost use Rattle.command_nodes.specs.Fields.{paramType, typeRead, isBitmask, isTyped, isMask, partIn};
-ghost use Rattle.command_nodes.specs.Answer.{RowNodes, LentNodes};
+ghost use Rattle.command_nodes.specs.Answer.{RowNodes, LentNodes, CommandNodes};
 
 // The type that a line says, if it is a Q.
-fn type_read(row: Row) -> Typed
+fn type_read(row: Line) -> Typed
     ensures { λ r. ⌜ r ≡ typeRead row ⌝ }
 {
     if row.kind == b'Q' {
@@ -100,17 +98,16 @@ fn bytes_between(payload: &[u8], start: u64, end: u64) -> &[u8]
     part_of(payload, start, end - start)
 }
 
-// The nodes of a row of a command by a text that is accepted; or refusal 11 or 8.
-fn nodes_of_row(text: &[u8], payload: &[u8], rows: &[u64], row: usize, nodes: &mut [u16]) -> Listed
-    requires { ⌜ (verdict (now text) ≡ Accepted) × (row * rowWidth + rowWidth ≤ length (now rows)) ⌝ }
-    ensures { λ r. ⌜ RowNodes (now (text .entry)) (now (payload .entry)) (now (rows .entry)) row (now (nodes .entry)) r (now (nodes .exit)) ⌝ }
+// The nodes of a row by a text that is accepted; or refusal 11, which carries the number of the row that was asked for, or 8.
+fn nodes_of_row(text: &[u8], payload: &[u8], row: Row, asked: usize, nodes: &mut [u16]) -> Listed
+    requires { ⌜ verdict (now text) ≡ Accepted ⌝ }
+    ensures { λ r. ⌜ RowNodes (now (text .entry)) (now (payload .entry)) row asked (now (nodes .entry)) r (now (nodes .exit)) ⌝ }
 {
-    let at = row * ROW_WIDTH;
-    if is_mask(text, rows[at + KIND], rows[at + LINE]) {
-        let mask = bytes_between(payload, rows[at + START], rows[at + END]);
+    if is_mask(text, row.kind, row.line) {
+        let mask = bytes_between(payload, row.start, row.end);
         return mask_nodes(mask, nodes);
     }
-    Listed::Refused(Refusal::NoSuchField(row))
+    Listed::Refused(Refusal::NoSuchField(asked))
 }
 
 // The nodes of a row of a table that `decode_params` has filled; or refusal 1 to 3, 11 or 8.
@@ -122,8 +119,41 @@ pub fn row_nodes(text: &[u8], payload: &[u8], rows: &[u64], row: usize, nodes: &
             if rows.len() / ROW_WIDTH <= row {
                 return Listed::Refused(Refusal::NoSuchField(row));
             }
-            nodes_of_row(text, payload, rows, row, nodes)
+            nodes_of_row(text, payload, read_row(rows, row), row, nodes)
         }
+        Verdict::Refused(refusal) => Listed::Refused(refusal),
+    }
+}
+
+// The nodes of a row of the command by a text that is accepted; or refusal 4, 5, 11 or 8.
+pub fn nodes_accepted(
+    text: &[u8],
+    payload: &[u8],
+    offsets: Offsets,
+    row: usize,
+    nodes: &mut [u16],
+) -> Listed
+    requires { ⌜ verdict (now text) ≡ Accepted ⌝ }
+    ensures { λ r. ⌜ CommandNodes offsets (now (text .entry)) (now (payload .entry)) row (now (nodes .entry)) r (now (nodes .exit)) ⌝ }
+{
+    match row_accepted(text, payload, offsets, row) {
+        Found::Row(found) => nodes_of_row(text, payload, found, row, nodes),
+        Found::Refused(refusal) => Listed::Refused(refusal),
+    }
+}
+
+// The nodes of a row of a command, from 0, rising, each once; or refusal 1 to 5, 11 or 8, and nothing is written. The row is walked to, with no table of rows.
+pub fn command_nodes(
+    text: &[u8],
+    payload: &[u8],
+    offsets: Offsets,
+    row: usize,
+    nodes: &mut [u16],
+) -> Listed
+    ensures { λ r. ⌜ CommandNodes offsets (now (text .entry)) (now (payload .entry)) row (now (nodes .entry)) r (now (nodes .exit)) ⌝ }
+{
+    match check_command_text(text) {
+        Verdict::Accepted => nodes_accepted(text, payload, offsets, row, nodes),
         Verdict::Refused(refusal) => Listed::Refused(refusal),
     }
 }

@@ -20,13 +20,12 @@ use Rattle.command_class.specs.Find.{from, among, Says, IsRead}
 use Rattle.command_class.specs.declared.Row.{Row as Line}
 use Rattle.command_class.specs.declared.Read.{Read}
 use Rattle.command_class.proofs.Finding.{among-laws}
-use Rattle.command_rules.specs.Rows.{rowWidth}
 use Rattle.command_rules.specs.Lengths.{masked}
 use Rattle.command_schema.specs.Loaded.{after, Stands}
 use Rattle.command_schema.specs.declared.Loaded.{Loaded}
 use Rattle.command_rows.specs.Rows.{written, Writes}
 use Rattle.command_rules.specs.declared.Row.{Row}
-use Rattle.command_rows.proofs.Laws.{written-none, length-written, written-more, written-full}
+use Rattle.command_rows.proofs.Laws.{written-none, length-written, written-more}
 use Rattle.command_rules.proofs.Children.{bits-count}
 use Rattle.command_rules.specs.Param.{bitValue, bitRow, bitRows}
 use Rattle.command_param.specs.Steps.{bitNumber}
@@ -82,27 +81,24 @@ no-bit-said b (item (bitField f)) l k h = absurd (let z : _≡_ {A = Bool} true 
 no-bit-said b (item (const v n)) l k h = refl
 no-bit-said b (item (bitmask n)) l k h = refl
 
-none-of : (rs : List Row) → length rs ≡ 0 → rs ≡ []
+pub none-of : (rs : List Row) → length rs ≡ 0 → rs ≡ []
 none-of [] h = refl
 none-of (r ∷ rs) h = absurd (omega arith)
 
 -- ---- decode_bits: the rows still to come, from the place p on
-pub record Children (t : List ℕ) (p₀ : Place) (b parent start total : ℕ) (d₀ d : List ℕ) (p : Place) (k : ℕ) : Type 0 where
+pub record Children (t : List ℕ) (p₀ : Place) (b parent start total s : ℕ) (d₀ d : List ℕ) (p : Place) (k : ℕ) : Type 0 where
   pub readable : Readable rules t p
-  pub rows : written d k (bitRows b parent start (under (from t p))) ≡ written d₀ 0 (bitRows b parent start (under (from t p₀)))
+  pub rows : written s d k (bitRows b parent start (under (from t p))) ≡ written s d₀ 0 (bitRows b parent start (under (from t p₀)))
   pub count : k + length (bitRows b parent start (under (from t p))) ≡ total
   pub all : total ≡ length (bitRows b parent start (under (from t p₀)))
   pub few : total < 65536
   pub same : length d ≡ length d₀
 
-module _ (t : List ℕ) (q : Loaded) (b parent start : ℕ) (stands : Stands t q) where
-  total-is : q .bits ≡ length (bitRows b parent start (under (from t (after q))))
+module _ (t : List ℕ) (q : Loaded) (b parent start s : ℕ) (stands : Stands t q) where
+  pub total-is : q .bits ≡ length (bitRows b parent start (under (from t (after q))))
   total-is = stands .bits ∙ sym (bits-count b parent start (under (from t (after q))))
 
-  pub children-full : (d : List ℕ) → length d < rowWidth → Writes d 0 (bitRows b parent start (under (from t (after q)))) d (q .bits)
-  children-full d h = record { rows = sym (written-full d 0 (bitRows b parent start (under (from t (after q)))) (omega arith)); count = total-is }
-
-  pub children-start : (d : List ℕ) (p : Place) → p ≡ after q → q .bits < 65536 → Children t p b parent start (q .bits) d d p 0
+  pub children-start : (d : List ℕ) (p : Place) → p ≡ after q → q .bits < 65536 → Children t p b parent start (q .bits) s d d p 0
   children-start d p e h =
       rw e
       (record {
@@ -114,14 +110,14 @@ module _ (t : List ℕ) (q : Loaded) (b parent start : ℕ) (stands : Stands t q
         same = refl;
       })
 
-module _ (t : List ℕ) (p₀ : Place) (b parent start total : ℕ) (d₀ d : List ℕ) (p : Place) (k : ℕ)
-    (g : Children t p₀ b parent start total d₀ d p k) where
-  pub children-done : (q : Loaded) → p₀ ≡ after q → total ≤ k → Writes d₀ 0 (bitRows b parent start (under (from t (after q)))) d total
+module _ (t : List ℕ) (p₀ : Place) (b parent start total s : ℕ) (d₀ d : List ℕ) (p : Place) (k : ℕ)
+    (g : Children t p₀ b parent start total s d₀ d p k) where
+  pub children-done : (q : Loaded) → p₀ ≡ after q → total ≤ k → Writes s d₀ 0 (bitRows b parent start (under (from t (after q)))) d total
   children-done q e h =
       let c = g .count in
       let none-left : bitRows b parent start (under (from t p)) ≡ [] = none-of (bitRows b parent start (under (from t p))) (omega arith) in
       let is : from t p₀ ≡ from t (after q) = ap (from t) e in
-      rw (← is) (record { rows = sym (written-none d k) ∙ (rw none-left at (g .rows)); count = g .all })
+      rw (← is) (record { rows = sym (written-none s d k) ∙ (rw none-left at (g .rows)); count = g .all })
 
   module _ (more : k < total) where
     some-left : under (from t p) ≡ [] → ⊥
@@ -151,7 +147,7 @@ module _ (t : List ℕ) (p₀ : Place) (b parent start total : ℕ) (d₀ d : Li
 
       module _ (x : Bool) (is-x : x ≡ among 84 83 83 (read .row .kind)) where
         -- another line
-        pub children-pass : x ≡ false → Children t p₀ b parent start total d₀ d (read .next) k
+        pub children-pass : x ≡ false → Children t p₀ b parent start total s d₀ d (read .next) k
         unfolding bitRows
         children-pass f =
             let same-rows : bitRows b parent start (under (from t p)) ≡ bitRows b parent start (under (from t (read .next))) =
@@ -168,22 +164,22 @@ module _ (t : List ℕ) (p₀ : Place) (b parent start total : ℕ) (d₀ d : Li
 
         -- a T or S
         module _ (row : Row) (d′ : List ℕ) (is-row : row ≡ bitRow (p .line) parent start (bitNumber b (read .row)))
-            (wrote : d′ ≡ written d k (row ∷ [])) where
-          pub children-more : x ≡ true → Children t p₀ b parent start total d₀ d′ (read .next) (k + 1)
+            (wrote : d′ ≡ written s d k (row ∷ [])) where
+          pub children-more : x ≡ true → Children t p₀ b parent start total s d₀ d′ (read .next) (k + 1)
           unfolding bitRows
           children-more f =
               let one-more : bitRows b parent start (under (from t p)) ≡ row ∷ bitRows b parent start (under (from t (read .next))) =
               rw (under-is, bit-said b (is-read .said) (read .row) (is-read .kind) (is-read .says) (sym is-x ∙ f), is-row) refl in
               let c : k + suc (length (bitRows b parent start (under (from t (read .next))))) ≡ total = rw one-more at (g .count) in
-              let r : written d k (row ∷ bitRows b parent start (under (from t (read .next))))
-              ≡ written d₀ 0 (bitRows b parent start (under (from t p₀))) = rw one-more at (g .rows) in
+              let r : written s d k (row ∷ bitRows b parent start (under (from t (read .next))))
+              ≡ written s d₀ 0 (bitRows b parent start (under (from t p₀))) = rw one-more at (g .rows) in
               record {
                 readable = is-read .next;
-                rows = rw wrote (written-more d k (row ∷ []) (bitRows b parent start (under (from t (read .next)))) (k + 1) refl ∙ r);
+                rows = rw wrote (written-more s d k (row ∷ []) (bitRows b parent start (under (from t (read .next)))) (k + 1) refl ∙ r);
                 count = omega arith;
                 all = g .all;
                 few = g .few;
                 same = rw (wrote, length-written) (g .same);
               }
 
-pub ruleset children-laws = (children-full, children-start, children-done, children-inside, children-less, children-pass, children-more)
+pub ruleset children-laws = (children-start, children-done, children-inside, children-less, children-pass, children-more)

@@ -1,4 +1,4 @@
--- What the functions answer that read a Q, over the definitions of the rules. The table t becomes t′, from row k on.
+-- What the functions answer that read a Q, over the definitions of the rules. The table t, which passes over s rows, becomes t′, from row k on.
 use mathlib.Core.Bool.{cond}
 use mathlib.Core.Path.{_≡_}
 use mathlib.Core.List.{List}
@@ -25,12 +25,12 @@ abbrev pub bitNumber : ℕ → Line → ℕ
 bitNumber b l = cond (eqb (l .kind) 0x54) (cond (eqb (bitAnd b (l .mask)) 0) 0 1) (masked b (l .mask) (record { 0 = l .shift }))
 
 -- a Q of this length is written, its own row as row n
-pub record WritesParam (body : List ℕ) (q : Field) (at : ℕ) (size : Length) (n parent : ℕ) (t t′ : List ℕ) (r : Wrote) : Type 0 where
-  pub rows : t′ ≡ written t 0 (paramRows body q at size n parent)
+pub record WritesParam (body : List ℕ) (q : Field) (at : ℕ) (size : Length) (n parent s : ℕ) (t t′ : List ℕ) (r : Wrote) : Type 0 where
+  pub rows : t′ ≡ written s t 0 (paramRows body q at size n parent)
   pub count : r .count ≡ length (paramRows body q at size n parent)
   pub entry : earlier (r .entry) ≡ paramEntry body at (size .taken)
 
-module _ (body : List ℕ) (q : Field) (es : List Earlier) (at n parent : ℕ) (t : List ℕ) (k : ℕ) (t′ : List ℕ) where
+module _ (body : List ℕ) (q : Field) (es : List Earlier) (at n parent s : ℕ) (t : List ℕ) (k : ℕ) (t′ : List ℕ) where
   -- a Q is there: where it ends, that its length agrees with what it wanted (L4), which entry it is, how many rows it has
   pub record IsRead (e : BodyOffset) (x c : ℕ) : Type 0 where
     pub size : Length
@@ -39,7 +39,7 @@ module _ (body : List ℕ) (q : Field) (es : List Earlier) (at n parent : ℕ) (
     pub agrees : Agrees (wanted (q .rule) es) size
     pub entry : earlier x ≡ paramEntry body at (size .taken)
     pub count : c ≡ length (paramRows body q at size n parent)
-    pub rows : t′ ≡ written t k (paramRows body q at size n parent)
+    pub rows : t′ ≡ written s t k (paramRows body q at size n parent)
 
   -- it is not there
   pub record IsAbsent : Type 0 where

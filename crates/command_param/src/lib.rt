@@ -1,7 +1,6 @@
 // One Q of a command: whether it exists, its value, its row and its bit children. Counterpart of `read_uint`, `decode_bits` and `decode_param` of
 // command_class/decode.rs.
 use command_class::Row as Line;
-use command_rows::ROW_WIDTH;
 use command_rules::BitShift;
 use command_rules::Length;
 use command_rules::Row;
@@ -35,11 +34,12 @@ pub enum Param {
     Absent,
 }
 
-// Where a Q is read: its place in the body, the number of its own row, and its parent's row + 1, or 0.
+// Where a Q is read: its place in the body, the number of its own row, its parent's row + 1, or 0, and how many rows the table passes over.
 pub struct Spot {
     pub at: BodyOffset,
     pub row: usize,
     pub parent: u64,
+    pub skip: usize,
 }
 
 // What is written of a Q.
@@ -211,23 +211,21 @@ fn decode_bits(
     b: u16,
     start: PayloadOffset,
     parent: u64,
+    skip: usize,
     rows: &mut [u64],
 ) -> usize
     requires { ⌜ (Stands (now text) q) × (start .0 < 2 ^ 62) ⌝ }
-    ensures { λ r. ⌜ Writes (now (rows .entry)) 0 (bitRows b parent (start .0) (under (from (now (text .entry)) (after q)))) (now (rows .exit)) r ⌝ }
+    ensures { λ r. ⌜ Writes skip (now (rows .entry)) 0 (bitRows b parent (start .0) (under (from (now (text .entry)) (after q)))) (now (rows .exit)) r ⌝ }
     ensures { λ r. ⌜ r < 65536 ⌝ }
 {
     let total = q.bits as usize;
-    if rows.len() < ROW_WIDTH {
-        return total;
-    }
     let mut place = q.next();
     let mut k: usize = 0;
     while k < total {
         let read = command_class::read_at(text, place);
         let line = read.row;
         if is_bits(line.kind) {
-            command_rows::write_row(rows, k, bit_row(line, place.line, b, start, parent));
+            command_rows::write_row(rows, skip, k, bit_row(line, place.line, b, start, parent));
             k += 1;
             place = read.next;
             continue;
@@ -244,39 +242,43 @@ fn write_children(
     bytes: &[u8],
     start: PayloadOffset,
     parent: u64,
+    skip: usize,
     rows: &mut [u64],
 ) -> usize
     requires { ⌜ (Stands (now text) q) × (start .0 < 2 ^ 62) ⌝ }
-    ensures { λ r. ⌜ Writes (now (rows .entry)) 1 (childRows (fieldIn (now (text .entry)) q) parent (start .0) (now (bytes .entry)))
+    ensures { λ r. ⌜ Writes skip (now (rows .entry)) 1 (childRows (fieldIn (now (text .entry)) q) parent (start .0) (now (bytes .entry)))
         (now (rows .exit)) r ⌝ }
     ensures { λ r. ⌜ r < 65536 ⌝ }
 {
     if bytes.len() != 1 {
         return 0;
     }
+    let total = q.bits as usize;
+    if total == 0 {
+        return 0;
+    }
+    if command_rows::is_left_out(skip, total + 1, rows.len()) {
+        return total;
+    }
     let b = as_u16(bytes[0]);
-    let rest = command_rows::row_at(1, rows.len());
-    decode_bits(text, q, b, start, parent, &mut rows[rest..])
+    let rest = command_rows::row_at(skip, 1, rows.len());
+    let left = command_rows::less(skip, 1);
+    decode_bits(text, q, b, start, parent, left, &mut rows[rest..])
 }
 
-// Writes the own row of a Q that takes these bytes and lacks so many more as row 0. Without room for it, the row is not made.
-fn write_own(
-    text: &[u8],
-    q: Loaded,
-    bytes: &[u8],
-    start: PayloadOffset,
-    parent: u64,
-    lacking: usize,
-    rows: &mut [u64],
-)
-    requires { ⌜ (Stands (now text) q) × (start .0 + length (now bytes) < 2 ^ 63) ⌝ }
-    ensures { λ _. ⌜ now (rows .exit) ≡ written (now (rows .entry)) 0
-        (rowOf (fieldIn (now (text .entry)) q) parent (start .0) (now (bytes .entry)) lacking ∷ []) ⌝ }
+// Writes the own row of a Q that takes these bytes and lacks so many more as row 0. Where it is passed over or has no room, it is not made.
+fn write_own(text: &[u8], q: Loaded, bytes: &[u8], spot: Spot, lacking: usize, rows: &mut [u64])
+    requires { ⌜ (Stands (now text) q) × (spot .at .0 + length (now bytes) < 65536) ⌝ }
+    ensures { λ _. ⌜ now (rows .exit) ≡ written (spot .skip) (now (rows .entry)) 0
+        (rowOf (fieldIn (now (text .entry)) q) (spot .parent) (inPayload (spot .at .0)) (now (bytes .entry)) lacking ∷ []) ⌝ }
 {
-    if rows.len() < ROW_WIDTH {
+    if command_rows::is_left_out(spot.skip, 1, rows.len()) {
         return;
     }
-    command_rows::write_row(rows, 0, param_row(text, q, bytes, start, parent, lacking));
+    let at = spot.at;
+    let start = in_payload(at);
+    let row = param_row(text, q, bytes, start, spot.parent, lacking);
+    command_rows::write_row(rows, spot.skip, 0, row);
 }
 
 // Writes a Q of this length. `rows` is the table from its own row on.
@@ -289,16 +291,17 @@ fn write_param(
     rows: &mut [u64],
 ) -> Wrote
     requires { ⌜ (Stands (now text) q) × (length (now body) < 65536) × (spot .at .0 + size .taken ≤ length (now body)) × (spot .row < 2 ^ 50) ⌝ }
-    ensures { λ r. ⌜ WritesParam (now (body .entry)) (fieldIn (now (text .entry)) q) (spot .at .0) size (spot .row) (spot .parent) (now (rows .entry))
-        (now (rows .exit)) r ⌝ }
+    ensures { λ r. ⌜ WritesParam (now (body .entry)) (fieldIn (now (text .entry)) q) (spot .at .0) size (spot .row) (spot .parent) (spot .skip)
+        (now (rows .entry)) (now (rows .exit)) r ⌝ }
 {
     let at = spot.at;
     let from = at.0;
     let end = from + size.taken;
     let bytes = &body[from..end];
+    write_own(text, q, bytes, spot, size.lacking, rows);
     let start = in_payload(at);
-    write_own(text, q, bytes, start, spot.parent, size.lacking, rows);
-    let children = write_children(text, q, bytes, start, (spot.row + 1) as u64, rows);
+    let parent = (spot.row + 1) as u64;
+    let children = write_children(text, q, bytes, start, parent, spot.skip, rows);
     Wrote {
         entry: entry_of(read_uint(bytes)),
         count: children + 1,
@@ -326,7 +329,7 @@ pub fn decode_param(
 ) -> Param
     requires { ⌜ (Stands (now text) q) × (length (now body) < 65536) × (spot .row < 2 ^ 50) ⌝ }
     ensures { λ r. ⌜ ReadsParam (now (body .entry)) (fieldIn (now (text .entry)) q) (entries (now (es .entry))) (spot .at .0) (spot .row) (spot .parent)
-        (now (rows .entry)) 0 (now (rows .exit)) r ⌝ }
+        (spot .skip) (now (rows .entry)) 0 (now (rows .exit)) r ⌝ }
 {
     let at = spot.at;
     let rest = remaining(body, at);

@@ -29,10 +29,16 @@ use Rattle.command_rules.specs.Rows as command
 use Rattle.command_rules.specs.Walk.{Walked, walk}
 use Rattle.command_rules.specs.declared.Offsets.{Offsets}
 use Rattle.command.specs.Answer as params
+use Rattle.command_rules.specs.declared.Row.{Row}
+use Rattle.command_row.specs.Answer.{rowOf}
+use Rattle.command_row.specs.declared.Found.{Found}
+use Rattle.command_row.specs.declared.Found.the-variants as found
 use Rattle.node_mask.specs.declared.Listed.the-variants as listed
 use Rattle.node_mask.specs.Nodes.{nodesOf, listed}
 use Rattle.header_nodes.specs.Fields.{isMaskRow, maskAt}
 use Rattle.header_nodes.specs.Answer.{noSuchField, ofRow, answerOf, rowsOf, ofDecoded}
+use Rattle.command_nodes.specs.Fields as fields
+use Rattle.command_nodes.specs.Answer as nodes
 use Rattle.buffer.specs.declared.Written.the-variants as written
 use Rattle.buffer.specs.Buffer.{answerIn}
 use Rattle.header_value.specs.Fields.{rowText}
@@ -43,7 +49,7 @@ use Rattle.libtap.specs.declared.commands.TapParams.{TapParams}
 use Rattle.libtap.specs.Answers.{Stands, toldTidied, ToldTidied, Told}
 use Rattle.libtap.specs.Headers.{toldHeader, ToldHeader}
 use Rattle.libtap.specs.Commands.{toldBy}
-use Rattle.libtap.specs.Nodes.{toldListed, ToldHeaderNodes}
+use Rattle.libtap.specs.Nodes.{toldListed, ToldHeaderNodes, ToldCommandNodes}
 use Rattle.libtap.specs.Values.{toldWritten, ToldHeaderValue}
 
 refused-stands : (t : List ℕ) (x : Refusal) → Stands t (record { refusal = numberOf x; value = carriedBy x })
@@ -159,6 +165,19 @@ nodes-stand t d region speed k table r table′ p same = rw (p .told-so, p .list
     by-answer (decoded.Header h) = past (leb (h .rows) k)
     by-answer (decoded.Refused x) = refused-stands table′ x
 
+-- ---- the nodes of a command's row
+pub command-nodes-stand : (offsets : Offsets) (t payload : List ℕ) (k : ℕ) (table : List ℕ) (r : TapAnswer) (table′ : List ℕ)
+    → ToldCommandNodes offsets t payload k table r table′ → length table′ ≡ length table → Stands table′ r
+command-nodes-stand offsets t payload k table r table′ p same = rw (p .told-so, p .lists .answer) (by-found (rowOf offsets t payload k))
+  where
+    by-row : (row : Row) (b : Bool) → Stands table′ (toldListed (cond b (listed (fields.maskOf payload row) (length table)) (nodes.noSuchField k)))
+    by-row row true = listed-stands table table′ same (fields.maskOf payload row)
+    by-row row false = refused-stands table′ (NoSuchField k)
+
+    by-found : (x : Found) → Stands table′ (toldListed (nodes.ofFound t payload k (length table) x))
+    by-found (found.Row row) = by-row row (fields.isMaskRow t row)
+    by-found (found.Refused x) = refused-stands table′ x
+
 -- ---- the text of a header's row
 pub written-stands : (n : ℕ) (b b′ : List ℕ) → length b′ ≡ length b → Stands b′ (toldWritten (answerIn n (length b)))
 written-stands n b b′ same = go (leb n (length b)) refl
@@ -180,4 +199,8 @@ value-stands t d region speed k b r b′ p same = rw (p .told-so, p .shows .answ
     by-answer (decoded.Header h) = past (leb (h .rows) k)
     by-answer (decoded.Refused x) = refused-stands b′ x
 
-pub ruleset standing-laws = (stands-in, frames-stand, tidied-stands, header-stands, params-stand, nodes-stand, value-stands)
+pub ruleset standing-laws = (stands-in, frames-stand, tidied-stands, header-stands, params-stand)
+
+pub ruleset node-standing = (stands-in, nodes-stand, command-nodes-stand)
+
+pub ruleset value-standing = (stands-in, value-stands)

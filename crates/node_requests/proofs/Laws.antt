@@ -10,7 +10,7 @@ use Rattle.laws.proofs.Lists.{tail}
 use Rattle.request.proofs.Laws.{taken, request-laws}
 use Rattle.libtap.specs.declared.TapAnswer.{TapAnswer}
 use Rattle.libtap.specs.Answers.{Stands}
-use Rattle.libtap.proofs.Standing.{standing-laws}
+use Rattle.libtap.proofs.Standing.{node-standing}
 use Rattle.node_requests.specs.declared.Two.{Two}
 use Rattle.node_requests.specs.declared.Two.the-variants.{Are}
 use Rattle.node_requests.specs.Nodes.{Leads}
@@ -41,4 +41,4 @@ nodes-fits t r stands z room = omega (arith, stands z)
 pub ruleset node-laws = (taken-before, two-words, two-fits, two-inside, nodes-fits)
 
 -- The laws that the proofs of this crate's functions go by.
-pub ruleset laws = (request-laws, node-laws, standing-laws)
+pub ruleset laws = (request-laws, node-laws, node-standing)

@@ -5,6 +5,7 @@ use answer::put_refusal;
 use answer::put_value;
 use answer::table::MOST_ROWS;
 use libtap::TapAnswer;
+use libtap::nodes::tap_command_nodes;
 use libtap::nodes::tap_header_nodes;
 use request::Both;
 use request::Leading;
@@ -33,6 +34,14 @@ struct Asked {
     speed: u64,
     n: usize,
     end: usize,
+}
+
+// A request for a row of a command: its number, how offsets are read, where the payload starts behind the text, and where it ends.
+pub struct CommandAsked {
+    pub row: usize,
+    pub by_position: bool,
+    pub n: usize,
+    pub end: usize,
 }
 
 pub fn read_two(words: &[u8]) -> Two
@@ -148,4 +157,60 @@ pub fn headernodes(words: &[u8], bytes: &mut [u8], out: &mut Buffer, used: usize
     let room = cap as usize;
     let mut nodes = [FRESH; 16384];
     Answer::Put(answer_header(bytes, asked, &mut nodes[..room], out, used))
+}
+
+fn list_command(
+    text: &[u8],
+    payload: &[u8],
+    asked: CommandAsked,
+    nodes: &mut [u16],
+    out: &mut Buffer,
+    used: usize,
+) -> usize {
+    let listed = tap_command_nodes(text, payload, asked.by_position, asked.row, nodes);
+    put_listed(out, used, b"commandnodes", listed, nodes)
+}
+
+// The first bytes are the text, those behind them up to the end the payload.
+fn answer_command(
+    bytes: &[u8],
+    asked: CommandAsked,
+    nodes: &mut [u16],
+    out: &mut Buffer,
+    used: usize,
+) -> usize
+    requires { ⌜ (asked .n ≤ asked .end) × (asked .end ≤ length (now bytes)) ⌝ }
+{
+    let n = asked.n;
+    let end = asked.end;
+    list_command(&bytes[..n], &bytes[n..end], asked, nodes, out, used)
+}
+
+// `commandnodes MODE CAP ROW TEXT PAYLOAD`
+pub fn commandnodes(words: &[u8], bytes: &mut [u8], out: &mut Buffer, used: usize) -> Answer {
+    let Leading::Is(mode, at) = read_leading(words) else {
+        return Answer::Bad;
+    };
+    if 1 < mode {
+        return Answer::Bad;
+    }
+    let others = &words[at..];
+    let Two::Are(cap, row, from) = read_two(others) else {
+        return Answer::Bad;
+    };
+    if MOST_ROWS < cap {
+        return Answer::Bad;
+    }
+    let Both::Are(n, end) = read_both(&others[from..], bytes) else {
+        return Answer::Bad;
+    };
+    let asked = CommandAsked {
+        row: row as usize,
+        by_position: mode == 1,
+        n,
+        end,
+    };
+    let room = cap as usize;
+    let mut nodes = [FRESH; 16384];
+    Answer::Put(answer_command(bytes, asked, &mut nodes[..room], out, used))
 }

@@ -16,6 +16,7 @@ use crate::single::rate;
 use crate::single::record;
 use answer::Answer;
 use listing_requests::listing;
+use node_requests::commandnodes;
 use node_requests::headernodes;
 use request::Word;
 use request::find;
@@ -70,6 +71,7 @@ fn answer(line: &[u8], bytes: &mut [u8], rows: &mut [u64], out: &mut Buffer, use
         Word::Checksum => checksum(words, bytes, out, used),
         Word::Tidy => tidy(words, bytes, out, used),
         Word::Headernodes => headernodes(words, bytes, out, used),
+        Word::Commandnodes => commandnodes(words, bytes, out, used),
         Word::Listing => listing(words, bytes, out, used),
         Word::Headervalue => headervalue(words, bytes, out, used),
         Word::Unknown => Answer::Bad,

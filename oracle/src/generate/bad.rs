@@ -46,7 +46,7 @@ fn bad_number(random: &mut Random) -> Vec<u8> {
     const CAPS: &[&str] = &["16385", "16386", "65536", "4294967296", "18446744073709551615"];
     let number = random.pick(NUMBERS);
     const BUFFERS: &[&str] = &["196609", "4294967296", "18446744073709551615"];
-    match random.below(22) {
+    match random.below(26) {
         0 => format!("rate {number} 1"),
         1 => format!("rate 1 {number}"),
         2 => format!("body {number} 5b02005d00"),
@@ -72,6 +72,10 @@ fn bad_number(random: &mut Random) -> Vec<u8> {
         18 => format!("headervalue {number} 0 0 0 - 0000"),
         19 => format!("headervalue 4 {number} 0 0 - 0000"),
         20 => format!("headervalue {} 0 0 0 - 0000", random.pick(BUFFERS)),
+        21 => format!("commandnodes {number} 4 0 - 0000"),
+        22 => format!("commandnodes 0 {number} 0 - 0000"),
+        23 => format!("commandnodes 1 4 {number} - 0000"),
+        24 => format!("commandnodes {} 4 0 - 0000", random.pick(&["2", "3", "18446744073709551615"])),
         _ => format!("{} {} -", random.pick(&["frames", "frametable"]), random.pick(CAPS)),
     }
     .into_bytes()
@@ -114,11 +118,12 @@ fn bad_bytes(random: &mut Random) -> Vec<u8> {
         "command 4 -",
         "tidy 100",
         "headernodes 4 0 0 0 -",
+        "commandnodes 0 4 0 -",
         "listing 0 0 - 0000",
         "listing 0 0 -",
         "headervalue 4 0 0 0 -",
     ];
-    const WALKS: &[&str] = &["header 4 0 0", "command 4", "headernodes 4 0 0 0", "headervalue 4 0 0 0"];
+    const WALKS: &[&str] = &["header 4 0 0", "command 4", "headernodes 4 0 0 0", "commandnodes 1 4 0", "headervalue 4 0 0 0"];
     match random.below(8) {
         0 => format!("{} {} 0000", random.pick(WALKS), random.pick(BYTES)),
         _ => format!("{} {}", random.pick(WORDS), random.pick(BYTES)),

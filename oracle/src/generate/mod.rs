@@ -45,13 +45,14 @@ pub const KINDS: &[Kind] = &[
     Kind { name: "checksum", weight: 15, draw: bits::checksum },
     Kind { name: "tidy", weight: 20, draw: texts::tidy },
     Kind { name: "headernodes", weight: 30, draw: nodes::headernodes },
+    Kind { name: "commandnodes", weight: 30, draw: nodes::commandnodes },
     Kind { name: "listing", weight: 30, draw: listing::listing },
     Kind { name: "headervalue", weight: 30, draw: values::headervalue },
     Kind { name: "bad", weight: 5, draw: bad::line },
 ];
 
 /// What `today` stands for: what the replay program answers so far.
-pub const TODAY: &str = "rate,count,body,record,frames,frametable,recordby,framesby,frametableby,frametext,commandtext,header,command,commandby,bits,checksum,tidy,headernodes,listing,headervalue,bad";
+pub const TODAY: &str = "rate,count,body,record,frames,frametable,recordby,framesby,frametableby,frametext,commandtext,header,command,commandby,bits,checksum,tidy,headernodes,commandnodes,listing,headervalue,bad";
 
 /// Draws requests of some kinds under a seed.
 #[derive(Clone)]

@@ -1,18 +1,35 @@
-//! Requests about masks of nodes: of headers that are drawn for `header`, and of texts that have little
-//! but a mask, of 1 to 255 bytes at any bit, with no bit, one, some or all of them set.
+//! Requests about masks of nodes: of headers and commands that are drawn for `header` and `commandby`, and of texts that
+//! have little but a mask, of 1 to 255 bytes at any bit, with no bit, one, some or all of them set.
 
 use super::cap::cap;
-use super::header;
+use super::{command, header};
+use crate::definition::command::CommandDefinition;
 use crate::definition::frame::FrameDefinition;
 use crate::definition;
 use crate::random::Random;
-use crate::reading::nodes::{header_mask, nodes};
+use crate::reading::command::Offsets;
+use crate::reading::nodes::{command_mask, header_mask, nodes};
 use crate::request::Request;
 
 pub fn headernodes(random: &mut Random) -> Vec<u8> {
     let (region, speed, text, mpdu) = if random.one_in(3) { drawn(random) } else { aimed(random) };
     let definition: Option<FrameDefinition> = definition::read(&text).ok();
     let mask = |row: u64| header_mask(definition.as_ref()?, &mpdu, region, speed, row).ok();
+    let (row, cap) = row_and_cap(random, mask);
+    Request::Headernodes { cap, row, region, speed, text, mpdu }.line()
+}
+
+pub fn commandnodes(random: &mut Random) -> Vec<u8> {
+    let (offsets, text, payload) =
+        if random.one_in(3) { drawn_command(random) } else { aimed_command(random) };
+    let definition: Option<CommandDefinition> = definition::read(&text).ok();
+    let mask = |row: u64| command_mask(definition.as_ref()?, &payload, offsets, row).ok();
+    let (row, cap) = row_and_cap(random, mask);
+    Request::Commandnodes { offsets, cap, row, text, payload }.line()
+}
+
+/// Mostly a row that is a mask, and mostly room for its nodes.
+fn row_and_cap<'a>(random: &mut Random, mask: impl Fn(u64) -> Option<&'a [u8]>) -> (u64, u64) {
     let masks: Vec<u64> = (0..24).filter(|&row| mask(row).is_some()).collect();
     let row = match random.below(40) {
         0 => random.pick(&[24, 127, 128, 255, 65_536, u64::MAX]),
@@ -21,8 +38,7 @@ pub fn headernodes(random: &mut Random) -> Vec<u8> {
         _ => random.pick(&masks),
     };
     let count = mask(row).map_or(3, |mask| nodes(mask).len());
-    let cap = cap(random, Ok(count));
-    Request::Headernodes { cap, row, region, speed, text, mpdu }.line()
+    (row, cap(random, Ok(count)))
 }
 
 fn drawn(random: &mut Random) -> (u64, u64, Vec<u8>, Vec<u8>) {
@@ -31,6 +47,65 @@ fn drawn(random: &mut Random) -> (u64, u64, Vec<u8>, Vec<u8>) {
         unreachable!("a drawn request has the form of one");
     };
     (region, speed, text, mpdu)
+}
+
+fn drawn_command(random: &mut Random) -> (Offsets, Vec<u8>, Vec<u8>) {
+    let line = command::commandby(random);
+    let Some(Request::Commandby { offsets, text, payload, .. }) = Request::read(&line) else {
+        unreachable!("a drawn request has the form of one");
+    };
+    (offsets, text, payload)
+}
+
+/// A number, bits and a mask: of so many bytes as M or the number says, or the rest; alone, behind a Q that is absent, or in a
+/// group.
+fn aimed_command(random: &mut Random) -> (Offsets, Vec<u8>, Vec<u8>) {
+    let kind = match random.below(8) {
+        0 => random.pick(&["MULTI_ARRAY", "VARIANT", "ARRAY", "BYTE", "STRUCT_BYTE"]),
+        _ => "BITMASK",
+    };
+    let length = match random.below(6) {
+        0 => random.pick(&[1, 7, 8, 9, 15, 16, 17, 24, 25, 29, 31]),
+        1 => random.from_to(32, 255),
+        _ => random.from_to(1, 31),
+    };
+    let mut text = "Q\t0\tBYTE\tSize\t-\t-\n".to_string();
+    let mut payload = vec![0x20, 0x01, length as u8];
+    let mut entry = 1;
+    if random.one_in(3) {
+        text += "Q\t0\tBYTE\tAbsent\t0\t0\n";
+        entry += 1;
+    }
+    if random.one_in(3) {
+        text += "Q\t0\tSTRUCT_BYTE\tBits\t-\t-\nT\t128\tFlag\nS\t127\t-\tLow\n";
+        payload.push(random.byte());
+        entry += 1;
+    }
+    let level = usize::from(random.one_in(3));
+    if level == 1 {
+        text += &format!("G\tMasks\t{}\t3\t0\n", random.pick(&[0, 255]));
+        if random.one_in(2) {
+            text += "Q\t1\tBYTE\tSize\t-\t-\n";
+        }
+    }
+    text += &format!("Q\t{level}\t{kind}\tMask\t-\t-\n");
+    text += &match random.below(5) {
+        0 => String::new(),
+        1 => format!("M\t{length}\n"),
+        2 => "M\t-\nR\t0\t255\t-\t0\n".to_string(),
+        3 => format!("R\t{}\t255\t-\t0\n", random.below(entry + 1)),
+        _ => format!("R\t0\t255\t{}\t0\n", random.pick(&["-", "1"])),
+    };
+    if random.one_in(3) {
+        text += "T\t1\tOne\n";
+    }
+    if random.one_in(2) {
+        text += &format!("Q\t0\tBITMASK\tNext\t-\t-\nM\t{}\n", random.from_to(1, 4));
+    }
+    let size = length + random.below(6);
+    payload.extend(mask(random, size + 1));
+    let offsets = random.pick(&[Offsets::Answered, Offsets::Position]);
+    (offsets, text.into_bytes(), payload)
 }
 
 /// Some bits, a number, and then a mask: of so many bits, or of so many bytes as the number says, or inside another

@@ -1,12 +1,17 @@
-//! The second reading of W-202: BM1 to BM4 of docs/RULES.md.
+//! The second reading of W-202: BM1 to BM6 of docs/RULES.md.
 
 use std::fmt::Write;
 
+use zniff_core::decoder::command_class::schema::ParamType as ParameterType;
 use zniff_core::decoder::frame_definition::schema::ParamType;
 
+use crate::definition::command::CommandDefinition;
 use crate::definition::frame::{FrameDefinition, Param};
 use crate::reading;
+use crate::reading::command::Offsets;
+use crate::reading::values::params;
 use crate::refusal::Refusal;
+use crate::rows::CommandRow;
 
 /// BM1: the nodes whose bits are set, the lowest bit of the first byte being node 1.
 pub fn nodes(mask: &[u8]) -> Vec<usize> {
@@ -30,6 +35,23 @@ pub fn header_mask<'a>(
     let field = usize::try_from(row).ok().and_then(|row| header.rows.get(row));
     let field = field.filter(|field| is_mask(field)).ok_or(no_such_field(row))?;
     Ok(&mpdu[(field[2] / 8) as usize..((field[2] + field[3]) / 8) as usize])
+}
+
+/// BM2, BM6: the bytes of row `row` of a command, if it is a parameter of type BITMASK.
+pub fn command_mask<'a>(
+    definition: &CommandDefinition,
+    payload: &'a [u8],
+    offsets: Offsets,
+    row: u64,
+) -> Result<&'a [u8], Refusal> {
+    let command = reading::command::decode_params(definition, payload, offsets)?;
+    let is_mask = |row: &&CommandRow| {
+        let param = params(definition).find(|param| param.line as u64 == row[1]);
+        row[0] == 0 && param.is_some_and(|param| matches!(param.param_type, ParameterType::Bitmask))
+    };
+    let found = usize::try_from(row).ok().and_then(|row| command.rows.get(row));
+    let found = found.filter(is_mask).ok_or(no_such_field(row))?;
+    Ok(&payload[found[3] as usize..found[4] as usize])
 }
 
 /// BM3.

@@ -77,7 +77,8 @@ fn pairs(bytes: &[u8]) -> String {
     bytes.iter().map(|byte| format!("{byte:02X}")).collect()
 }
 
-fn params(definition: &CommandDefinition) -> impl Iterator<Item = &Param> + Clone {
+/// The Qs of a command, those of groups too.
+pub fn params(definition: &CommandDefinition) -> impl Iterator<Item = &Param> + Clone {
     definition.items.iter().flat_map(|item| match item {
         CmdItem::Param(param) => std::slice::from_ref(param),
         CmdItem::VariantGroup(group) => &group.params[..],

@@ -10,6 +10,7 @@ members-at-spec =
     (tie.spec
     (λ c κs. search (needs, repetition-laws))
     (λ c. search (needs, repetition-laws))
+    (λ c κs. search (needs, repetition-laws))
     (λ c. search (needs, repetition-laws))
     (λ c. search (needs, repetition-laws))
     (λ c. search (needs, repetition-laws))

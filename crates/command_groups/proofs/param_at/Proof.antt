@@ -9,6 +9,7 @@ param-at-spec =
     tie.close
     (tie.spec
     (λ c κs. search (needs, param-laws))
+    (λ c κs. search (needs, param-laws))
     (λ c. search (needs, param-laws))
     (λ c. search (needs, param-laws))
     (λ c. search (needs, param-laws))

@@ -8,7 +8,7 @@ use Rattle.command_groups.proofs.read_members.Tie as tie
 
 abbrev Inv-loop : tie.InvT-loop
 Inv-loop text loaded group body spot kept₀ rows₀ have₀ at₀ next₀ j₀ kept rows have at next j =
-    Members text body (group .count) (group .first) (at₀ .0) (spot .row) (spot .parent) rows₀ rows kept have (at .0) next j
+    Members text body (group .count) (group .first) (at₀ .0) (spot .row) (spot .parent) (spot .skip) rows₀ rows kept have (at .0) next j
 
 abbrev μ-loop : tie.MeasureT-loop
 μ-loop text loaded group body spot kept₀ rows₀ have₀ at₀ next₀ j₀ kept rows have at next j = group .count - j
@@ -23,7 +23,7 @@ add-next c =
     let turn-test = by-loaded-at .before in
     let turn = turn-test .before .before in
     let start = turn .before .before .before .before .before .before .before in
-    members-fits _ _ _ _ _ _ _ (start .pre .0) _ _ _ _ _ _ _ _ (turn .loop .inv) _ (by-loaded-at .loaded-at .ensures) (omega (arith, turn-test .if1)) _
+    members-fits _ _ _ _ _ _ _ _ (start .pre .0) _ _ _ _ _ _ _ _ (turn .loop .inv) _ (by-loaded-at .loaded-at .ensures) (omega (arith, turn-test .if1)) _
     (by-is-member .is-member .ensures) _ _ (by-param-at .param-at .ensures) (by-if2 .if2 .taken) _ _ _ (by-end .end .given .1)
 
 add-j : tie.Need-add-j Inv-loop μ-loop
@@ -42,7 +42,7 @@ loop-again c =
     let turn-test = by-loaded-at .before in
     let turn = turn-test .before .before in
     let start = turn .before .before .before .before .before .before .before in
-    members-take _ _ _ _ _ _ _ (start .pre .0) _ _ _ _ _ _ _ _ (turn .loop .inv) _ (by-loaded-at .loaded-at .ensures) (omega (arith, turn-test .if1)) _
+    members-take _ _ _ _ _ _ _ _ (start .pre .0) _ _ _ _ _ _ _ _ (turn .loop .inv) _ (by-loaded-at .loaded-at .ensures) (omega (arith, turn-test .if1)) _
     (by-is-member .is-member .ensures) _ _ (by-param-at .param-at .ensures) (by-if2 .if2 .taken) _ _ _ (by-end .end .given .1) _ _
     (c .before .before .keep .ensures .0) (c .before .before .keep .ensures .1)
 

@@ -9,6 +9,7 @@ repetition-at-spec =
     tie.close
     (tie.spec
     (λ c κs. search (needs, repetition-laws))
+    (λ c κs. search (needs, repetition-laws))
     (λ c. search (needs, repetition-laws))
     (λ c. search (needs, repetition-laws))
     (λ c. search (needs, repetition-laws))

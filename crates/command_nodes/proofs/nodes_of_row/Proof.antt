@@ -8,20 +8,7 @@ pub nodes-of-row-spec : {M : Type 1} → statement M
 nodes-of-row-spec =
     tie.close
     (tie.spec
-    (λ c. search (needs, laws))
-    (λ c. search (needs, laws))
-    (λ c. search (needs, laws))
-    (λ c. search (needs, laws))
-    (λ c. search (needs, laws))
-    (λ c. search (needs, laws))
-    (λ c. search (needs, laws))
     (λ c κs. search (needs, laws))
-    (λ c. search (needs, laws))
-    (λ c. search (needs, laws))
-    (λ c. search (needs, laws))
-    (λ c. search (needs, laws))
-    (λ c. search (needs, laws))
-    (λ c. search (needs, laws))
     (λ c κs. search (needs, laws))
     (λ c κs. search (needs, laws))
     (λ c. search (needs, laws))

@@ -10,6 +10,12 @@ write-children-spec =
     (tie.spec
     (λ c. search (needs, row-laws))
     (λ c. search (needs, row-laws))
+    (λ c. search (needs, row-laws))
+    (λ c. search (needs, row-laws))
+    (λ c κs. search (needs, row-laws))
+    (λ c. search (needs, row-laws))
+    (λ c. search (needs, row-laws))
+    (λ c κs. search (needs, row-laws))
     (λ c κs. search (needs, row-laws))
     (λ c κs. search (needs, row-laws))
     (λ c. search (needs, row-laws))

@@ -6,5 +6,12 @@ use Rattle.command_param.proofs.write_own.Tie as tie
 
 pub write-own-spec : {M : Type 1} → statement M
 write-own-spec =
-    tie.close (tie.spec (λ c. search (needs, own-laws)) (λ c κs. search (needs, own-laws)) (λ c κs. search (needs, own-laws))
-    (λ c. search (needs, own-laws)) (λ c. search (needs, own-laws)))
+    tie.close
+    (tie.spec
+    (λ c κs. search (needs, own-laws))
+    (λ c. search (needs, own-laws))
+    (λ c κs. search (needs, own-laws))
+    (λ c κs. search (needs, own-laws))
+    (λ c κs. search (needs, own-laws))
+    (λ c. search (needs, own-laws))
+    (λ c. search (needs, own-laws)))

@@ -1,17 +1,16 @@
--- `command::walk_params` meets its contract, by the laws of the crate. Assumes nothing.
+-- `command_walk::walk_params` meets its contract, by the laws of the crate. Assumes nothing.
 use Prim.Native.Nat.{_-_}
 use native.Mathlib.Omega.{arith}
 use borrow.Author.Needs.{needs}
-use Rattle.command.proofs.Outer.{Outer, outer-pass, outer-missing, outer-group-fits, outer-group, outer-laws}
-use Rattle.command.proofs.walk_params.Statement.{statement}
-use Rattle.command.proofs.walk_params.Tie as tie
+use Rattle.command_walk.proofs.Outer.{Outer, outer-pass, outer-missing, outer-group-fits, outer-group, outer-laws}
+use Rattle.command_walk.proofs.walk_params.Statement.{statement}
+use Rattle.command_walk.proofs.walk_params.Tie as tie
 
 abbrev Inv-loop : tie.InvT-loop
-Inv-loop text loaded count offsets body rows₀ kept₀ have₀ at₀ next₀ j₀ rows kept have at next j =
-    Outer offsets text body rows₀ rows kept have (at .0) next j
+Inv-loop text loaded count offsets body skip rows₀ kept₀ have₀ at₀ next₀ j₀ rows kept have at next j = Outer offsets text body skip rows₀ rows kept have (at .0) next j
 
 abbrev μ-loop : tie.MeasureT-loop
-μ-loop text loaded count offsets body rows₀ kept₀ have₀ at₀ next₀ j₀ rows kept have at next j = count - j
+μ-loop text loaded count offsets body skip rows₀ kept₀ have₀ at₀ next₀ j₀ rows kept have at next j = count - j
 
 missing : tie.Need-loop-again Inv-loop μ-loop
 missing c =
@@ -22,7 +21,7 @@ missing c =
     let turn-test = by-loaded-at .before in
     let turn = turn-test .before in
     let start = turn .before .before .before .before .before in
-    outer-missing _ _ _ _ _ (start .pre .0) _ _ _ _ _ _ _ (turn .loop .inv) _ (by-loaded-at .loaded-at .ensures) (omega (arith, turn-test .loop-test)) _
+    outer-missing _ _ _ _ _ (start .pre .0) _ _ _ _ _ _ _ _ (turn .loop .inv) _ (by-loaded-at .loaded-at .ensures) (omega (arith, turn-test .loop-test)) _
     (by-is-outer .is-outer .ensures) _ _ (by-param-at .param-at .ensures) (by-if1 .if1 .taken) (c .before .before .before .enum-told .given .1) _ _
     (c .before .keep-unvalued .ensures .0) (c .before .keep-unvalued .ensures .1)
 
@@ -42,7 +41,7 @@ add-next-2 c =
     let turn-test = by-loaded-at .before in
     let turn = turn-test .before in
     let start = turn .before .before .before .before .before in
-    outer-group-fits _ _ _ _ _ (start .pre .0) _ _ _ _ _ _ _ (turn .loop .inv) _ (by-loaded-at .loaded-at .ensures) (omega (arith, turn-test .loop-test)) _
+    outer-group-fits _ _ _ _ _ (start .pre .0) _ _ _ _ _ _ _ _ (turn .loop .inv) _ (by-loaded-at .loaded-at .ensures) (omega (arith, turn-test .loop-test)) _
     (by-is-outer .is-outer .ensures) _ _ _ (by-repeats-at .repeats-at .ensures) (by-read-group .read-group .ensures) (by-if2 .if2 .taken)
 
 add-j-3 : tie.Need-add-j-3 Inv-loop μ-loop
@@ -62,7 +61,7 @@ loop-again-3 c =
     let turn-test = by-loaded-at .before in
     let turn = turn-test .before in
     let start = turn .before .before .before .before .before in
-    outer-group _ _ _ _ _ (start .pre .0) _ _ _ _ _ _ _ (turn .loop .inv) _ (by-loaded-at .loaded-at .ensures) (omega (arith, turn-test .loop-test)) _
+    outer-group _ _ _ _ _ (start .pre .0) _ _ _ _ _ _ _ _ (turn .loop .inv) _ (by-loaded-at .loaded-at .ensures) (omega (arith, turn-test .loop-test)) _
     (by-is-outer .is-outer .ensures) _ _ _ (by-repeats-at .repeats-at .ensures) (by-read-group .read-group .ensures) (by-if2 .if2 .taken) _ _
     (by-keep .keep-unvalued2 .ensures .0) (by-keep .keep-unvalued2 .ensures .1)
 
@@ -71,7 +70,7 @@ loop-again-4 c =
     let turn-test = c .before .before .before .before .before in
     let turn = turn-test .before in
     let start = turn .before .before .before .before .before in
-    outer-pass _ _ _ _ _ (start .pre .0) _ _ _ _ _ _ _ (turn .loop .inv) _ (c .before .before .before .before .loaded-at .ensures)
+    outer-pass _ _ _ _ _ (start .pre .0) _ _ _ _ _ _ _ _ (turn .loop .inv) _ (c .before .before .before .before .loaded-at .ensures)
     (omega (arith, turn-test .loop-test)) _ (c .before .before .before .is-outer .ensures) (c .before .before .if1 .left) (c .if2 .left)
 
 pub walk-params-spec : {M : Type 1} → statement M

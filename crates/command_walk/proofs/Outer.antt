@@ -36,20 +36,19 @@ use Rattle.command_rules.proofs.Bounds.{size-facts, repetitions-bound, walk-few
 use Rattle.command_groups.proofs.Answers.{is-read, is-absent}
 
 -- what is left of the outer list, from loaded row j on
-pub record Outer (offsets : Offsets) (t body : List ℕ) (d₀ d kept : List ℕ) (have at next j : ℕ) : Type 0 where
+pub record Outer (offsets : Offsets) (t body : List ℕ) (s : ℕ) (d₀ d kept : List ℕ) (have at next j : ℕ) : Type 0 where
   pub es : List Earlier
   pub entries-are : KeptFree kept have es
-  pub rows : written d next (outer offsets body (entriesOf (drop j (headsOf t))) at es next .rows)
-      ≡ written d₀ 0 (walk offsets body (entriesOf (headsOf t)) .rows)
-  pub count-is : next + length (outer offsets body (entriesOf (drop j (headsOf t))) at es next .rows)
-      ≡ length (walk offsets body (entriesOf (headsOf t)) .rows)
+  pub rows : written s d next (outer offsets body (entriesOf (drop j (headsOf t))) at es next .rows)
+      ≡ written s d₀ 0 (walk offsets body (entriesOf (headsOf t)) .rows)
+  pub count-is : next + length (outer offsets body (entriesOf (drop j (headsOf t))) at es next .rows) ≡ length (walk offsets body (entriesOf (headsOf t)) .rows)
   pub end : outer offsets body (entriesOf (drop j (headsOf t))) at es next .end ≡ walk offsets body (entriesOf (headsOf t)) .end
   pub few : length (walk offsets body (entriesOf (headsOf t)) .rows) < 2 ^ 40
   pub inside : at ≤ length body
   pub same : length d ≡ length d₀
 
-module _ (offsets : Offsets) (t l body : List ℕ) (count : ℕ) (loaded : IsLoaded t l count) where
-  pub outer-start : (d₀ : List ℕ) → length body < 65536 → Outer offsets t body d₀ d₀ (replicate 256 256) 0 0 0 0
+module _ (offsets : Offsets) (t l body : List ℕ) (count : ℕ) (loaded : IsLoaded t l count) (s : ℕ) where
+  pub outer-start : (d₀ : List ℕ) → length body < 65536 → Outer offsets t body s d₀ d₀ (replicate 256 256) 0 0 0 0
   unfolding walk
   outer-start d₀ u =
       record {
@@ -63,7 +62,7 @@ module _ (offsets : Offsets) (t l body : List ℕ) (count : ℕ) (loaded : IsLoa
         same = refl;
       }
 
-  module _ (d₀ d kept : List ℕ) (have : ℕ) (o : BodyOffset) (next j : ℕ) (g : Outer offsets t body d₀ d kept have (o .0) next j) where
+  module _ (d₀ d kept : List ℕ) (have : ℕ) (o : BodyOffset) (next j : ℕ) (g : Outer offsets t body s d₀ d kept have (o .0) next j) where
     pub outer-part : have ≡ length (take have kept)
     outer-part = kept-part kept (g .es) have (g .entries-are .kept-are)
 
@@ -79,12 +78,12 @@ module _ (offsets : Offsets) (t l body : List ℕ) (count : ℕ) (loaded : IsLoa
     pub outer-next-low : next < 2 ^ 50
     outer-next-low = let a = g .few in let b = g .count-is in omega arith
 
-    pub outer-end : count ≤ j → Gives (walk offsets body (entriesOf (headsOf t))) d₀ 0 d (record { end = o; count = next })
+    pub outer-end : count ≤ j → Gives (walk offsets body (entriesOf (headsOf t))) s d₀ 0 d (record { end = o; count = next })
     unfolding outer entriesOf
     outer-end h =
         let e : entriesOf (drop j (headsOf t)) ≡ [] = ap entriesOf (none-at t l count loaded j h) in
         record {
-          rows = sym (written-none d next) ∙ (rw e at (g .rows));
+          rows = sym (written-none s d next) ∙ (rw e at (g .rows));
           count = let q = rw e at (g .count-is) in omega arith;
           end = rw e at (g .end);
         }
@@ -92,7 +91,7 @@ module _ (offsets : Offsets) (t l body : List ℕ) (count : ℕ) (loaded : IsLoa
     -- nothing is taken
     passed : (d′ : List ℕ) → d′ ≡ d → (kept′ : List ℕ) (have′ : ℕ) (es : List Earlier) → KeptFree kept′ have′ es
         → outer offsets body (entriesOf (drop j (headsOf t))) (o .0) (g .es) next ≡ outer offsets body (entriesOf (drop (j + 1) (headsOf t))) (o .0) es next
-        → Outer offsets t body d₀ d′ kept′ have′ (o .0) next (j + 1)
+        → Outer offsets t body s d₀ d′ kept′ have′ (o .0) next (j + 1)
     passed d′ ed kept′ have′ es are e =
         rw ed (record {
           es = es;
@@ -107,15 +106,13 @@ module _ (offsets : Offsets) (t l body : List ℕ) (count : ℕ) (loaded : IsLoa
 
     -- a Q
     module _ (p : Parameter) (rest : entriesOf (drop j (headsOf t)) ≡ single p ∷ entriesOf (drop (j + 1) (headsOf t))) where
-      absent : sizeAt body (fieldOf p) (g .es) (o .0) ≡ Missing → (d′ : List ℕ) → d′ ≡ d → (kept′ : List ℕ) (have′ : ℕ)
-          → kept′ ≡ unvaluedKept offsets kept have
-          → have′ ≡ unvaluedHave offsets have 0 → Outer offsets t body d₀ d′ kept′ have′ (o .0) next (j + 1)
+      absent : sizeAt body (fieldOf p) (g .es) (o .0) ≡ Missing → (d′ : List ℕ) → d′ ≡ d → (kept′ : List ℕ) (have′ : ℕ) → kept′ ≡ unvaluedKept offsets kept have
+          → have′ ≡ unvaluedHave offsets have 0 → Outer offsets t body s d₀ d′ kept′ have′ (o .0) next (j + 1)
       unfolding outer
       absent e d′ ed kept′ have′ ek eh =
-          passed d′ ed kept′ have′ (g .es ++ unvalued offsets 0) (rw (ek, eh) (kept-unvalued offsets kept (g .es) have 0 (g .entries-are)))
-              (rw (rest, e) refl)
+          passed d′ ed kept′ have′ (g .es ++ unvalued offsets 0) (rw (ek, eh) (kept-unvalued offsets kept (g .es) have 0 (g .entries-are))) (rw (rest, e) refl)
 
-      module _ (d′ : List ℕ) (e : BodyOffset) (y c : ℕ) (w : IsRead body (fieldOf p) (g .es) (o .0) next 0 d next d′ e y c) where
+      module _ (d′ : List ℕ) (e : BodyOffset) (y c : ℕ) (w : IsRead body (fieldOf p) (g .es) (o .0) next 0 s d next d′ e y c) where
         one-more : outer offsets body (entriesOf (drop j (headsOf t))) (o .0) (g .es) next
             ≡ after (paramRows body (fieldOf p) (o .0) (w .size) next 0)
             (outer offsets body (entriesOf (drop (j + 1) (headsOf t))) (e .0) (g .es ++ (paramEntry body (o .0) (w .size .taken) ∷ [])) (next + c))
@@ -131,13 +128,13 @@ module _ (offsets : Offsets) (t l body : List ℕ) (count : ℕ) (loaded : IsLoa
         small = let a = g .few in let b = w .count in omega (arith, all-count)
 
         taken : (kept′ : List ℕ) (have′ : ℕ) → kept′ ≡ set kept have y → have′ ≡ least (have + 1) 256
-            → Outer offsets t body d₀ d′ kept′ have′ (e .0) (next + c) (j + 1)
+            → Outer offsets t body s d₀ d′ kept′ have′ (e .0) (next + c) (j + 1)
         taken kept′ have′ ek eh =
             let b = w .count in
-            let r : written d next (paramRows body (fieldOf p) (o .0) (w .size) next 0
+            let r : written s d next (paramRows body (fieldOf p) (o .0) (w .size) next 0
             ++ outer offsets body (entriesOf (drop (j + 1) (headsOf t))) (e .0) (g .es ++ (paramEntry body (o .0) (w .size .taken) ∷ [])) (next + c) .rows)
-            ≡ written d₀ 0 (walk offsets body (entriesOf (headsOf t)) .rows) = rw one-more at (g .rows) in
-            let s : next + c ≡ next + length (paramRows body (fieldOf p) (o .0) (w .size) next 0) = omega arith in
+            ≡ written s d₀ 0 (walk offsets body (entriesOf (headsOf t)) .rows) = rw one-more at (g .rows) in
+            let z′ : next + c ≡ next + length (paramRows body (fieldOf p) (o .0) (w .size) next 0) = omega arith in
             let f = size-facts body (fieldOf p) (g .es) (o .0) (w .size) (w .there) in
             let f1 = f .1 in
             let z = w .end in
@@ -151,10 +148,9 @@ module _ (offsets : Offsets) (t l body : List ℕ) (count : ℕ) (loaded : IsLoa
                     free-push kept (g .es) have y k (g .entries-are .free);
               });
               rows = rw (w .rows)
-                  (written-more d next (paramRows body (fieldOf p) (o .0) (w .size) next 0)
-                  (outer offsets body (entriesOf (drop (j + 1) (headsOf t))) (e .0) (g .es ++ (paramEntry body (o .0) (w .size .taken) ∷ []))
-                  (next + c) .rows)
-                  (next + c) s ∙ r);
+                  (written-more s d next (paramRows body (fieldOf p) (o .0) (w .size) next 0)
+                  (outer offsets body (entriesOf (drop (j + 1) (headsOf t))) (e .0) (g .es ++ (paramEntry body (o .0) (w .size .taken) ∷ [])) (next + c) .rows)
+                  (next + c) z′ ∙ r);
               count-is = omega (arith, all-count);
               end = rw one-more at (g .end);
               few = g .few;
@@ -165,7 +161,7 @@ module _ (offsets : Offsets) (t l body : List ℕ) (count : ℕ) (loaded : IsLoa
     -- a group
     module _ (h : Group) (line : ℕ) (rest : entriesOf (drop j (headsOf t))
         ≡ repeated line h (membersOf (drop (j + 1) (headsOf t))) ∷ entriesOf (drop (j + 1) (headsOf t))) (d′ : List ℕ) (r : Repeated)
-        (w : GivesGroup (groupAt body line h (membersOf (drop (j + 1) (headsOf t))) (g .es) (o .0) next) d next d′ r) where
+        (w : GivesGroup (groupAt body line h (membersOf (drop (j + 1) (headsOf t))) (g .es) (o .0) next) s d next d′ r) where
       group-more : outer offsets body (entriesOf (drop j (headsOf t))) (o .0) (g .es) next
           ≡ after (groupAt body line h (membersOf (drop (j + 1) (headsOf t))) (g .es) (o .0) next .rows)
           (outer offsets body (entriesOf (drop (j + 1) (headsOf t))) (r .end .0) (g .es ++ unvalued offsets (r .times)) (next + r .count))
@@ -192,20 +188,20 @@ module _ (offsets : Offsets) (t l body : List ℕ) (count : ℕ) (loaded : IsLoa
           omega arith
 
       group-taken : (kept′ : List ℕ) (have′ : ℕ) → kept′ ≡ unvaluedKept offsets kept have → have′ ≡ unvaluedHave offsets have (r .times)
-          → Outer offsets t body d₀ d′ kept′ have′ (r .end .0) (next + r .count) (j + 1)
+          → Outer offsets t body s d₀ d′ kept′ have′ (r .end .0) (next + r .count) (j + 1)
       group-taken kept′ have′ ek eh =
           let b = w .count in
-          let p : written d next (groupAt body line h (membersOf (drop (j + 1) (headsOf t))) (g .es) (o .0) next .rows
+          let p : written s d next (groupAt body line h (membersOf (drop (j + 1) (headsOf t))) (g .es) (o .0) next .rows
           ++ outer offsets body (entriesOf (drop (j + 1) (headsOf t))) (r .end .0) (g .es ++ unvalued offsets (r .times)) (next + r .count) .rows)
-          ≡ written d₀ 0 (walk offsets body (entriesOf (headsOf t)) .rows) = rw group-more at (g .rows) in
-          let s : next + r .count ≡ next + length (groupAt body line h (membersOf (drop (j + 1) (headsOf t))) (g .es) (o .0) next .rows) = omega arith in
+          ≡ written s d₀ 0 (walk offsets body (entriesOf (headsOf t)) .rows) = rw group-more at (g .rows) in
+          let z′ : next + r .count ≡ next + length (groupAt body line h (membersOf (drop (j + 1) (headsOf t))) (g .es) (o .0) next .rows) = omega arith in
           record {
             es = g .es ++ unvalued offsets (r .times);
             entries-are = rw (ek, eh) (kept-unvalued offsets kept (g .es) have (r .times) (g .entries-are));
             rows = rw (w .rows)
-                (written-more d next (groupAt body line h (membersOf (drop (j + 1) (headsOf t))) (g .es) (o .0) next .rows)
+                (written-more s d next (groupAt body line h (membersOf (drop (j + 1) (headsOf t))) (g .es) (o .0) next .rows)
                 (outer offsets body (entriesOf (drop (j + 1) (headsOf t))) (r .end .0) (g .es ++ unvalued offsets (r .times)) (next + r .count) .rows)
-                (next + r .count) s ∙ p);
+                (next + r .count) z′ ∙ p);
             count-is = omega (arith, group-count);
             end = rw group-more at (g .end);
             few = g .few;
@@ -216,8 +212,8 @@ module _ (offsets : Offsets) (t l body : List ℕ) (count : ℕ) (loaded : IsLoa
     -- what the group's function answers, over the definition
     module _ (q : Loaded) (h : Group) (is : TellsG q (q .line) h) (d′ : List ℕ) (r : Repeated)
         (most : ℕ) (is-most : most ≡ repeats (q .paramoffs) (q .sizemask) (record { 0 = q .sizeoffs }) (entries (take have kept)) (length body - o .0))
-        (given : GivesGroup (repetitions body (q .line) (membersOf (drop (j + 1) (headsOf t))) most 0 (o .0) next) d next d′ r) where
-      the-group : GivesGroup (groupAt body (q .line) h (membersOf (drop (j + 1) (headsOf t))) (g .es) (o .0) next) d next d′ r
+        (given : GivesGroup (repetitions body (q .line) (membersOf (drop (j + 1) (headsOf t))) most 0 (o .0) next) s d next d′ r) where
+      the-group : GivesGroup (groupAt body (q .line) h (membersOf (drop (j + 1) (headsOf t))) (g .es) (o .0) next) s d next d′ r
       unfolding groupAt
       the-group =
           let often : repeats (q .paramoffs) (q .sizemask) (record { 0 = q .sizeoffs }) (entries (take have kept)) (length body - o .0)
@@ -233,36 +229,35 @@ module _ (offsets : Offsets) (t l body : List ℕ) (count : ℕ) (loaded : IsLoa
       outer-stands f = outer-at t l count loaded j q is-q h (sym is-x ∙ f) .is .stands
 
       -- another row
-      pub outer-pass : x ≡ false → (q .kind ≡ 71 → ⊥) → Outer offsets t body d₀ d kept have (o .0) next (j + 1)
+      pub outer-pass : x ≡ false → (q .kind ≡ 71 → ⊥) → Outer offsets t body s d₀ d kept have (o .0) next (j + 1)
       outer-pass f k =
           passed d refl kept have (g .es) (g .entries-are)
           (ap (λ (ds : List Entry). outer offsets body ds (o .0) (g .es) next) (no-entry-at t l count loaded j q is-q h (sym is-x ∙ f) k))
 
-      module _ (d′ : List ℕ) (r : Param) (given : ReadsParam body (fieldIn t q) (entries (take have kept)) (o .0) next 0 d next d′ r)
+      module _ (d′ : List ℕ) (r : Param) (given : ReadsParam body (fieldIn t q) (entries (take have kept)) (o .0) next 0 s d next d′ r)
           (single-q : x ≡ true) where
         m : OuterAt t l count loaded j q is-q h
         m = outer-at t l count loaded j q is-q h (sym is-x ∙ single-q)
 
-        pub outer-missing : r ≡ Absent → (kept′ : List ℕ) (have′ : ℕ) → kept′ ≡ unvaluedKept offsets kept have
-            → have′ ≡ unvaluedHave offsets have 0
-            → Outer offsets t body d₀ d′ kept′ have′ (o .0) next (j + 1)
+        pub outer-missing : r ≡ Absent → (kept′ : List ℕ) (have′ : ℕ) → kept′ ≡ unvaluedKept offsets kept have → have′ ≡ unvaluedHave offsets have 0
+            → Outer offsets t body s d₀ d′ kept′ have′ (o .0) next (j + 1)
         outer-missing f =
-            let v = is-absent t q (m .param) (m .is) body kept (g .es) have (g .entries-are .kept-are) (o .0) next 0 d next d′ r given f in
+            let v = is-absent t q (m .param) (m .is) body kept (g .es) have (g .entries-are .kept-are) (o .0) next 0 s d next d′ r given f in
             absent (m .param) (m .rest) (v .there) d′ (v .rows)
 
         module _ (e : BodyOffset) (y c : ℕ) (f : r ≡ Read e y c) where
           pub outer-fits : Fits w64 (next + c)
           outer-fits = small (m .param) (m .rest) d′ e y c
-              (is-read t q (m .param) (m .is) body kept (g .es) have (g .entries-are .kept-are) (o .0) next 0 d next d′ r given e y c f)
+              (is-read t q (m .param) (m .is) body kept (g .es) have (g .entries-are .kept-are) (o .0) next 0 s d next d′ r given e y c f)
 
           pub outer-take : (kept′ : List ℕ) (have′ : ℕ) → kept′ ≡ set kept have y → have′ ≡ least (have + 1) 256
-              → Outer offsets t body d₀ d′ kept′ have′ (e .0) (next + c) (j + 1)
+              → Outer offsets t body s d₀ d′ kept′ have′ (e .0) (next + c) (j + 1)
           outer-take = taken (m .param) (m .rest) d′ e y c
-              (is-read t q (m .param) (m .is) body kept (g .es) have (g .entries-are .kept-are) (o .0) next 0 d next d′ r given e y c f)
+              (is-read t q (m .param) (m .is) body kept (g .es) have (g .entries-are .kept-are) (o .0) next 0 s d next d′ r given e y c f)
 
       module _ (d′ : List ℕ) (r : Repeated) (most : ℕ)
           (is-most : most ≡ repeats (q .paramoffs) (q .sizemask) (record { 0 = q .sizeoffs }) (entries (take have kept)) (length body - o .0))
-          (given : GivesGroup (repetitions body (q .line) (membersOf (drop (j + 1) (headsOf t))) most 0 (o .0) next) d next d′ r)
+          (given : GivesGroup (repetitions body (q .line) (membersOf (drop (j + 1) (headsOf t))) most 0 (o .0) next) s d next d′ r)
           (kind : q .kind ≡ 71) where
         a : GroupAt t l count loaded j q is-q h
         a = group-at t l count loaded j q is-q h kind
@@ -270,9 +265,8 @@ module _ (offsets : Offsets) (t l body : List ℕ) (count : ℕ) (loaded : IsLoa
         pub outer-group-fits : Fits w64 (next + r .count)
         outer-group-fits = group-fits (a .group) (q .line) (a .rest) d′ r (the-group q (a .group) (a .is) d′ r most is-most given)
 
-        pub outer-group : (kept′ : List ℕ) (have′ : ℕ) → kept′ ≡ unvaluedKept offsets kept have
-            → have′ ≡ unvaluedHave offsets have (r .times)
-            → Outer offsets t body d₀ d′ kept′ have′ (r .end .0) (next + r .count) (j + 1)
+        pub outer-group : (kept′ : List ℕ) (have′ : ℕ) → kept′ ≡ unvaluedKept offsets kept have → have′ ≡ unvaluedHave offsets have (r .times)
+            → Outer offsets t body s d₀ d′ kept′ have′ (r .end .0) (next + r .count) (j + 1)
         outer-group = group-taken (a .group) (q .line) (a .rest) d′ r (the-group q (a .group) (a .is) d′ r most is-most given)
 
 pub ruleset outer-laws = (
