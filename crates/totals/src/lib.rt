@@ -171,7 +171,14 @@ fn count_body(
     let Split::Into(parts) = split_body(body, width) else {
         return;
     };
-    count_frame(text, payload, region, frame_of(rates, body, parts), span.start, sums);
+    count_frame(
+        text,
+        payload,
+        region,
+        frame_of(rates, body, parts),
+        span.start,
+        sums,
+    );
 }
 
 // Counts every frame of a payload.
