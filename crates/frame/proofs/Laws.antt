@@ -1,7 +1,7 @@
 -- Laws of the frame in a record's body. Assumes nothing.
 use mathlib.Core.Path.{_≡_, refl, sym, ap, _∙_}
-use mathlib.Core.Bool.{Bool, true, false, cond, not, and-false}
-use mathlib.Core.List.{List, [], _∷_}
+use mathlib.Core.Bool.{Bool, true, false, cond, not, _||_, and-false, or-true, or-false}
+use mathlib.Core.List.{List, [], _∷_, _++_}
 use Prim.Native.Nat.{ℕ, zero, suc, _+_, _-_, _*_, _%_, _^_, _≤_, _<_}
 use mir.Syntax.{w8, w16}
 use mir.Val.{Fits, toZ, ofZ, hbits}
@@ -9,10 +9,13 @@ use mir.Facts.{toZ-ofZ}
 use lib.IntN.{ℤ}
 use lib.Signed.{mag}
 use native.Mathlib.Omega.{arith}
-use lib.Dec.{eqb}
+use lib.Dec.{eqb, leb, ltb}
 use lib.ListN.{length, getD, take, drop, length-take, length-drop}
 use lib.Seq.{getD-take, getD-drop}
 use borrow.Author.Tests.{le-leb, lt-leb, lt-ltb, le-ltb, eq-eqb, ne-eqb, eqb-false, not-true, ltb-true}
+use Rattle.frame.specs.declared.Reading.{Reading}
+use Rattle.frame.specs.declared.Reading.the-variants.{Marker, Family}
+use Rattle.frame.specs.declared.Rules.{Rules}
 use Rattle.frame.specs.declared.Direction.{Direction}
 use Rattle.frame.specs.declared.Direction.the-variants.{Rx, Tx}
 use Rattle.frame.specs.declared.Trailer.{Trailer}
@@ -24,14 +27,16 @@ use Rattle.frame.specs.declared.Split.{Split}
 use Rattle.frame.specs.declared.Split.the-variants.{Into, Nothing as NoSplit}
 use Rattle.laws.proofs.Bools.{and-left, and-right}
 use Rattle.laws.proofs.Lists.{tail}
-use Rattle.frame.specs.Frame.{headerOf, trailerOf, directionOf, successOf, regionBits, fieldsOf, header, start, trailer, between, middle, fields, holds, isFrame}
-use Rattle.frame.specs.Frame.{mpduOf, beamsIn, frameOf, numbersAt, Parses}
+use Rattle.frame.specs.Frame.{headerOf, trailerOf, directionOf, successOf, regionBits, rulesOf, readingBy, fieldsOf, header, start, trailer}
+use Rattle.frame.specs.Frame.{between, middle, fields, rateIn, isBeam, beamIn, holds, isFrame, mpduOf, beamsIn, targetIn, frameOf}
+use Rattle.frame.specs.Frame.{numbersAt, targetNumbers, Parses}
 use Rattle.frame.specs.Steps.{layoutOf, partsOf, splitOf, Inside, framedBy}
 use Rattle.refusal.specs.declared.Refusal.the-variants.{TooLong, NotAFrame, Firmware}
 use Rattle.frame.specs.declared.PtiFrame.{PtiFrame}
 use Rattle.frame.specs.declared.Parsed.the-variants.{Frame, Refused}
 use Rattle.radio.specs.Speed.{rateOf}
-use Rattle.radio.specs.Beam.{beamsOf}
+use Rattle.radio.specs.declared.beam.BeamTarget.{BeamTarget}
+use Rattle.radio.specs.Beam.{beamsOf, targetOf, noTarget}
 use Rattle.radio.proofs.BeamLaws.{beams-low}
 use Rattle.frame.specs.declared.Beams.{Beams}
 use Rattle.frame.specs.declared.Beams.the-variants.{Count, NoBeam}
@@ -80,16 +85,38 @@ pub fields-tx : (w : ℕ) (d : Direction) (t : List ℕ) (region : ℕ) → d �
     → record { tag = getD t 0 0; rssi = 0; region = region; channel = getD t 2 0 % 16; protocol = getD t 3 0 % 16 } ≡ fieldsOf w d t
 fields-tx w d t region e is-region = rw (e, is-region) refl
 
-module _ (d : Direction) (first : ℕ) (t : Trailer) where
-  pub other-protocol : (t .protocol ≡ 6 → ⊥) → false ≡ holds d (eqb first 0x55) t
-  other-protocol h = rw (ne-eqb (t .protocol) 6 h) refl
+-- ---- which middle bytes are a beam
+module _ (rate : ℕ) (m : List ℕ) where
+  pub family-short : length m < 9 → true ≡ (leb 2 (beamsOf rate m) || ltb (length m) 9)
+  family-short few = rw (lt-ltb (length m) 9 few) (sym (or-true (leb 2 (beamsOf rate m))))
 
-  pub holds-beam : t .protocol ≡ 6 → first ≡ 0x55 → true ≡ holds d (eqb first 0x55) t
-  holds-beam h e = rw (eq-eqb (t .protocol) 6 h, eq-eqb first 0x55 e) refl
+  pub family-long : (t : Bool) → 9 ≤ length m → t ≡ leb 2 (beamsOf rate m) → t ≡ (leb 2 (beamsOf rate m) || ltb (length m) 9)
+  family-long t many is-t = rw (le-ltb (length m) 9 many) (is-t ∙ sym (or-false (leb 2 (beamsOf rate m))))
 
-  pub holds-tag : (tag : ℕ) (r : Bool) → t .protocol ≡ 6 → (first ≡ 0x55 → ⊥) → tag ≡ successOf d → r ≡ eqb (t .tag) tag
-      → r ≡ holds d (eqb first 0x55) t
-  holds-tag tag r h e is-tag is-r = rw (eq-eqb (t .protocol) 6 h, ne-eqb first 0x55 e, ← is-tag) is-r
+  pub beam-unmarked : (reading : Reading) → (getD m 0 0 ≡ 0x55 → ⊥) → false ≡ isBeam reading rate m
+  beam-unmarked Marker other = rw (ne-eqb (getD m 0 0) 0x55 other) refl
+  beam-unmarked Family other = rw (ne-eqb (getD m 0 0) 0x55 other) refl
+
+  module _ (reading : Reading) (marked : getD m 0 0 ≡ 0x55) where
+    pub beam-marked : reading ≡ Marker → true ≡ isBeam reading rate m
+    beam-marked e = rw (e, eq-eqb (getD m 0 0) 0x55 marked) refl
+
+    pub beam-family : (t : Bool) → reading ≡ Family → t ≡ (leb 2 (beamsOf rate m) || ltb (length m) 9) → t ≡ isBeam reading rate m
+    beam-family t e is-t = rw (e, eq-eqb (getD m 0 0) 0x55 marked) is-t
+
+module _ (p : Parts) where
+  abbrev whole : Bool
+  whole = holds (p .direction) (p .beam) (p .trailer)
+
+  pub other-protocol : (p .trailer .protocol ≡ 6 → ⊥) → false ≡ whole
+  other-protocol h = rw (ne-eqb (p .trailer .protocol) 6 h) refl
+
+  module _ (zwave : p .trailer .protocol ≡ 6) where
+    pub holds-beam : p .beam ≡ true → true ≡ whole
+    holds-beam e = rw (eq-eqb (p .trailer .protocol) 6 zwave, e) refl
+
+    pub holds-tag : (tag : ℕ) (r : Bool) → p .beam ≡ false → tag ≡ successOf (p .direction) → r ≡ eqb (p .trailer .tag) tag → r ≡ whole
+    holds-tag tag r e is-tag is-r = rw (eq-eqb (p .trailer .protocol) 6 zwave, e, ← is-tag) is-r
 
 -- ---- where the middle bytes lie
 pub laid-none : (b : List ℕ) → length b ≡ 0 → NoLayout ≡ layoutOf b
@@ -137,12 +164,15 @@ roomy b h =
       ltb-true (header b + trailer b) (length b) (and-right (not (eqb (trailer b) 0)) _ both),
     )
 
-pub split-nothing : (w : ℕ) (b : List ℕ) (l : Layout) → l ≡ layoutOf b → l ≡ NoLayout → NoSplit ≡ splitOf w b
+pub split-nothing : (w : Rules) (b : List ℕ) (l : Layout) → l ≡ layoutOf b → l ≡ NoLayout → NoSplit ≡ splitOf w b
 split-nothing w b l is-l e = rw (laid-nowhere (between b) (record { 0 = header b }) (record { 0 = length b - trailer b }) (sym is-l ∙ e)) refl
 
-module _ (b : List ℕ) (l : Layout) (m e : BodyOffset) (is-l : l ≡ layoutOf b) (lies : l ≡ Between m e) where
+pub lies-so : (b : List ℕ) (l : Layout) (m e : BodyOffset) → l ≡ layoutOf b → l ≡ Between m e → layoutOf b ≡ Between m e
+lies-so b l m e is-l lies = sym is-l ∙ lies
+
+module _ (b : List ℕ) (m e : BodyOffset) (lies : layoutOf b ≡ Between m e) where
   known : (between b ≡ true) × ((record { 0 = header b } ≡ m) × (record { 0 = length b - trailer b } ≡ e))
-  known = laid-between (between b) (record { 0 = header b }) (record { 0 = length b - trailer b }) m e (sym is-l ∙ lies)
+  known = laid-between (between b) (record { 0 = header b }) (record { 0 = length b - trailer b }) m e lies
 
   is-m : header b ≡ m .0
   is-m = ap (λ (x : BodyOffset). x .0) (known .1 .0)
@@ -159,8 +189,11 @@ module _ (b : List ℕ) (l : Layout) (m e : BodyOffset) (is-l : l ≡ layoutOf b
   pub middle-some : 1 ≤ m .0
   middle-some = rw (← is-m) (omega (arith, some-h))
 
-  pub middle-inside : m .0 < length b
-  middle-inside = omega (arith, is-m, room .1)
+  pub middle-ordered : m .0 ≤ e .0
+  middle-ordered = omega (arith, is-m, is-e, room .1)
+
+  pub middle-there : 0 < length (take (e .0 - m .0) (drop (m .0) b))
+  middle-there = rw (length-take, length-drop) (omega (arith, is-m, is-e, room .1))
 
   pub start-inside : m .0 - 1 < length b
   start-inside = omega (arith, is-m, room .1)
@@ -171,66 +204,91 @@ module _ (b : List ℕ) (l : Layout) (m e : BodyOffset) (is-l : l ≡ layoutOf b
   pub trailer-room : 5 ≤ length (take (length b - e .0) (drop (e .0) b))
   trailer-room = rw (tail b (e .0), length-drop) (omega (arith, is-e, room .0, room .1))
 
-  module _ (w : ℕ) (d : Direction) (t : Trailer) (h : Bool) (is-d : d ≡ directionOf (getD b (m .0 - 1) 0))
-      (is-t : t ≡ fieldsOf w d (take (length b - e .0) (drop (e .0) b)))
-      (is-h : h ≡ holds d (eqb (getD b (m .0) 0) 0x55) t) where
+  module _ (w : Rules) (d : Direction) (t : Trailer) (rate : ℕ) (beam : Bool) (is-d : d ≡ directionOf (getD b (m .0 - 1) 0))
+      (is-t : t ≡ fieldsOf (w .width) d (take (length b - e .0) (drop (e .0) b))) (is-rate : rate ≡ rateOf (t .channel) (t .region))
+      (is-beam : beam ≡ isBeam (w .reading) rate (take (e .0 - m .0) (drop (m .0) b))) where
     the-d : d ≡ directionOf (start b)
     the-d = rw (← is-m) at is-d
 
-    the-t : t ≡ fields w b
+    the-t : t ≡ fields (w .width) b
     the-t =
-        let parts : t ≡ fieldsOf w d (drop (length b - trailer b) b) = rw (tail b (e .0), ← is-e) at is-t in
+        let parts : t ≡ fieldsOf (w .width) d (drop (length b - trailer b) b) = rw (tail b (e .0), ← is-e) at is-t in
         rw the-d at parts
 
-    first-byte : getD b (m .0) 0 ≡ getD (middle b) 0 0
-    first-byte =
-        let n : 0 < length b - trailer b - header b = omega (arith, room .1) in
-        sym (getD-take (length b - trailer b - header b) (drop (header b) b) 0 0 n ∙ getD-drop (header b) b 0 0
-        ∙ ap (λ (k : ℕ). getD b k 0) (omega (arith, is-m)))
+    the-rate : rate ≡ rateIn (w .width) b
+    the-rate = is-rate ∙ ap (λ (x : Trailer). rateOf (x .channel) (x .region)) the-t
 
-    the-h : h ≡ isFrame w b
-    the-h = rw (known .0) (is-h ∙ rw (first-byte, the-t, the-d) refl)
+    the-beam : beam ≡ beamIn w b
+    the-beam =
+        let bytes : take (e .0 - m .0) (drop (m .0) b) ≡ middle b = rw (← is-m, ← is-e) refl in
+        is-beam ∙ (λ k. isBeam (w .reading) (the-rate k) (bytes k))
 
-    pub split-not : h ≡ false → NoSplit ≡ splitOf w b
-    split-not none = rw (← the-h, none) refl
+    pub parts-read : record { direction = d; middle = m; end = e; trailer = t; rate = rate; beam = beam } ≡ partsOf w b
+    parts-read =
+        λ k.
+        record {
+          direction = the-d k;
+          middle = sym (known .1 .0) k;
+          end = sym (known .1 .1) k;
+          trailer = the-t k;
+          rate = the-rate k;
+          beam = the-beam k;
+        }
 
-    pub split-into : h ≡ true → Into (record { direction = d; middle = m; end = e; trailer = t }) ≡ splitOf w b
-    split-into whole =
-        rw (← the-h, whole) (λ k. Into (record { direction = the-d k; middle = sym (known .1 .0) k; end = sym (known .1 .1) k; trailer = the-t k }))
+module _ (b : List ℕ) (l : Layout) (m e : BodyOffset) (is-l : l ≡ layoutOf b) (lies : l ≡ Between m e) (w : Rules) (p : Parts) (h : Bool)
+    (is-p : p ≡ partsOf w b) (is-h : h ≡ holds (p .direction) (p .beam) (p .trailer)) where
+  the-h : h ≡ isFrame w b
+  the-h =
+      let laid = known b m e (sym is-l ∙ lies) in
+      rw (laid .0) (is-h ∙ ap (λ (x : Parts). holds (x .direction) (x .beam) (x .trailer)) is-p)
+
+  pub split-not : h ≡ false → NoSplit ≡ splitOf w b
+  split-not none = rw (← the-h, none) refl
+
+  pub split-into : h ≡ true → Into p ≡ splitOf w b
+  split-into some = rw (← the-h, some) (ap Into is-p)
 
 -- ---- the MPDU's length
-module _ (m : List ℕ) where
-  pub mpdu-few : length m ≤ 7 → length m ≡ mpduOf m
+module _ (beam : Bool) (m : List ℕ) where
+  pub mpdu-few : length m ≤ 7 → length m ≡ mpduOf beam m
   mpdu-few few = rw (le-ltb 7 (length m) few, and-false) refl
 
-  pub mpdu-beam : getD m 0 0 ≡ 0x55 → length m ≡ mpduOf m
-  mpdu-beam beam = rw (eq-eqb (getD m 0 0) 0x55 beam) refl
+  pub mpdu-beam : beam ≡ true → length m ≡ mpduOf beam m
+  mpdu-beam is-beam = rw is-beam refl
 
-  module _ (some : 7 < length m) (no-beam : getD m 0 0 ≡ 0x55 → ⊥) where
-    pub mpdu-declared : getD m 7 0 ≤ length m → getD m 7 0 ≡ mpduOf m
-    mpdu-declared fits = rw (ne-eqb (getD m 0 0) 0x55 no-beam, lt-ltb 7 (length m) some, le-leb (getD m 7 0) (length m) fits) refl
+  module _ (some : 7 < length m) (no-beam : beam ≡ false) where
+    pub mpdu-declared : getD m 7 0 ≤ length m → getD m 7 0 ≡ mpduOf beam m
+    mpdu-declared fits = rw (no-beam, lt-ltb 7 (length m) some, le-leb (getD m 7 0) (length m) fits) refl
 
-    pub mpdu-all : length m < getD m 7 0 → length m ≡ mpduOf m
-    mpdu-all over = rw (ne-eqb (getD m 0 0) 0x55 no-beam, lt-ltb 7 (length m) some, lt-leb (getD m 7 0) (length m) over) refl
+    pub mpdu-all : length m < getD m 7 0 → length m ≡ mpduOf beam m
+    mpdu-all over = rw (no-beam, lt-ltb 7 (length m) some, lt-leb (getD m 7 0) (length m) over) refl
 
 -- ---- the beams
-module _ (rate : ℕ) (m : List ℕ) where
-  pub beams-some : (n : ℕ) → getD m 0 0 ≡ 0x55 → n ≡ beamsOf rate m → Count n ≡ beamsIn rate m
-  beams-some n beam is-n = rw (eq-eqb (getD m 0 0) 0x55 beam) (ap Count is-n)
+module _ (beam : Bool) (rate : ℕ) (m : List ℕ) where
+  pub beams-some : (n : ℕ) → beam ≡ true → n ≡ beamsOf rate m → Count n ≡ beamsIn beam rate m
+  beams-some n is-beam is-n = rw is-beam (ap Count is-n)
 
-  pub beams-none : (getD m 0 0 ≡ 0x55 → ⊥) → NoBeam ≡ beamsIn rate m
-  beams-none none = rw (ne-eqb (getD m 0 0) 0x55 none) refl
+  pub beams-none : beam ≡ false → NoBeam ≡ beamsIn beam rate m
+  beams-none none = rw none refl
 
-  pub beams-fit : (n : ℕ) → length m < 65535 → n ≡ beamsOf rate m → Fits w16 n
-  beams-fit n few is-n = omega (arith, beams-low rate m .1)
+  module _ (reading : Reading) (t : BeamTarget) where
+    pub target-first : reading ≡ Marker → t ≡ noTarget → t ≡ targetIn reading beam rate m
+    target-first e is-t = rw e is-t
+
+    module _ (e : reading ≡ Family) where
+      pub target-beam : beam ≡ true → t ≡ targetOf rate m → t ≡ targetIn reading beam rate m
+      target-beam is-beam is-t = rw (e, is-beam) is-t
+
+      pub target-none : beam ≡ false → t ≡ noTarget → t ≡ targetIn reading beam rate m
+      target-none none is-t = rw (e, none) is-t
+
+pub beams-fit : (rate : ℕ) (m : List ℕ) (n : ℕ) → length m < 65535 → n ≡ beamsOf rate m → Fits w16 n
+beams-fit rate m n few is-n = omega (arith, beams-low rate m .1)
 
 -- ---- the frame
 module _ (b : List ℕ) (p : Parts) (inside : Inside b p) where
   abbrev mid : List ℕ
   mid = take (p .end .0 - p .middle .0) (drop (p .middle .0) b)
-
-  pub middle-bytes : 0 < length mid
-  middle-bytes = rw length-take (rw length-drop (omega (arith, inside .some, inside .inside)))
 
   middle-short : length mid ≤ length b
   middle-short = rw length-take (rw length-drop (omega arith))
@@ -241,22 +299,23 @@ module _ (b : List ℕ) (p : Parts) (inside : Inside b p) where
   pub mpdu-fits : (l : ℕ) → length b < 65535 → l ≤ length mid → Fits w16 l
   mpdu-fits l few low = omega (arith, middle-short)
 
-  pub frame-is : (rate l : ℕ) (rssi : ℤ) (beams : Beams) → rate ≡ rateOf (p .trailer .channel) (p .trailer .region)
-      → rssi ≡ toZ w8 (p .trailer .rssi) → mag rssi < 2 ^ hbits w8 → beams ≡ beamsIn rate mid → l ≡ mpduOf mid
+  pub frame-is : (reading : Reading) (l : ℕ) (rssi : ℤ) (beams : Beams) (target : BeamTarget) → rssi ≡ toZ w8 (p .trailer .rssi)
+      → mag rssi < 2 ^ hbits w8 → beams ≡ beamsIn (p .beam) (p .rate) mid → l ≡ mpduOf (p .beam) mid
+      → target ≡ targetIn reading (p .beam) (p .rate) mid
       → record {
         direction = p .direction;
         region = p .trailer .region;
         channel = p .trailer .channel;
-        rate = rate;
+        rate = p .rate;
         rssi = toZ w8 (ofZ w8 rssi);
-        beams =
-            beams;
+        beams = beams;
         start = p .middle;
         length = l;
-      } ≡ framedBy b p
-  frame-is rate l rssi beams is-rate is-rssi ok is-beams is-l =
+        target = target;
+      } ≡ framedBy reading b p
+  frame-is reading l rssi beams target is-rssi ok is-beams is-l is-target =
       let read-back : toZ w8 (ofZ w8 rssi) ≡ toZ w8 (p .trailer .rssi) = toZ-ofZ {w = w8} {z = rssi} (record { sfits = ok }) ∙ is-rssi in
-      rw (is-beams, is-l, read-back, is-rate) refl
+      rw (is-beams, is-l, read-back, is-target) refl
 
 -- ---- the answer
 split-parts : (t : Bool) (x p : Parts) → cond t (Into x) NoSplit ≡ Into p → (t ≡ true) × (p ≡ x)
@@ -267,7 +326,7 @@ split-without : (t : Bool) (x : Parts) → cond t (Into x) NoSplit ≡ NoSplit �
 split-without true x h = cc
 split-without false x h = refl
 
-module _ (w : ℕ) (b : List ℕ) (r : Split) (is-r : r ≡ splitOf w b) where
+module _ (w : Rules) (b : List ℕ) (r : Split) (is-r : r ≡ splitOf w b) where
   pub split-none : r ≡ NoSplit → isFrame w b ≡ false
   split-none e = split-without (isFrame w b) (partsOf w b) (sym is-r ∙ e)
 
@@ -286,37 +345,53 @@ module _ (w : ℕ) (b : List ℕ) (r : Split) (is-r : r ≡ splitOf w b) where
         let n : p .end .0 ≡ length b - trailer b = ap (λ (x : Parts). x .end .0) is-p in
         record { some = omega (arith, r .1); inside = omega arith }
 
-    pub split-framed : (f : PtiFrame) → f ≡ framedBy b p → f ≡ frameOf w b
-    split-framed f is-f = is-f ∙ ap (framedBy b) (the-parts .1)
+    pub split-framed : (f : PtiFrame) → f ≡ framedBy (w .reading) b p → f ≡ frameOf w b
+    split-framed f is-f = is-f ∙ ap (framedBy (w .reading) b) (the-parts .1)
 
-module _ (firmware w : ℕ) (b : List ℕ) (is-w : w ≡ regionBits firmware) where
-  pub parsed-unknown : w ≡ 0 → Parses firmware b (Refused (Firmware firmware))
-  parsed-unknown none = record { answer = rw (← is-w, eq-eqb w 0 none) refl; numbers = rw (← is-w, eq-eqb w 0 none) refl }
+pub rules-are : (firmware w : ℕ) (reading : Reading) → w ≡ regionBits firmware → record { width = w; reading = reading } ≡ rulesOf firmware reading
+rules-are firmware w reading is-w = rw is-w refl
 
-  module _ (some : w ≡ 0 → ⊥) where
-    pub parsed-long : 2048 < length b → Parses firmware b (Refused (TooLong (length b)))
+pub reading-family : (family : Bool) → family ≡ true → Family ≡ readingBy family
+reading-family family e = rw e refl
+
+pub reading-marker : (family : Bool) → family ≡ false → Marker ≡ readingBy family
+reading-marker family e = rw e refl
+
+module _ (firmware : ℕ) (reading : Reading) (w : Rules) (b : List ℕ) (is-w : w ≡ rulesOf firmware reading) where
+  is-width : w .width ≡ regionBits firmware
+  is-width = ap (λ (x : Rules). x .width) is-w
+
+  pub parsed-unknown : w .width ≡ 0 → Parses firmware reading b (Refused (Firmware firmware))
+  parsed-unknown none =
+      let unknown = eq-eqb (regionBits firmware) 0 (sym is-width ∙ none) in
+      record { answer = rw unknown refl; numbers = rw unknown refl }
+
+  module _ (some : w .width ≡ 0 → ⊥) where
+    known-firmware : eqb (regionBits firmware) 0 ≡ false
+    known-firmware = ne-eqb (regionBits firmware) 0 (λ none. some (is-width ∙ none))
+
+    pub parsed-long : 2048 < length b → Parses firmware reading b (Refused (TooLong (length b)))
     parsed-long long =
         let over = lt-leb (length b) 2048 long in
-        let known = ne-eqb w 0 some in
-        record { answer = rw (← is-w, known, over) refl; numbers = rw (← is-w, known, over) refl }
+        record { answer = rw (known-firmware, over) refl; numbers = rw (known-firmware, over) refl }
 
     module _ (s : Split) (is-s : s ≡ splitOf w b) (short : length b ≤ 2048) where
-      pub parsed-not : s ≡ NoSplit → Parses firmware b (Refused NotAFrame)
+      pub parsed-not : s ≡ NoSplit → Parses firmware reading b (Refused NotAFrame)
       parsed-not e =
           let within = le-leb (length b) 2048 short in
-          let none = split-none w b s is-s e in
-          let known = ne-eqb w 0 some in
-          record { answer = rw (← is-w, known, within, none) refl; numbers = rw (← is-w, known, within, none) refl }
+          let none : isFrame (rulesOf firmware reading) b ≡ false = rw is-w at (split-none w b s is-s e) in
+          record { answer = rw (known-firmware, within, none) refl; numbers = rw (known-firmware, within, none) refl }
 
-      pub parsed-frame : (p : Parts) (f : PtiFrame) → s ≡ Into p → f ≡ framedBy b p → Parses firmware b (Frame f)
+      pub parsed-frame : (p : Parts) (f : PtiFrame) → s ≡ Into p → f ≡ framedBy reading b p → Parses firmware reading b (Frame f)
       parsed-frame p f e is-f =
           let within = le-leb (length b) 2048 short in
-          let whole = split-frame w b s is-s p e in
-          let known = ne-eqb w 0 some in
-          let the-f = split-framed w b s is-s p e f is-f in
+          let whole : isFrame (rulesOf firmware reading) b ≡ true = rw is-w at (split-frame w b s is-s p e) in
+          let the-f : f ≡ frameOf (rulesOf firmware reading) b =
+          split-framed (rulesOf firmware reading) b s (is-s ∙ ap (λ (x : Rules). splitOf x b) is-w) p e f is-f in
           record {
-            answer = rw (← is-w, known, within, whole) (ap Frame the-f);
-            numbers = rw (← is-w, known, within, whole) (ap (λ (x : PtiFrame). (0, numbersAt (x .start .0) x)) the-f);
+            answer = rw (known-firmware, within, whole) (ap Frame the-f);
+            numbers =
+                rw (known-firmware, within, whole) (ap (λ (x : PtiFrame). (0, numbersAt (x .start .0) x ++ targetNumbers (x .target))) the-f);
           }
 
 pub ruleset laws = (
@@ -328,6 +403,11 @@ pub ruleset laws = (
   low-byte,
   fields-rx,
   fields-tx,
+  family-short,
+  family-long,
+  beam-unmarked,
+  beam-marked,
+  beam-family,
   other-protocol,
   holds-beam,
   holds-tag,
@@ -339,10 +419,13 @@ pub ruleset laws = (
   laid-out,
   split-nothing,
   middle-some,
-  middle-inside,
+  middle-ordered,
+  middle-there,
   start-inside,
   end-inside,
   trailer-room,
+  lies-so,
+  parts-read,
   split-not,
   split-into,
   mpdu-few,
@@ -351,11 +434,16 @@ pub ruleset laws = (
   mpdu-all,
   beams-some,
   beams-none,
+  target-first,
+  target-beam,
+  target-none,
   beams-fit,
-  middle-bytes,
   middle-few,
   mpdu-fits,
   frame-is,
+  rules-are,
+  reading-family,
+  reading-marker,
   parsed-unknown,
   parsed-long,
   parsed-not,

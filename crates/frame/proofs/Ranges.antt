@@ -13,18 +13,15 @@ use lib.ListN.{length, getD, take, drop, length-take, length-drop}
 use lib.Seq.{getD-drop}
 use borrow.Author.Tests.{leb-true}
 use Rattle.laws.proofs.Bools.{and-left, and-right}
-use Rattle.radio.specs.Speed.{rateOf}
-use Rattle.radio.specs.Beam.{beamsOf}
 use Rattle.radio.proofs.SpeedLaws.{rate-low}
 use Rattle.radio.proofs.BeamLaws.{beams-low}
 use Rattle.frame.specs.declared.Direction.{Direction}
 use Rattle.frame.specs.declared.Direction.the-variants.{Rx, Tx}
 use Rattle.frame.specs.declared.Trailer.{Trailer}
-use Rattle.frame.specs.declared.Beams.{Beams}
-use Rattle.frame.specs.declared.Beams.the-variants.{Count, NoBeam}
 use Rattle.frame.specs.declared.PtiFrame.{PtiFrame}
-use Rattle.frame.specs.Frame.{headerOf, header, trailer, start, directionOf, fieldsOf, fields, middle, between, isBeam, isFrame, mpduOf, beamsIn}
-use Rattle.frame.specs.Frame.{frameOf, directionNumber, beamsNumber}
+use Rattle.frame.specs.declared.Rules.{Rules}
+use Rattle.frame.specs.Frame.{headerOf, header, trailer, start, directionOf, fieldsOf, fields, middle, between, rateIn, beamIn, isFrame, mpduOf}
+use Rattle.frame.specs.Frame.{beamsIn, frameOf, directionNumber, beamsNumber}
 use Rattle.frame.proofs.Laws.{roomy, low-power}
 
 -- every element is a byte, as of a slice of u8
@@ -54,8 +51,8 @@ small-fields w Rx t few all = record { region = small-region (getD t 2 0) w few;
 small-fields w Tx t few all = record { region = small-region (getD t 1 0) w few; channel = omega arith; rssi = omega arith }
 
 -- the MPDU is a part of the middle bytes
-mpdu-low : (m : List ℕ) → mpduOf m ≤ length m
-mpdu-low m = go (not (isBeam m)) (ltb 7 (length m)) (leb (getD m 7 0) (length m)) (leb-true (getD m 7 0) (length m))
+mpdu-low : (beam : Bool) (m : List ℕ) → mpduOf beam m ≤ length m
+mpdu-low beam m = go (not beam) (ltb 7 (length m)) (leb (getD m 7 0) (length m)) (leb-true (getD m 7 0) (length m))
   where
     go : (a b c : Bool) → (c ≡ true → getD m 7 0 ≤ length m) → cond (a && (b && c)) (getD m 7 0) (length m) ≤ length m
     go false b c h = omega arith
@@ -87,33 +84,31 @@ header-low version = go (eqb version 2) (eqb version 3)
     go false true = omega arith
     go false false = omega arith
 
-pub small : (w : ℕ) (b : List ℕ) → w ≤ 5 → Bytes b → isFrame w b ≡ true → Small (length b) (frameOf w b)
+pub small : (w : Rules) (b : List ℕ) → w .width ≤ 5 → Bytes b → isFrame w b ≡ true → Small (length b) (frameOf w b)
 small w b narrow all whole =
-    let t = small-fields w (directionOf (start b)) (drop (length b - trailer b) b) narrow (bytes-drop (length b - trailer b) b all) in
+    let t = small-fields (w .width) (directionOf (start b)) (drop (length b - trailer b) b) narrow (bytes-drop (length b - trailer b) b all) in
     let room = roomy b (and-left (between b) _ whole) in
     let few : 1 + length (middle b) ≤ length b = rw (length-take, length-drop) (omega (arith, room .0, room .1)) in
-    let back : ofZ w8 (toZ w8 (fields w b .rssi)) ≡ fields w b .rssi = ofZ-toZ {w = w8} {n = fields w b .rssi} (record { fits = t .rssi }) in
+    let f = fields (w .width) b in
+    let back : ofZ w8 (toZ w8 (f .rssi)) ≡ f .rssi = ofZ-toZ {w = w8} {n = f .rssi} (record { fits = t .rssi }) in
     record {
       direction = direction-low (directionOf (start b));
       region = t .region;
       channel = t .channel;
-      rate = omega (arith, rate-low (fields w b .channel) (fields w b .region));
+      rate = omega (arith, rate-low (f .channel) (f .region));
       rssi = rw back (t .rssi);
       sign = ap (toZ w8) back;
-      beams = counted (rateOf (fields w b .channel) (fields w b .region)) (middle b) (length b) few;
+      beams = counted (beamIn w b) (rateIn (w .width) b) (middle b) (length b) few;
       start = header-low (getD b 0 0);
-      length = omega (arith, mpdu-low (middle b));
+      length = omega (arith, mpdu-low (beamIn w b) (middle b));
     }
   where
-    counted : (rate : ℕ) (m : List ℕ) (n : ℕ) → 1 + length m ≤ n → beamsNumber (beamsIn rate m) ≤ n
-    counted rate m n few = go (isBeam m)
-      where
-        go : (t : Bool) → beamsNumber (cond t (Count (beamsOf rate m)) NoBeam) ≤ n
-        go true = omega (arith, beams-low rate m .1)
-        go false = omega arith
+    counted : (beam : Bool) (rate : ℕ) (m : List ℕ) (n : ℕ) → 1 + length m ≤ n → beamsNumber (beamsIn beam rate m) ≤ n
+    counted true rate m n few = omega (arith, beams-low rate m .1)
+    counted false rate m n few = omega arith
 
 -- a frame's body has a header, a middle byte and a trailer
-pub frame-long : (w : ℕ) (b : List ℕ) → isFrame w b ≡ true → 18 ≤ length b
+pub frame-long : (w : Rules) (b : List ℕ) → isFrame w b ≡ true → 18 ≤ length b
 frame-long w b whole =
     let is-between = and-left (between b) _ whole in
     let room = roomy b is-between in
@@ -129,8 +124,8 @@ frame-long w b whole =
         go false false h = absurd (let z : _≡_ {A = ℕ} 0 1 = cc in omega arith)
 
 -- the MPDU lies inside the body
-pub mpdu-inside : (w : ℕ) (b : List ℕ) → isFrame w b ≡ true → frameOf w b .start .0 + frameOf w b .length ≤ length b
+pub mpdu-inside : (w : Rules) (b : List ℕ) → isFrame w b ≡ true → frameOf w b .start .0 + frameOf w b .length ≤ length b
 mpdu-inside w b whole =
     let room = roomy b (and-left (between b) _ whole) in
     let few : length (middle b) ≤ length b - trailer b - header b = rw length-take (omega arith) in
-    omega (arith, mpdu-low (middle b))
+    omega (arith, mpdu-low (beamIn w b) (middle b))

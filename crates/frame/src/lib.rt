@@ -1,18 +1,25 @@
-// The frame in a record's body: F7 to F12, F16, FV1 and FV2 of docs/RULES.md.
+// The frame in a record's body: F7 to F12, F16, FV1, FV2, BF1 and BF2 of docs/RULES.md.
 use radio::beam::BEAM_MARKER;
+use radio::beam::BeamTarget;
 use radio::beam::beam_count;
+use radio::beam::is_repeated;
+use radio::beam::target_of;
 use radio::rssi::signed;
 use radio::speed::RATES;
 use radio::speed::rate_in;
 use records::BodyOffset;
 use refusal::Refusal;
 ghost use mathlib.Core.Path.{_≡_};
+ghost use mathlib.Core.Bool.{_||_};
 ghost use Prim.Native.Nat.{_≤_, _<_, _%_, _^_};
-ghost use lib.Dec.{eqb};
+ghost use lib.Dec.{leb, ltb};
 ghost use lib.ListN.{length};
 ghost use Rattle.radio.specs.Speed.{RateTable};
-ghost use Rattle.frame.specs.Frame.{headerOf, trailerOf, directionOf, successOf, regionBits, fieldsOf, holds, mpduOf, beamsIn, Parses};
-ghost use Rattle.frame.specs.Steps.{layoutOf, splitOf, Inside, framedBy};
+ghost use Rattle.radio.specs.Beam.{beamsOf, noTarget};
+ghost use Rattle.frame.specs.Frame.{headerOf, trailerOf, directionOf, successOf, regionBits, rulesOf, readingBy, fieldsOf, isBeam, holds};
+ghost use Rattle.frame.specs.Frame.{mpduOf, beamsIn, targetIn, Parses};
+ghost use Rattle.frame.specs.declared.Layout.the-variants.{Between};
+ghost use Rattle.frame.specs.Steps.{layoutOf, partsOf, splitOf, Inside, framedBy};
 
 // Hardware start tags, the header's last byte, and success tags, the trailer's first.
 const HW_RX_START: u8 = 0xF8;
@@ -26,8 +33,23 @@ const HW_TX_SUCCESS: u8 = 0xFD;
 // Offset of the MPDU length field within a Z-Wave header.
 const LENGTH_INDEX_IN_HEADER: usize = 7;
 
+// The fewest bytes of an ordinary frame.
+const SHORTEST_MPDU: usize = 9;
+
 // Z-Wave's number among the protocols that a trailer can name.
 const ZWAVE_PROTOCOL: u8 = 6;
+
+// Which records that start with the marker are beams: all of them, or those alone that repeat or are too short for an ordinary frame.
+pub enum Reading {
+    Marker,
+    Family,
+}
+
+// By what a record is read: how many bits of its byte say the region, and which records are beams.
+pub struct Rules {
+    pub width: u8,
+    pub reading: Reading,
+}
 
 // The direction a frame was observed in.
 pub enum Direction {
@@ -56,6 +78,8 @@ pub struct Parts {
     pub middle: BodyOffset,
     pub end: BodyOffset,
     pub trailer: Trailer,
+    pub rate: u8,
+    pub beam: bool,
 }
 
 pub enum Split {
@@ -82,6 +106,8 @@ pub struct PtiFrame {
     pub beams: Beams,
     pub start: BodyOffset,
     pub length: u16,
+    // Nothing in the first reading, and where it is no beam.
+    pub target: BeamTarget,
 }
 
 // The frame of a single record.
@@ -138,7 +164,7 @@ fn success_tag(direction: Direction) -> u8
 }
 
 // How many bits of its byte say the region, by the firmware that wrote the record; 0 for a firmware that there isn't.
-pub fn region_bits(firmware: usize) -> u8
+fn region_bits(firmware: usize) -> u8
     ensures { λ r. ⌜ r ≡ regionBits firmware ⌝ }
     ensures { λ r. ⌜ r ≤ 5 ⌝ }
 {
@@ -149,6 +175,27 @@ pub fn region_bits(firmware: usize) -> u8
         return 5;
     }
     0
+}
+
+// The rules for what a firmware wrote, by a reading.
+pub fn rules_of(firmware: usize, reading: Reading) -> Rules
+    ensures { λ r. ⌜ r ≡ rulesOf firmware reading ⌝ }
+    ensures { λ r. ⌜ r .width ≤ 5 ⌝ }
+{
+    Rules {
+        width: region_bits(firmware),
+        reading,
+    }
+}
+
+// The reading in which beams are a family of their own, or the first.
+pub fn reading_by(family: bool) -> Reading
+    ensures { λ r. ⌜ r ≡ readingBy family ⌝ }
+{
+    if family {
+        return Reading::Family;
+    }
+    Reading::Marker
 }
 
 // The number that the low bits of a byte say.
@@ -183,17 +230,42 @@ fn read_trailer(direction: Direction, trailer: &[u8], width: u8) -> Trailer
     }
 }
 
-// Only a successful transfer carries a valid frame, but for a beam; and it must be Z-Wave.
-fn is_whole(direction: Direction, first: u8, trailer: Trailer) -> bool
-    ensures { λ r. ⌜ r ≡ holds direction (eqb first 0x55) trailer ⌝ }
+// Are middle bytes that start with the marker a beam, and no frame of a network whose home id starts so?
+fn is_family(rate: u8, middle: &[u8]) -> bool
+    ensures { λ r. ⌜ r ≡ (leb 2 (beamsOf rate (now (middle .entry))) || ltb (length (now (middle .entry))) 9) ⌝ }
 {
-    if trailer.protocol != ZWAVE_PROTOCOL {
-        return false;
-    }
-    if first == BEAM_MARKER {
+    if middle.len() < SHORTEST_MPDU {
         return true;
     }
-    trailer.tag == success_tag(direction)
+    is_repeated(rate, middle)
+}
+
+// Are the middle bytes a beam?
+fn is_beam(reading: Reading, rate: u8, middle: &[u8]) -> bool
+    requires { ⌜ 0 < length (now middle) ⌝ }
+    ensures { λ r. ⌜ r ≡ isBeam reading rate (now (middle .entry)) ⌝ }
+{
+    if middle[0] != BEAM_MARKER {
+        return false;
+    }
+    match reading {
+        Reading::Marker => true,
+        Reading::Family => is_family(rate, middle),
+    }
+}
+
+// Only a successful transfer carries a valid frame, but for a beam; and it must be Z-Wave.
+fn is_whole(parts: Parts) -> bool
+    ensures { λ r. ⌜ r ≡ holds (parts .direction) (parts .beam) (parts .trailer) ⌝ }
+{
+    if parts.trailer.protocol != ZWAVE_PROTOCOL {
+        return false;
+    }
+    if parts.beam {
+        return true;
+    }
+    let direction = parts.direction;
+    parts.trailer.tag == success_tag(direction)
 }
 
 // Where the header ends and the trailer starts.
@@ -220,63 +292,106 @@ fn lay_out(body: &[u8]) -> Layout
     Layout::Between(BodyOffset(header), BodyOffset(body.len() - trailer))
 }
 
-// The parts of a body, if it holds a frame whose region has so many bits.
-pub fn split_body(body: &[u8], width: u8) -> Split
-    requires { ⌜ width ≤ 5 ⌝ }
-    ensures { λ r. ⌜ r ≡ splitOf width (now (body .entry)) ⌝ }
+// The parts of a body whose middle bytes stand from `middle` up to `end`.
+fn read_parts(
+    rates: &[u8; 512],
+    body: &[u8],
+    rules: Rules,
+    middle: BodyOffset,
+    end: BodyOffset,
+) -> Parts
+    requires { ⌜ RateTable (now rates) ⌝ }
+    requires { ⌜ rules .width ≤ 5 ⌝ }
+    requires { ⌜ layoutOf (now body) ≡ Between middle end ⌝ }
+    ensures { λ r. ⌜ r ≡ partsOf rules (now (body .entry)) ⌝ }
+{
+    let header = middle.0;
+    let tail = end.0;
+    let direction = direction_of(body[header - 1]);
+    let trailer = read_trailer(direction, &body[tail..], rules.width);
+    let rate = rate_in(rates, trailer.channel as usize, trailer.region as usize);
+    let reading = rules.reading;
+    Parts {
+        direction,
+        middle,
+        end,
+        trailer,
+        rate,
+        beam: is_beam(reading, rate, &body[header..tail]),
+    }
+}
+
+// The parts of a body, if it holds a frame by these rules.
+pub fn split_body(rates: &[u8; 512], body: &[u8], rules: Rules) -> Split
+    requires { ⌜ RateTable (now rates) ⌝ }
+    requires { ⌜ rules .width ≤ 5 ⌝ }
+    ensures { λ r. ⌜ r ≡ splitOf rules (now (body .entry)) ⌝ }
 {
     let Layout::Between(middle, end) = lay_out(body) else {
         return Split::Nothing;
     };
-    let header = middle.0;
-    let tail = end.0;
-    let direction = direction_of(body[header - 1]);
-    let trailer = read_trailer(direction, &body[tail..], width);
-    if is_whole(direction, body[header], trailer) {
-        return Split::Into(Parts {
-            direction,
-            middle,
-            end,
-            trailer,
-        });
+    let parts = read_parts(rates, body, rules, middle, end);
+    if is_whole(parts) {
+        return Split::Into(parts);
     }
     Split::Nothing
 }
 
 // The MPDU's length: what its header declares, where that is there and fits; else all middle bytes, and so for a beam.
-fn mpdu_length(middle: &[u8]) -> usize
-    ensures { λ r. ⌜ r ≡ mpduOf (now (middle .entry)) ⌝ }
+fn mpdu_length(beam: bool, middle: &[u8]) -> usize
+    ensures { λ r. ⌜ r ≡ mpduOf beam (now (middle .entry)) ⌝ }
     ensures { λ r. ⌜ r ≤ length (now (middle .entry)) ⌝ }
 {
     let m = middle.len();
     if m <= LENGTH_INDEX_IN_HEADER {
         return m;
     }
-    let marker = middle[0];
-    if marker == BEAM_MARKER {
+    if beam {
         return m;
     }
     let l = middle[LENGTH_INDEX_IN_HEADER] as usize;
     if l <= m { l } else { m }
 }
 
-// The repetitions of a beam, if the middle bytes are one.
-fn beams_in(rate: u8, middle: &[u8]) -> Beams
-    requires { ⌜ (0 < length (now middle)) × (length (now middle) < 65535) ⌝ }
-    ensures { λ r. ⌜ r ≡ beamsIn rate (now (middle .entry)) ⌝ }
+// The repetitions of a beam.
+fn beams_in(beam: bool, rate: u8, middle: &[u8]) -> Beams
+    requires { ⌜ length (now middle) < 65535 ⌝ }
+    ensures { λ r. ⌜ r ≡ beamsIn beam rate (now (middle .entry)) ⌝ }
 {
-    if middle[0] == BEAM_MARKER {
+    if beam {
         return Beams::Count(beam_count(rate, middle) as u16);
     }
     Beams::NoBeam
 }
 
-// The frame of a body, given its parts and the rates.
-pub fn frame_of(rates: &[u8; 512], body: &[u8], parts: Parts) -> PtiFrame
-    requires { ⌜ RateTable (now rates) ⌝ }
+fn no_target() -> BeamTarget
+    ensures { λ r. ⌜ r ≡ noTarget ⌝ }
+{
+    BeamTarget {
+        node: 0,
+        hash: 0,
+        power: 0,
+    }
+}
+
+// Whom a beam wakes, which the second reading alone looks for.
+fn target_in(reading: Reading, beam: bool, rate: u8, middle: &[u8]) -> BeamTarget
+    ensures { λ r. ⌜ r ≡ targetIn reading beam rate (now (middle .entry)) ⌝ }
+{
+    let Reading::Family = reading else {
+        return no_target();
+    };
+    if beam {
+        return target_of(rate, middle);
+    }
+    no_target()
+}
+
+// The frame of a body, given its parts.
+pub fn frame_of(body: &[u8], reading: Reading, parts: Parts) -> PtiFrame
     requires { ⌜ Inside (now body) parts ⌝ }
     requires { ⌜ length (now body) < 65535 ⌝ }
-    ensures { λ r. ⌜ r ≡ framedBy (now (body .entry)) parts ⌝ }
+    ensures { λ r. ⌜ r ≡ framedBy reading (now (body .entry)) parts ⌝ }
 {
     let start = parts.middle;
     let at = start.0;
@@ -284,34 +399,34 @@ pub fn frame_of(rates: &[u8; 512], body: &[u8], parts: Parts) -> PtiFrame
     let middle = &body[at..end];
     let direction = parts.direction;
     let trailer = parts.trailer;
-    let region = trailer.region;
-    let channel = trailer.channel;
-    let rate = rate_in(rates, channel as usize, region as usize);
+    let rate = parts.rate;
+    let beam = parts.beam;
     PtiFrame {
         direction,
-        region,
-        channel,
+        region: trailer.region,
+        channel: trailer.channel,
         rate,
         rssi: signed(trailer.rssi),
-        beams: beams_in(rate, middle),
+        beams: beams_in(beam, rate, middle),
         start,
-        length: mpdu_length(middle) as u16,
+        length: mpdu_length(beam, middle) as u16,
+        target: target_in(reading, beam, rate, middle),
     }
 }
 
-// The frame of a single record's body, which that firmware wrote, or refusal 13, 4 or 9.
-pub fn parse_record(body: &[u8], firmware: usize) -> Parsed
-    ensures { λ r. ⌜ Parses firmware (now (body .entry)) r ⌝ }
+// The frame of a single record's body, which that firmware wrote, by that reading of beams, or refusal 13, 4 or 9.
+pub fn parse_record(body: &[u8], firmware: usize, reading: Reading) -> Parsed
+    ensures { λ r. ⌜ Parses firmware reading (now (body .entry)) r ⌝ }
 {
-    let width = region_bits(firmware);
-    if width == 0 {
+    let rules = rules_of(firmware, reading);
+    if rules.width == 0 {
         return Parsed::Refused(Refusal::Firmware(firmware));
     }
     if 2048 < body.len() {
         return Parsed::Refused(Refusal::TooLong(body.len()));
     }
-    let Split::Into(parts) = split_body(body, width) else {
+    let Split::Into(parts) = split_body(&RATES, body, rules) else {
         return Parsed::Refused(Refusal::NotAFrame);
     };
-    Parsed::Frame(frame_of(&RATES, body, parts))
+    Parsed::Frame(frame_of(body, reading, parts))
 }

@@ -1,51 +1,47 @@
 -- Both firmwares tell the same frames of a payload whose regions have no fifth bit: FV3 (docs/RULES.md). Assumes nothing.
-use mathlib.Core.Path.{_≡_, refl, sym, ap, _∙_}
+use mathlib.Core.Path.{_≡_, refl, sym, _∙_}
 use mathlib.Core.Bool.{cond}
 use mathlib.Core.List.{List, [], _∷_}
 use Prim.Native.Nat.{ℕ, _+_}
+use lib.ListN.{length}
 use Rattle.records.specs.Records.{bodies, bytesOf}
+use Rattle.frame.specs.declared.Reading.{Reading}
+use Rattle.frame.specs.Frame.{rulesOf}
 use Rattle.frame.proofs.Firmware.{is-agree, frame-agree}
 use Rattle.pti.specs.declared.payload.Frames.{Frames}
-use Rattle.pti.specs.declared.payload.Frames.the-variants.{Rows, Refused}
-use Rattle.pti.specs.Payload.{rowOf, rowsIn, rowsOf, FourBitsIn, tableAfter, Located, LocatedIn, Parses}
+use Rattle.pti.specs.Payload.{rowOf, rowsIn, rowsOf, FourBitsIn, Parses}
+use Rattle.pti.proofs.Same.{frames-same, said-same, table-same, located-same}
 
-rows-agree : (s : List ℕ) (k : ℕ) (bs : List (ℕ × ℕ)) → FourBitsIn s bs → rowsIn 4 s k bs ≡ rowsIn 5 s k bs
+rows-agree : (reading : Reading) (s : List ℕ) (k : ℕ) (bs : List (ℕ × ℕ)) → FourBitsIn s bs
+    → rowsIn (rulesOf 2 reading) s k bs ≡ rowsIn (rulesOf 3 reading) s k bs
 unfolding rowsIn
-rows-agree s k [] four = refl
-rows-agree s k (b ∷ bs) four =
-    let is = is-agree (bytesOf s b) (four .0) in
-    let frame = frame-agree (bytesOf s b) (four .0) in
-    let rest = rows-agree s (k + 1) bs (four .1) in
+rows-agree reading s k [] four = refl
+rows-agree reading s k (b ∷ bs) four =
+    let is = is-agree reading (bytesOf s b) (four .0) in
+    let frame = frame-agree reading (bytesOf s b) (four .0) in
+    let rest = rows-agree reading s (k + 1) bs (four .1) in
     λ i. cond (is i) (rowOf k (b .0) (frame i) ∷ rest i) (rest i)
 
-module _ (s t : List ℕ) (four : FourBitsIn s (bodies s)) where
-  same : rowsOf 4 s ≡ rowsOf 5 s
-  same = rows-agree s 0 (bodies s) four
-
-  located-agree : (r : Frames) → LocatedIn 2 s r ≡ LocatedIn 3 s r
-  located-agree (Rows n) = ap (Located s) same
-  located-agree (Refused x) = refl
-
-  table-agree : (r : Frames) → tableAfter 2 s t r ≡ tableAfter 3 s t r
-  table-agree (Rows n) = rw same refl
-  table-agree (Refused x) = refl
+module _ (reading : Reading) (s t : List ℕ) (four : FourBitsIn s (bodies s)) (r : Frames) (t′ : List ℕ) where
+  same : rowsOf (rulesOf 2 reading) s ≡ rowsOf (rulesOf 3 reading) s
+  same = rows-agree reading s 0 (bodies s) four
 
   -- what `parse_payload` answers and leaves for firmware 2 it answers and leaves for firmware 3
-  pub payload-agree : (r : Frames) (t′ : List ℕ) → Parses 2 s t r t′ → Parses 3 s t r t′
-  payload-agree r t′ p =
+  pub payload-agree : Parses 2 reading s t r t′ → Parses 3 reading s t r t′
+  payload-agree p =
       record {
-        answer = rw same at (p .answer);
-        numbers = rw same at (p .numbers);
-        table = p .table ∙ table-agree r;
-        located = rw (located-agree r) at (p .located);
+        answer = p .answer ∙ frames-same (rulesOf 2 reading) (rulesOf 3 reading) s same (length t);
+        numbers = p .numbers ∙ said-same (rulesOf 2 reading) (rulesOf 3 reading) s same (length t);
+        table = p .table ∙ table-same (rulesOf 2 reading) (rulesOf 3 reading) s same t r;
+        located = located-same (rulesOf 2 reading) (rulesOf 3 reading) s same r (p .located);
       }
 
   -- and so the other way round
-  pub payload-agree-back : (r : Frames) (t′ : List ℕ) → Parses 3 s t r t′ → Parses 2 s t r t′
-  payload-agree-back r t′ p =
+  pub payload-agree-back : Parses 3 reading s t r t′ → Parses 2 reading s t r t′
+  payload-agree-back p =
       record {
-        answer = rw (← same) at (p .answer);
-        numbers = rw (← same) at (p .numbers);
-        table = p .table ∙ sym (table-agree r);
-        located = rw (← located-agree r) at (p .located);
+        answer = p .answer ∙ frames-same (rulesOf 3 reading) (rulesOf 2 reading) s (sym same) (length t);
+        numbers = p .numbers ∙ said-same (rulesOf 3 reading) (rulesOf 2 reading) s (sym same) (length t);
+        table = p .table ∙ table-same (rulesOf 3 reading) (rulesOf 2 reading) s (sym same) t r;
+        located = located-same (rulesOf 3 reading) (rulesOf 2 reading) s (sym same) r (p .located);
       }

@@ -20,6 +20,8 @@ use Rattle.rows.proofs.Laws.{sets-append, put-room, sets-laid}
 use Rattle.records.specs.declared.Span.{Span}
 use Rattle.records.specs.declared.Next.{Next}
 use Rattle.records.specs.declared.Next.the-variants.{Body, NoMore}
+use Rattle.frame.specs.declared.Reading.{Reading}
+use Rattle.frame.specs.declared.Rules.{Rules}
 use Rattle.frame.specs.declared.Parts.{Parts}
 use Rattle.frame.specs.declared.PtiFrame.{PtiFrame}
 use Rattle.frame.specs.declared.Split.{Split}
@@ -29,15 +31,15 @@ use Rattle.pti.specs.declared.payload.Frames.the-variants.{Rows, Refused
 use Rattle.records.specs.Records.{stands, upTo, bodiesFrom, bodies, bytesOf}
 use Rattle.records.specs.Steps.{Follows}
 use Rattle.frame.specs.Steps.{splitOf, framedBy}
-use Rattle.pti.specs.Steps.{Low, Within, Needs, WritesRow, Writes, Lays}
-use Rattle.frame.specs.Frame.{regionBits, isFrame, frameOf, directionNumber, beamsNumber}
+use Rattle.pti.specs.Steps.{Low, Within, Needs, WritesRow, Writes, Lays, ParsesBy}
+use Rattle.frame.specs.Frame.{regionBits, rulesOf, isFrame, frameOf, directionNumber, beamsNumber}
 use Rattle.pti.specs.Payload.{rowWidth, rowOf, rowsIn, rowsOf, Rises, Placed, AllPlaced, Located, Parses}
 use Rattle.records.proofs.Laws.{stands-inside, stands-opened, stands-closed, led, body-nearer, body-ordered, body-inside, after-fits}
 use Rattle.frame.proofs.Ranges.{frame-long, mpdu-inside}
 use Rattle.frame.proofs.Laws.{split-frame, split-none, split-framed, parts-in}
 
 -- ---- one body
-module _ (w : ℕ) (b : List ℕ) (r : Split) (is-r : r ≡ splitOf w b) where
+module _ (w : Rules) (b : List ℕ) (r : Split) (is-r : r ≡ splitOf w b) where
   pub holds-one : (p : Parts) → r ≡ Into p → _≡_ {A = ℕ} 1 (cond (isFrame w b) 1 0)
   holds-one p e = rw (split-frame w b r is-r p e) refl
 
@@ -47,25 +49,26 @@ module _ (w : ℕ) (b : List ℕ) (r : Split) (is-r : r ≡ splitOf w b) where
 -- ---- the row of a frame
 pub row-is : (f : PtiFrame) (k body d rssi beams start : ℕ) → d ≡ directionNumber (f .direction) → rssi ≡ ofZ w8 (toZ w8 (ofZ w8 (f .rssi)))
     → mag (f .rssi) < 2 ^ hbits w8 → beams ≡ beamsNumber (f .beams) → start ≡ body + f .start .0
-    → (d ∷ f .region ∷ f .channel ∷ f .rate ∷ rssi ∷ beams ∷ start ∷ f .length ∷ k ∷ (body - 3) ∷ []) ≡ rowOf k body f
+    → (d ∷ f .region ∷ f .channel ∷ f .rate ∷ rssi ∷ beams ∷ start ∷ f .length ∷ k ∷ (body - 3) ∷ f .target .node ∷ f .target .hash
+    ∷ f .target .power ∷ []) ≡ rowOf k body f
 row-is f k body d rssi beams start is-d is-rssi ok is-beams is-start =
     let read-back : toZ w8 (ofZ w8 (f .rssi)) ≡ f .rssi = toZ-ofZ {w = w8} {z = f .rssi} (record { sfits = ok }) in
     rw (is-d, is-rssi, read-back, is-beams, is-start) refl
 
 -- a body's MPDU starts inside it
-pub low-start : (w : ℕ) (b : List ℕ) (k start : ℕ) (x : Split) (p : Parts) (f : PtiFrame) → x ≡ splitOf w b → x ≡ Into p → f ≡ framedBy b p
-    → Within k start (length b) → Low k start (f .start .0)
+pub low-start : (w : Rules) (b : List ℕ) (k start : ℕ) (x : Split) (p : Parts) (f : PtiFrame) → x ≡ splitOf w b → x ≡ Into p
+    → f ≡ framedBy (w .reading) b p → Within k start (length b) → Low k start (f .start .0)
 low-start w b k start x p f is-x e is-f within =
     let is-start : f .start .0 ≡ p .middle .0 = ap (λ (y : PtiFrame). y .start .0) is-f in
     let inside = parts-in w b x is-x p e in
     record { number = within .number; behind = within .behind; mpdu = omega (arith, within .before, inside .some, inside .inside) }
 
-module _ (w : ℕ) (b : List ℕ) (k start n : ℕ) (t : List ℕ) (x : Split) (is-x : x ≡ splitOf w b) where
+module _ (w : Rules) (b : List ℕ) (k start n : ℕ) (t : List ℕ) (x : Split) (is-x : x ≡ splitOf w b) where
   pub writes-none : x ≡ NoSplit → Writes w b k start n t n t
   writes-none e = let none = split-none w b x is-x e in record { next = rw none (omega arith); table = rw none refl }
 
-  pub writes-frame : (p : Parts) (f : PtiFrame) (r : ℕ) (t′ : List ℕ) → x ≡ Into p → f ≡ framedBy b p → WritesRow f k start n t r t′
-      → Writes w b k start n t r t′
+  pub writes-frame : (p : Parts) (f : PtiFrame) (r : ℕ) (t′ : List ℕ) → x ≡ Into p → f ≡ framedBy (w .reading) b p
+      → WritesRow f k start n t r t′ → Writes w b k start n t r t′
   writes-frame p f r t′ e is-f wrote =
       let some = split-frame w b x is-x p e in
       let is-frame = split-framed w b x is-x p e f is-f in
@@ -83,7 +86,7 @@ module _ (n : ℕ) (t : List ℕ) (room : n * rowWidth ≤ length t) (size : len
   next-fits = omega arith
 
 -- ---- the count
-module _ (w : ℕ) (s : List ℕ) where
+module _ (w : Rules) (s : List ℕ) where
   counted-row : (k : ℕ) (b : ℕ × ℕ) (bs : List (ℕ × ℕ))
       → length (rowsIn w s k (b ∷ bs)) ≡ cond (isFrame w (bytesOf s b)) 1 0 + length (rowsIn w s (k + 1) bs)
   unfolding rowsIn
@@ -100,21 +103,21 @@ module _ (w : ℕ) (s : List ℕ) where
   same-count k j [] = refl
   same-count k j (b ∷ bs) = omega (arith, counted-row k b bs, counted-row j b bs, same-count (k + 1) (j + 1) bs)
 
-pub record Tallying (w : ℕ) (s : List ℕ) (count at : ℕ) : Type 0 where
+pub record Tallying (w : Rules) (s : List ℕ) (count at : ℕ) : Type 0 where
   pub sum : count + length (rowsIn w s 0 (bodiesFrom s at)) ≡ length (rowsOf w s)
   pub low : count < at
 
-pub tallying-starts : (w : ℕ) (s : List ℕ) → Tallying w s 0 1
+pub tallying-starts : (w : Rules) (s : List ℕ) → Tallying w s 0 1
 tallying-starts w s = record { sum = omega arith; low = omega arith }
 
-pub tallied : (w : ℕ) (s : List ℕ) (count at : ℕ) (r : Next) → Tallying w s count at → Follows s at r → r ≡ NoMore
+pub tallied : (w : Rules) (s : List ℕ) (count at : ℕ) (r : Next) → Tallying w s count at → Follows s at r → r ≡ NoMore
     → count ≡ length (rowsOf w s)
 unfolding rowsIn
 tallied w s count at r inv follows e =
     let none : bodiesFrom s at ≡ [] = rw e at follows in
     omega (arith, inv .sum, ap (λ (l : List (ℕ × ℕ)). length (rowsIn w s 0 l)) none)
 
-module _ (w : ℕ) (s : List ℕ) (count at : ℕ) (r : Next) (b : Span) (k : ℕ) (inv : Tallying w s count at) (follows : Follows s at r)
+module _ (w : Rules) (s : List ℕ) (count at : ℕ) (r : Next) (b : Span) (k : ℕ) (inv : Tallying w s count at) (follows : Follows s at r)
     (is-b : r ≡ Body b) (is-k : k ≡ cond (isFrame w (take (b .end .0 - b .start .0) (drop (b .start .0) s))) 1 0) (few : k ≤ 1) where
   pub tallying-more : Tallying w s (count + k) (b .end .0 + 2)
   tallying-more =
@@ -128,7 +131,7 @@ module _ (w : ℕ) (s : List ℕ) (count at : ℕ) (r : Next) (b : Span) (k : �
   tally-fits room = let l = led s at r b follows is-b in omega (arith, inv .low, l .after, l .ordered, l .inside)
 
 -- ---- the rows
-pub wide : (w : ℕ) (s : List ℕ) (k : ℕ) (bs : List (ℕ × ℕ)) → length (flat (rowsIn w s k bs)) ≡ length (rowsIn w s k bs) * rowWidth
+pub wide : (w : Rules) (s : List ℕ) (k : ℕ) (bs : List (ℕ × ℕ)) → length (flat (rowsIn w s k bs)) ≡ length (rowsIn w s k bs) * rowWidth
 unfolding rowsIn
 wide w s k [] = refl
 wide w s k (b ∷ bs) = go (isFrame w (bytesOf s b)) (wide w s (k + 1) bs)
@@ -143,17 +146,17 @@ wide w s k (b ∷ bs) = go (isFrame w (bytesOf s b)) (wide w s (k + 1) bs)
     go false ih = ih
 
 -- the table with the rows that are left is the table that is asked for; record k is the next
-pub record Writing (w : ℕ) (s t₀ t : List ℕ) (n k at : ℕ) : Type 0 where
+pub record Writing (w : Rules) (s t₀ t : List ℕ) (n k at : ℕ) : Type 0 where
   pub sum : n + length (rowsIn w s k (bodiesFrom s at)) ≡ length (rowsOf w s)
   pub rest : sets t (n * rowWidth) (flat (rowsIn w s k (bodiesFrom s at))) ≡ sets t₀ 0 (flat (rowsOf w s))
   pub room : (n + length (rowsIn w s k (bodiesFrom s at))) * rowWidth ≤ length t
   pub same : length t ≡ length t₀
   pub low : k < at
 
-pub writing-starts : (w : ℕ) (s t : List ℕ) → length (rowsOf w s) * rowWidth ≤ length t → Writing w s t t 0 0 1
+pub writing-starts : (w : Rules) (s t : List ℕ) → length (rowsOf w s) * rowWidth ≤ length t → Writing w s t t 0 0 1
 writing-starts w s t room = record { sum = omega arith; rest = refl; room = omega arith; same = refl; low = omega arith }
 
-pub written : (w : ℕ) (s t₀ t : List ℕ) (n k at : ℕ) (r : Next) → Writing w s t₀ t n k at → Follows s at r → r ≡ NoMore
+pub written : (w : Rules) (s t₀ t : List ℕ) (n k at : ℕ) (r : Next) → Writing w s t₀ t n k at → Follows s at r → r ≡ NoMore
     → length (rowsOf w s) * rowWidth ≤ length t₀ → Lays w s t₀ n t
 unfolding rowsIn
 written w s t₀ t n k at r inv follows e room =
@@ -163,7 +166,7 @@ written w s t₀ t n k at r inv follows e room =
       table = (rw none at (inv .rest)) ∙ sets-laid t₀ (rowsOf w s) (omega (arith, wide w s 0 (bodies s)));
     }
 
-module _ (w : ℕ) (s t₀ t : List ℕ) (n k at : ℕ) (r : Next) (b : Span) (inv : Writing w s t₀ t n k at) (follows : Follows s at r)
+module _ (w : Rules) (s t₀ t : List ℕ) (n k at : ℕ) (r : Next) (b : Span) (inv : Writing w s t₀ t n k at) (follows : Follows s at r)
     (is-b : r ≡ Body b) where
   -- the bytes of the body, as the code has them
   abbrev body : List ℕ
@@ -233,11 +236,11 @@ module _ (w : ℕ) (s t₀ t : List ℕ) (n k at : ℕ) (r : Next) (b : Span) (i
             low = next-low;
           })
 
-pub rows-so-far : (w : ℕ) (s t₀ t : List ℕ) (n k at : ℕ) → Writing w s t₀ t n k at → n * rowWidth ≤ length t
+pub rows-so-far : (w : Rules) (s t₀ t : List ℕ) (n k at : ℕ) → Writing w s t₀ t n k at → n * rowWidth ≤ length t
 rows-so-far w s t₀ t n k at inv = omega (arith, inv .room)
 
 -- ---- how many rows there can be
-module _ (w : ℕ) (s : List ℕ) where
+module _ (w : Rules) (s : List ℕ) where
   -- a body with a frame has 18 bytes or more, its record 4 more
   long-body : (at n : ℕ) → cond (isFrame w (bytesOf s (at, n))) 1 0 * 22 ≤ n + 4
   long-body at n = go (isFrame w (bytesOf s (at, n))) (frame-long w (bytesOf s (at, n)))
@@ -267,10 +270,10 @@ module _ (w : ℕ) (s : List ℕ) where
   unfolding bodiesFrom
   rows-few = let few = few-rows (length s) 0 1 (omega arith) in omega arith
 
-pub needs-most : (w : ℕ) (s : List ℕ) (room : ℕ) → length s / 22 ≤ room → Needs w s room (length s / 22)
+pub needs-most : (w : Rules) (s : List ℕ) (room : ℕ) → length s / 22 ≤ room → Needs w s room (length s / 22)
 needs-most w s room roomy = record { enough = rows-few w s; exact = λ over. absurd (omega arith) }
 
-pub needs-count : (w : ℕ) (s : List ℕ) (room n : ℕ) → n ≡ length (rowsOf w s) → Needs w s room n
+pub needs-count : (w : Rules) (s : List ℕ) (room n : ℕ) → n ≡ length (rowsOf w s) → Needs w s room n
 needs-count w s room n is-n = record { enough = omega arith; exact = λ over. is-n }
 
 -- ---- where the rows come from
@@ -278,7 +281,7 @@ rises-low : (column low low′ : ℕ) (rows : List (List ℕ)) → low′ ≤ lo
 rises-low column low low′ [] less rises = tt
 rises-low column low low′ (r ∷ rs) less rises = (omega (arith, rises .0), rises .1)
 
-module _ (w : ℕ) (s : List ℕ) (short : length s ≤ 65535) where
+module _ (w : Rules) (s : List ℕ) (short : length s ≤ 65535) where
   -- rows whose first record number is k or more, and whose first bracket stands before the place `at` or behind it
   record From (k at : ℕ) (rows : List (List ℕ)) : Type 0 where
     numbers : Rises 8 k rows
@@ -367,60 +370,60 @@ module _ (w : ℕ) (s : List ℕ) (short : length s ≤ 65535) where
       record { numbers = all .numbers; places = all .places; placed = all .placed }
 
 -- ---- the answer
-module _ (firmware w : ℕ) (s t : List ℕ) (is-w : w ≡ regionBits firmware) where
-  pub parses-unknown : w ≡ 0 → Parses firmware s t (Refused (Firmware firmware)) t
-  parses-unknown none = let e = eq-eqb w 0 none in record { answer = rw (← is-w, e) refl; numbers = rw (← is-w, e) refl; table = refl; located = tt }
+module _ (w : Rules) (s t : List ℕ) (needed : ℕ) (needs : Needs w s (length t / rowWidth) needed) (short : length s ≤ 65535) where
+  within : leb (length s) 65535 ≡ true
+  within = le-leb (length s) 65535 short
 
-  module _ (some : w ≡ 0 → ⊥) where
-    known : eqb w 0 ≡ false
-    known = ne-eqb w 0 some
+  pub bodies-more : length t / rowWidth < needed → ParsesBy w s t (Refused (MoreRows needed)) t
+  bodies-more few =
+      let is-needed = needs .exact few in
+      let over = lt-leb (length (rowsOf w s)) (length t / rowWidth) (omega arith) in
+      rw is-needed (record { answer = rw (within, over) refl; numbers = rw (within, over) refl; table = refl; located = tt })
 
-    pub parses-long : 65535 < length s → Parses firmware s t (Refused (TooLong (length s))) t
+  pub bodies-all : (n : ℕ) (t′ : List ℕ) → needed ≤ length t / rowWidth → Lays w s t n t′ → ParsesBy w s t (Rows n) t′
+  bodies-all n t′ room lays =
+      let fits = le-leb (length (rowsOf w s)) (length t / rowWidth) (omega (arith, needs .enough)) in
+      rw (lays .count)
+      (record { answer = rw (within, fits) refl; numbers = rw (within, fits) refl; table = lays .table; located = located w s short })
+
+module _ (firmware : ℕ) (reading : Reading) (w : Rules) (s t : List ℕ) (is-w : w ≡ rulesOf firmware reading) where
+  is-width : w .width ≡ regionBits firmware
+  is-width = ap (λ (x : Rules). x .width) is-w
+
+  pub parses-unknown : w .width ≡ 0 → Parses firmware reading s t (Refused (Firmware firmware)) t
+  parses-unknown none =
+      let unknown = eq-eqb (regionBits firmware) 0 (sym is-width ∙ none) in
+      record { answer = rw unknown refl; numbers = rw unknown refl; table = refl; located = tt }
+
+  module _ (some : w .width ≡ 0 → ⊥) where
+    known : eqb (regionBits firmware) 0 ≡ false
+    known = ne-eqb (regionBits firmware) 0 (λ none. some (is-width ∙ none))
+
+    pub parses-long : 65535 < length s → Parses firmware reading s t (Refused (TooLong (length s))) t
     parses-long long =
         let over = lt-leb (length s) 65535 long in
-        record { answer = rw (← is-w, known, over) refl; numbers = rw (← is-w, known, over) refl; table = refl; located = tt }
+        record { answer = rw (known, over) refl; numbers = rw (known, over) refl; table = refl; located = tt }
 
     -- a payload without a body: its rates are not laid out
-    pub parses-none : (r : Next) → length s ≤ 65535 → Follows s 1 r → r ≡ NoMore → Parses firmware s t (Rows 0) t
+    pub parses-none : (r : Next) → length s ≤ 65535 → Follows s 1 r → r ≡ NoMore → Parses firmware reading s t (Rows 0) t
     unfolding rowsIn
     parses-none r short follows e =
         let none : bodies s ≡ [] = rw e at follows in
-        let within = le-leb (length s) 65535 short in
+        let few = le-leb (length s) 65535 short in
         let fits = le-leb 0 (length t / rowWidth) (omega arith) in
         record {
-          answer = rw (← is-w, known, within, none, fits) refl;
-          numbers = rw (← is-w, known, within, none, fits) refl;
-          table = rw (← is-w, none) refl;
-          located = rw (← is-w) (located w s short);
+          answer = rw (known, few, none, fits) refl;
+          numbers = rw (known, few, none, fits) refl;
+          table = rw none refl;
+          located = located (rulesOf firmware reading) s short;
         }
 
-    module _ (needed : ℕ) (needs : Needs w s (length t / rowWidth) needed) (short : length s ≤ 65535) where
-      within : leb (length s) 65535 ≡ true
-      within = le-leb (length s) 65535 short
+    pub parses-bodies : (r : Frames) (t′ : List ℕ) → ParsesBy w s t r t′ → Parses firmware reading s t r t′
+    parses-bodies r t′ p =
+        let q : ParsesBy (rulesOf firmware reading) s t r t′ = rw is-w at p in
+        record { answer = rw known (q .answer); numbers = rw known (q .numbers); table = q .table; located = q .located }
 
-      pub parses-more : length t / rowWidth < needed → Parses firmware s t (Refused (MoreRows needed)) t
-      parses-more few =
-          let is-needed = needs .exact few in
-          let over = lt-leb (length (rowsOf w s)) (length t / rowWidth) (omega arith) in
-          rw is-needed
-          (record {
-            answer = rw (← is-w, known, within, over) refl;
-            numbers = rw (← is-w, known, within, over) refl;
-            table = refl;
-            located = tt;
-          })
-
-      pub parses-all : (n : ℕ) (t′ : List ℕ) → needed ≤ length t / rowWidth → Lays w s t n t′ → Parses firmware s t (Rows n) t′
-      parses-all n t′ room lays =
-          let fits = le-leb (length (rowsOf w s)) (length t / rowWidth) (omega (arith, needs .enough)) in
-          rw (lays .count) (record {
-            answer = rw (← is-w, known, within, fits) refl;
-            numbers = rw (← is-w, known, within, fits) refl;
-            table = rw (← is-w) (lays .table);
-            located = rw (← is-w) (located w s short);
-          })
-
-pub rows-fit : (w : ℕ) (s t : List ℕ) (needed : ℕ) → Needs w s (length t / rowWidth) needed → needed ≤ length t / rowWidth
+pub rows-fit : (w : Rules) (s t : List ℕ) (needed : ℕ) → Needs w s (length t / rowWidth) needed → needed ≤ length t / rowWidth
     → length (rowsOf w s) * rowWidth ≤ length t
 rows-fit w s t needed needs room = omega (arith, needs .enough)
 
@@ -432,14 +435,13 @@ narrowed false true true n l room x y z f e = let h : n ≡ length l = cc in rw 
 narrowed false true false n l room x y z f e = absurd (let h : _≡_ {A = ℕ} 0 1 = cc in omega arith)
 narrowed false false b n l room x y z f e = absurd (let h : _≡_ {A = ℕ} 0 1 = cc in omega arith)
 
-pub rows-room : (firmware : ℕ) (s t t′ : List ℕ) (r : Frames) (n : ℕ) → Parses firmware s t r t′ → r ≡ Rows n → length t′ ≡ length t
-    → n * rowWidth ≤ length t′
-rows-room firmware s t t′ r n p e kept =
-    let w = regionBits firmware in
-    let rows = rowsOf w s in
+pub rows-room : (firmware : ℕ) (reading : Reading) (s t t′ : List ℕ) (r : Frames) (n : ℕ) → Parses firmware reading s t r t′ → r ≡ Rows n
+    → length t′ ≡ length t → n * rowWidth ≤ length t′
+rows-room firmware reading s t t′ r n p e kept =
+    let rows = rowsOf (rulesOf firmware reading) s in
     let few : n ≤ length t / rowWidth =
-    narrowed (eqb w 0) (leb (length s) 65535) (leb (length rows) (length t / rowWidth)) n rows (length t / rowWidth) (MoreRows (length rows))
-    (TooLong (length s)) (Firmware firmware) (leb-true (length rows) (length t / rowWidth)) (sym e ∙ p .answer) in
+    narrowed (eqb (regionBits firmware) 0) (leb (length s) 65535) (leb (length rows) (length t / rowWidth)) n rows (length t / rowWidth)
+    (MoreRows (length rows)) (TooLong (length s)) (Firmware firmware) (leb-true (length rows) (length t / rowWidth)) (sym e ∙ p .answer) in
     omega arith
 
 -- what the proofs of the functions go by
@@ -470,10 +472,11 @@ pub ruleset laws = (
   rows-so-far,
   needs-most,
   needs-count,
+  rows-fit,
+  bodies-more,
+  bodies-all,
   parses-unknown,
   parses-long,
   parses-none,
-  parses-more,
-  rows-fit,
-  parses-all,
+  parses-bodies,
 )

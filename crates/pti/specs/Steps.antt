@@ -5,12 +5,14 @@ use mathlib.Core.List.{List}
 use Prim.Native.Nat.{ℕ, _+_, _*_, _≤_, _<_}
 use lib.ListN.{length}
 use Rattle.rows.specs.Rows.{put, laid}
+use Rattle.frame.specs.declared.Rules.{Rules}
 use Rattle.frame.specs.declared.PtiFrame.{PtiFrame}
 use Rattle.frame.specs.Frame.{isFrame, frameOf}
-use Rattle.pti.specs.Payload.{rowWidth, rowOf, rowsOf}
+use Rattle.pti.specs.declared.payload.Frames.{Frames}
+use Rattle.pti.specs.Payload.{rowWidth, rowOf, rowsOf, framesBy, said, saidBy, tableAfter, LocatedIn}
 
 -- rows enough for a payload, and no more than it has if that is past the room
-pub record Needs (w : ℕ) (s : List ℕ) (room r : ℕ) : Type 0 where
+pub record Needs (w : Rules) (s : List ℕ) (room r : ℕ) : Type 0 where
   pub enough : length (rowsOf w s) ≤ r
   pub exact : room < r → r ≡ length (rowsOf w s)
 
@@ -32,11 +34,18 @@ pub record WritesRow (f : PtiFrame) (k body n : ℕ) (t : List ℕ) (r : ℕ) (t
   pub table : t′ ≡ put t (n * rowWidth) (rowOf k body f)
 
 -- the row of the frame in the body b of record k, if it holds one, written as row n of the table t
-pub record Writes (w : ℕ) (b : List ℕ) (k start n : ℕ) (t : List ℕ) (r : ℕ) (t′ : List ℕ) : Type 0 where
+pub record Writes (w : Rules) (b : List ℕ) (k start n : ℕ) (t : List ℕ) (r : ℕ) (t′ : List ℕ) : Type 0 where
   pub next : r ≡ n + cond (isFrame w b) 1 0
   pub table : t′ ≡ cond (isFrame w b) (put t (n * rowWidth) (rowOf k start (frameOf w b))) t
 
 -- all rows of a payload, written from the first of the table t on
-pub record Lays (w : ℕ) (s t : List ℕ) (r : ℕ) (t′ : List ℕ) : Type 0 where
+pub record Lays (w : Rules) (s t : List ℕ) (r : ℕ) (t′ : List ℕ) : Type 0 where
   pub count : r ≡ length (rowsOf w s)
   pub table : t′ ≡ laid t (rowsOf w s)
+
+-- what is answered and left by these rules, for a payload that is not too long
+pub record ParsesBy (w : Rules) (s t : List ℕ) (r : Frames) (t′ : List ℕ) : Type 0 where
+  pub answer : r ≡ framesBy w s (length t)
+  pub numbers : said r ≡ saidBy w s (length t)
+  pub table : t′ ≡ tableAfter w s t r
+  pub located : LocatedIn w s r

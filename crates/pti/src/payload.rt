@@ -2,9 +2,11 @@
 use frame::Beams;
 use frame::Direction;
 use frame::PtiFrame;
+use frame::Reading;
+use frame::Rules;
 use frame::Split;
 use frame::frame_of;
-use frame::region_bits;
+use frame::rules_of;
 use frame::split_body;
 use radio::rssi::byte_of;
 use radio::speed::RATES;
@@ -20,9 +22,9 @@ ghost use lib.ListN.{length};
 ghost use Rattle.radio.specs.Speed.{RateTable};
 ghost use Rattle.frame.specs.Frame.{isFrame, directionNumber, beamsNumber};
 ghost use Rattle.pti.specs.Payload.{rowWidth, rowOf, rowsOf, Parses};
-ghost use Rattle.pti.specs.Steps.{Low, Within, Needs, WritesRow, Writes, Lays};
+ghost use Rattle.pti.specs.Steps.{Low, Within, Needs, WritesRow, Writes, Lays, ParsesBy};
 
-// The columns of a frame's row: F17 of docs/RULES.md.
+// The columns of a frame's row: F17, FP1 and BF2 of docs/RULES.md.
 pub const DIRECTION: usize = 0;
 
 pub const REGION: usize = 1;
@@ -43,8 +45,15 @@ pub const RECORD: usize = 8;
 
 pub const PLACE: usize = 9;
 
+// One more than the number, or 0 for none.
+pub const NODE: usize = 10;
+
+pub const HASH: usize = 11;
+
+pub const POWER: usize = 12;
+
 // The numbers of a frame's row.
-pub const ROW_WIDTH: usize = PLACE + 1;
+pub const ROW_WIDTH: usize = POWER + 1;
 
 // The fewest bytes of a record with a frame: 4 around the body, a header of 12, a middle byte, a trailer of 5.
 const SHORTEST: usize = 22;
@@ -92,24 +101,29 @@ fn row_of(frame: PtiFrame, number: usize, body: PayloadOffset) -> [u16; ROW_WIDT
         frame.length,
         number as u16,
         (body.0 - 3) as u16,
+        frame.target.node,
+        frame.target.hash,
+        frame.target.power,
     ]
 }
 
-// How many frames a body holds whose regions have so many bits: one or none.
-fn frames_in(body: &[u8], width: u8) -> usize
-    requires { ⌜ width ≤ 5 ⌝ }
-    ensures { λ r. ⌜ r ≡ cond (isFrame width (now (body .entry))) 1 0 ⌝ }
+// How many frames a body holds by these rules: one or none.
+fn frames_in(rates: &[u8; 512], body: &[u8], rules: Rules) -> usize
+    requires { ⌜ RateTable (now rates) ⌝ }
+    requires { ⌜ rules .width ≤ 5 ⌝ }
+    ensures { λ r. ⌜ r ≡ cond (isFrame rules (now (body .entry))) 1 0 ⌝ }
     ensures { λ r. ⌜ r ≤ 1 ⌝ }
 {
-    let Split::Into(_) = split_body(body, width) else {
+    let Split::Into(_) = split_body(rates, body, rules) else {
         return 0;
     };
     1
 }
 
-fn count_frames(payload: &[u8], width: u8) -> usize
-    requires { ⌜ width ≤ 5 ⌝ }
-    ensures { λ r. ⌜ r ≡ length (rowsOf width (now (payload .entry))) ⌝ }
+fn count_frames(rates: &[u8; 512], payload: &[u8], rules: Rules) -> usize
+    requires { ⌜ RateTable (now rates) ⌝ }
+    requires { ⌜ rules .width ≤ 5 ⌝ }
+    ensures { λ r. ⌜ r ≡ length (rowsOf rules (now (payload .entry))) ⌝ }
 {
     let mut count: usize = 0;
     let mut at: usize = 1;
@@ -119,21 +133,22 @@ fn count_frames(payload: &[u8], width: u8) -> usize
         };
         let start = span.start.0;
         let end = span.end.0;
-        count += frames_in(&payload[start..end], width);
+        count += frames_in(rates, &payload[start..end], rules);
         at = end + 2;
     }
 }
 
 // How many rows a table must have room for. They are counted only if it has not room for as many as a payload of this length can have.
-fn rows_needed(payload: &[u8], width: u8, room: usize) -> usize
-    requires { ⌜ width ≤ 5 ⌝ }
-    ensures { λ r. ⌜ Needs width (now (payload .entry)) room r ⌝ }
+fn rows_needed(rates: &[u8; 512], payload: &[u8], rules: Rules, room: usize) -> usize
+    requires { ⌜ RateTable (now rates) ⌝ }
+    requires { ⌜ rules .width ≤ 5 ⌝ }
+    ensures { λ r. ⌜ Needs rules (now (payload .entry)) room r ⌝ }
 {
     let most = payload.len() / SHORTEST;
     if most <= room {
         return most;
     }
-    count_frames(payload, width)
+    count_frames(rates, payload, rules)
 }
 
 // Writes the row of a frame of record `number` as row n. Returns the number of the next row.
@@ -157,31 +172,32 @@ fn write_row(
 fn write_frame(
     rates: &[u8; 512],
     body: &[u8],
-    width: u8,
+    rules: Rules,
     number: usize,
     start: PayloadOffset,
     table: &mut [u16],
     n: usize,
 ) -> usize
     requires { ⌜ RateTable (now rates) ⌝ }
-    requires { ⌜ width ≤ 5 ⌝ }
+    requires { ⌜ rules .width ≤ 5 ⌝ }
     requires { ⌜ Within number (start .0) (length (now body)) ⌝ }
     requires { ⌜ n * rowWidth ≤ length (now table) ⌝ }
-    ensures { λ r. ⌜ Writes width (now (body .entry)) number (start .0) n (now (table .entry)) r (now (table .exit)) ⌝ }
+    ensures { λ r. ⌜ Writes rules (now (body .entry)) number (start .0) n (now (table .entry)) r (now (table .exit)) ⌝ }
 {
-    let Split::Into(parts) = split_body(body, width) else {
+    let Split::Into(parts) = split_body(rates, body, rules) else {
         return n;
     };
-    write_row(frame_of(rates, body, parts), number, start, table, n)
+    let reading = rules.reading;
+    write_row(frame_of(body, reading, parts), number, start, table, n)
 }
 
 // Writes the rows of all frames, one after the other. Returns how many there are.
-fn write_frames(rates: &[u8; 512], payload: &[u8], width: u8, table: &mut [u16]) -> usize
+fn write_frames(rates: &[u8; 512], payload: &[u8], rules: Rules, table: &mut [u16]) -> usize
     requires { ⌜ RateTable (now rates) ⌝ }
-    requires { ⌜ width ≤ 5 ⌝ }
+    requires { ⌜ rules .width ≤ 5 ⌝ }
     requires { ⌜ length (now payload) ≤ 65535 ⌝ }
-    requires { ⌜ length (rowsOf width (now payload)) * rowWidth ≤ length (now table) ⌝ }
-    ensures { λ r. ⌜ Lays width (now (payload .entry)) (now (table .entry)) r (now (table .exit)) ⌝ }
+    requires { ⌜ length (rowsOf rules (now payload)) * rowWidth ≤ length (now table) ⌝ }
+    ensures { λ r. ⌜ Lays rules (now (payload .entry)) (now (table .entry)) r (now (table .exit)) ⌝ }
 {
     let mut n: usize = 0;
     let mut number: usize = 0;
@@ -195,7 +211,7 @@ fn write_frames(rates: &[u8; 512], payload: &[u8], width: u8, table: &mut [u16])
         n = write_frame(
             rates,
             &payload[start..end],
-            width,
+            rules,
             number,
             span.start,
             table,
@@ -206,23 +222,28 @@ fn write_frames(rates: &[u8; 512], payload: &[u8], width: u8, table: &mut [u16])
     }
 }
 
-// The same, with the rates lent once for all frames.
-fn write_rows(payload: &[u8], width: u8, table: &mut [u16]) -> usize
-    requires { ⌜ width ≤ 5 ⌝ }
+// Every frame of a payload by these rules, with the rates lent once for all of them.
+fn parse_bodies(rates: &[u8; 512], payload: &[u8], rules: Rules, table: &mut [u16]) -> Frames
+    requires { ⌜ RateTable (now rates) ⌝ }
+    requires { ⌜ rules .width ≤ 5 ⌝ }
     requires { ⌜ length (now payload) ≤ 65535 ⌝ }
-    requires { ⌜ length (rowsOf width (now payload)) * rowWidth ≤ length (now table) ⌝ }
-    ensures { λ r. ⌜ Lays width (now (payload .entry)) (now (table .entry)) r (now (table .exit)) ⌝ }
+    ensures { λ r. ⌜ ParsesBy rules (now (payload .entry)) (now (table .entry)) r (now (table .exit)) ⌝ }
 {
-    write_frames(&RATES, payload, width, table)
+    let room = table.len() / ROW_WIDTH;
+    let needed = rows_needed(rates, payload, rules, room);
+    if room < needed {
+        return Frames::Refused(Refusal::MoreRows(needed));
+    }
+    Frames::Rows(write_frames(rates, payload, rules, table))
 }
 
-// Every frame of a payload, which that firmware wrote, into the table, or refusal 13, 4 or 8. A refusal writes nothing, an answer nothing past its
-// last row.
-pub fn parse_payload(payload: &[u8], firmware: usize, table: &mut [u16]) -> Frames
-    ensures { λ r. ⌜ Parses firmware (now (payload .entry)) (now (table .entry)) r (now (table .exit)) ⌝ }
+// Every frame of a payload, which that firmware wrote, by that reading of beams, into the table, or refusal 13, 4 or 8. A refusal writes nothing, an
+// answer nothing past its last row.
+pub fn parse_payload(payload: &[u8], firmware: usize, reading: Reading, table: &mut [u16]) -> Frames
+    ensures { λ r. ⌜ Parses firmware reading (now (payload .entry)) (now (table .entry)) r (now (table .exit)) ⌝ }
 {
-    let width = region_bits(firmware);
-    if width == 0 {
+    let rules = rules_of(firmware, reading);
+    if rules.width == 0 {
         return Frames::Refused(Refusal::Firmware(firmware));
     }
     if 65535 < payload.len() {
@@ -231,10 +252,5 @@ pub fn parse_payload(payload: &[u8], firmware: usize, table: &mut [u16]) -> Fram
     let Next::Body(_) = next_body(payload, 1) else {
         return Frames::Rows(0);
     };
-    let room = table.len() / ROW_WIDTH;
-    let needed = rows_needed(payload, width, room);
-    if room < needed {
-        return Frames::Refused(Refusal::MoreRows(needed));
-    }
-    Frames::Rows(write_rows(payload, width, table))
+    parse_bodies(&RATES, payload, rules, table)
 }

@@ -2,15 +2,16 @@
 use mathlib.Core.Path.{_≡_, refl, _∙_}
 use mathlib.Core.Bool.{Bool, true, false, cond, _&&_, and-false}
 use mathlib.Core.List.{List, [], _∷_}
-use Prim.Native.Nat.{ℕ, zero, suc, _+_, _-_, _≤_, _<_}
+use Prim.Native.Nat.{ℕ, zero, suc, _+_, _-_, _*_, _/_, _%_, _≤_, _<_}
 use native.Mathlib.Nat.{add-zero}
 use native.Mathlib.Omega.{arith}
 use lib.Dec.{eqb, leb}
 use lib.ListN.{length, getD, take, drop, length-drop}
 use lib.Seq.{length-take-le, getD-take, drop-drop}
-use borrow.Author.Tests.{le-leb, lt-leb, eq-eqb, ne-eqb}
+use borrow.Author.Tests.{le-leb, lt-leb, lt-ltb, le-ltb, eq-eqb, ne-eqb}
 use Rattle.laws.proofs.Lists.{next, done}
-use Rattle.radio.specs.Beam.{startsWith, widthOf, again, beamsOf}
+use Rattle.radio.specs.declared.beam.BeamTarget.{BeamTarget}
+use Rattle.radio.specs.Beam.{startsWith, widthOf, again, beamsOf, toldBy, ordinaryTarget, joinedOf, longTarget, targetOf}
 
 -- ---- the width
 pub left-smaller : (a b : ℕ) → a ≤ b → a ≡ cond (leb a b) a b
@@ -123,6 +124,47 @@ module _ (rate : ℕ) (m : List ℕ) (w count at : ℕ) (t : Bool) (b : Beaming 
   pub beaming-nearer : length m - (at + w) < length m - at
   beaming-nearer = let some : 0 < w = rw e (some-width rate (length m) (omega arith)) in omega arith
 
+-- ---- is there a repetition
+module _ (rate : ℕ) (m : List ℕ) (w at : ℕ) (b : Beaming m w 1 at) (e : w ≡ widthOf rate (length m)) where
+  pub repeated : (t : Bool) → w ≤ length m → at < length m → t ≡ asked m at w → t ≡ true → true ≡ leb 2 (beamsOf rate m)
+  unfolding beamsOf
+  repeated t in-m more is-t yes-t =
+      let hit = beaming-hit rate m w 1 at t b e in-m more is-t yes-t in
+      let twice : 2 ≤ 1 + again (take w m) 0 (drop w m) = omega (arith, hit .sum) in
+      rw (← e, le-leb 2 (1 + again (take w m) 0 (drop w m)) twice) refl
+
+  pub unrepeated : length m ≤ at → false ≡ leb 2 (beamsOf rate m)
+  unrepeated end = rw (← beams-all rate m w 1 at b e end) refl
+
+-- ---- whom a beam wakes
+module _ (m : List ℕ) where
+  pub told-not : (at n : ℕ) → length m ≤ at → 0 ≡ toldBy at m n
+  told-not at n short = rw (le-ltb at (length m) short) refl
+
+  pub told-byte : (at r : ℕ) → at < length m → r ≡ getD m at 0 + 1 → r ≡ toldBy at m (getD m at 0)
+  told-byte at r more is-r = rw (lt-ltb at (length m) more) is-r
+
+  pub ordinary-is : (node hash : ℕ) → node ≡ toldBy 1 m (getD m 1 0) → hash ≡ toldBy 2 m (getD m 2 0)
+      → record { node = node; hash = hash; power = 0 } ≡ ordinaryTarget m
+  ordinary-is node hash is-node is-hash = rw (is-node, is-hash) refl
+
+  module _ (hash : ℕ) (is-hash : hash ≡ toldBy 3 m (getD m 3 0)) where
+    pub long-cut : length m ≤ 2 → record { node = 0; hash = hash; power = 0 } ≡ longTarget m
+    long-cut short = rw (is-hash, le-ltb 2 (length m) short) refl
+
+    pub long-is : (n : ℕ) → 2 < length m → n ≡ getD m 1 0 * 256 + getD m 2 0
+        → record { node = n % 4096 + 1; hash = hash; power = n / 4096 + 1 } ≡ longTarget m
+    long-is n more is-n = rw (is-hash, is-n, lt-ltb 2 (length m) more) refl
+
+  module _ (rate : ℕ) (t : BeamTarget) where
+    pub target-long : rate ≡ 3 → t ≡ longTarget m → t ≡ targetOf rate m
+    unfolding targetOf
+    target-long e is-t = rw (eq-eqb rate 3 e) is-t
+
+    pub target-ordinary : (rate ≡ 3 → ⊥) → t ≡ ordinaryTarget m → t ≡ targetOf rate m
+    unfolding targetOf
+    target-ordinary e is-t = rw (ne-eqb rate 3 e) is-t
+
 -- ---- how high the count can be
 again-low : (first : List ℕ) (k : ℕ) (l : List ℕ) → again first k l ≤ length l
 again-low first k [] = omega arith
@@ -157,4 +199,13 @@ pub ruleset beam-laws = (
   beaming-hit,
   beaming-miss,
   beaming-nearer,
+  repeated,
+  unrepeated,
+  told-not,
+  told-byte,
+  ordinary-is,
+  long-cut,
+  long-is,
+  target-long,
+  target-ordinary,
 )

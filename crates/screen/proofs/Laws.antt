@@ -88,6 +88,9 @@ pub record-made : (rows : List ℕ) (i : ℕ) (rssi : ℤ) → rssi ≡ toZ w8 (
       length = getD rows (i * rowWidth + 7) 0;
       number = getD rows (i * rowWidth + 8) 0;
       place = getD rows (i * rowWidth + 9) 0;
+      node = getD rows (i * rowWidth + 10) 0;
+      hash = getD rows (i * rowWidth + 11) 0;
+      power = getD rows (i * rowWidth + 12) 0;
     }
     ≡ recordAt rows i
 unfolding recordOf
@@ -106,6 +109,9 @@ record-made rows i rssi e =
       length = at 7 k;
       number = at 8 k;
       place = at 9 k;
+      node = at 10 k;
+      hash = at 11 k;
+      power = at 12 k;
     }
 
 pub ruleset laws = (fillable-short, fillable-few, fillable-all, record-made)

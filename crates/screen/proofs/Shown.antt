@@ -12,7 +12,9 @@ use borrow.Author.Tests.{le-leb, leb-true}
 use Rattle.rows.specs.Rows.{flat}
 use Rattle.records.specs.Records.{bodies, bytesOf}
 use Rattle.frame.specs.declared.PtiFrame.{PtiFrame}
-use Rattle.frame.specs.Frame.{regionBits, isFrame, frameOf, directionNumber, beamsNumber}
+use Rattle.frame.specs.declared.Reading.{Reading}
+use Rattle.frame.specs.declared.Rules.{Rules}
+use Rattle.frame.specs.Frame.{regionBits, rulesOf, isFrame, frameOf, directionNumber, beamsNumber}
 use Rattle.frame.proofs.Ranges.{Bytes, bytes-take, bytes-drop, Small, small}
 use Rattle.refusal.specs.declared.Refusal.{Refusal}
 use Rattle.refusal.specs.declared.Refusal.the-variants.{TooLong, MoreRows, Firmware}
@@ -45,9 +47,12 @@ shown-row number body n f more low =
       length = f .length;
       number = number;
       place = body - 3;
+      node = f .target .node;
+      hash = f .target .hash;
+      power = f .target .power;
     }
 
-module _ (w : ℕ) (s : List ℕ) (narrow : w ≤ 5) (all : Bytes s) where
+module _ (w : Rules) (s : List ℕ) (narrow : w .width ≤ 5) (all : Bytes s) where
   part-bytes : (b : ℕ × ℕ) → Bytes (bytesOf s b)
   part-bytes b = bytes-take (b .1) (drop (b .0) s) (bytes-drop (b .0) s all)
 
@@ -89,14 +94,15 @@ narrow-bits firmware = go (eqb firmware 2) (eqb firmware 3)
     go false false = omega arith
 
 -- `parse_payload` and `fill_frames`, one after the other: the records are the payload's frames, and behind them what stood there
-pub shown : (firmware : ℕ) (s t t′ : List ℕ) (n m : ℕ) (entry exit : List FrameRecord) → Bytes s → Parses firmware s t (Rows n) t′
-    → Filled t′ n entry m exit → n ≤ length entry → (m ≡ n) × (exit ≡ shownIn (regionBits firmware) s 0 (bodies s) ++ drop n entry)
-shown firmware s t t′ n m entry exit all parses fills room =
-    let w = regionBits firmware in
+pub shown : (firmware : ℕ) (reading : Reading) (s t t′ : List ℕ) (n m : ℕ) (entry exit : List FrameRecord) → Bytes s
+    → Parses firmware reading s t (Rows n) t′ → Filled t′ n entry m exit → n ≤ length entry
+    → (m ≡ n) × (exit ≡ shownIn (rulesOf firmware reading) s 0 (bodies s) ++ drop n entry)
+shown firmware reading s t t′ n m entry exit all parses fills room =
+    let w = rulesOf firmware reading in
     let rows = rowsOf w s in
     let known =
-    answered (eqb w 0) (leb (length s) 65535) (leb (length rows) (length t / rowWidth)) (length rows) n (MoreRows (length rows)) (TooLong (length s))
-    (Firmware firmware) (parses .answer) in
+    answered (eqb (regionBits firmware) 0) (leb (length s) 65535) (leb (length rows) (length t / rowWidth)) (length rows) n
+    (MoreRows (length rows)) (TooLong (length s)) (Firmware firmware) (parses .answer) in
     let is-n : n ≡ length rows = known .0 in
     let size : length t′ ≡ length (flat rows) + length (drop (length (flat rows)) t) = ap length (parses .table) ∙ length-append (flat rows) _ in
     let fits : n ≤ length t′ / rowWidth = omega (arith, wide w s 0 (bodies s)) in

@@ -1,4 +1,4 @@
--- F19 (docs/RULES.md): frame records for the screen. Flat rows, as F17 says, stand one behind the other in a list of numbers.
+-- F19 (docs/RULES.md): frame records for the screen. Flat rows, as F17, FP1 and BF2 say, stand one behind the other in a list of numbers.
 use mathlib.Core.Path.{_≡_}
 use mathlib.Core.Bool.{cond, not, _&&_}
 use mathlib.Core.List.{List, [], _∷_, _++_}
@@ -7,6 +7,7 @@ use lib.Dec.{eqb, leb}
 use lib.ListN.{getD, drop, length}
 use mir.Syntax.{w8}
 use mir.Val.{toZ}
+use Rattle.frame.specs.declared.Rules.{Rules}
 use Rattle.frame.specs.declared.PtiFrame.{PtiFrame}
 use Rattle.frame.specs.Frame.{isFrame, frameOf, directionNumber, beamsNumber}
 use Rattle.records.specs.Records.{bytesOf}
@@ -29,6 +30,9 @@ recordOf row =
       length = getD row 7 0;
       number = getD row 8 0;
       place = getD row 9 0;
+      node = getD row 10 0;
+      hash = getD row 11 0;
+      power = getD row 12 0;
     }
 
 -- F19: the frame records of the first n flat rows.
@@ -49,7 +53,7 @@ pub record Filled (rows : List ℕ) (n : ℕ) (entry : List FrameRecord) (answer
   pub count : answer ≡ fillableOf n (length entry) (length rows)
   pub table : exit ≡ filled answer rows entry
 
--- F19, FP1: the frame record of the frame of record k, whose body starts at this place of the payload
+-- F19, FP1, BF2: the frame record of the frame of record k, whose body starts at this place of the payload
 abbrev pub shownOf : ℕ → ℕ → PtiFrame → FrameRecord
 shownOf k body f =
     record {
@@ -64,10 +68,13 @@ shownOf k body f =
       length = f .length;
       number = k;
       place = body - 3;
+      node = f .target .node;
+      hash = f .target .hash;
+      power = f .target .power;
     }
 
--- F19, FP1: the frame records of the bodies that hold a frame, in their order; w bits of its byte say the region, and the first body is number k
-abbrev pub shownIn : ℕ → List ℕ → ℕ → List (ℕ × ℕ) → List FrameRecord
+-- F19, FP1, BF2: the frame records of the bodies that hold a frame by the rules w, in their order; the first body is number k
+abbrev pub shownIn : Rules → List ℕ → ℕ → List (ℕ × ℕ) → List FrameRecord
 shownIn w s k [] = []
 shownIn w s k (b ∷ bs) =
     cond (isFrame w (bytesOf s b)) (shownOf k (b .0) (frameOf w (bytesOf s b)) ∷ shownIn w s (k + 1) bs) (shownIn w s (k + 1) bs)

@@ -2,8 +2,11 @@
 use pti::payload::BEAMS;
 use pti::payload::CHANNEL;
 use pti::payload::DIRECTION;
+use pti::payload::HASH;
 use pti::payload::LENGTH;
+use pti::payload::NODE;
 use pti::payload::PLACE;
+use pti::payload::POWER;
 use pti::payload::RATE;
 use pti::payload::RECORD;
 use pti::payload::REGION;
@@ -34,6 +37,10 @@ pub struct FrameRecord {
     // its record's number, as `record_body` counts, and where that record begins
     pub number: u16,
     pub place: u16,
+    // whom a beam wakes, in the second reading: each one more than its number, or 0 for none
+    pub node: u16,
+    pub hash: u16,
+    pub power: u16,
 }
 
 // The frame record of flat row i.
@@ -54,6 +61,9 @@ pub fn record_at(rows: &[u16], i: usize) -> FrameRecord
         length: rows[at + LENGTH],
         number: rows[at + RECORD],
         place: rows[at + PLACE],
+        node: rows[at + NODE],
+        hash: rows[at + HASH],
+        power: rows[at + POWER],
     }
 }
 

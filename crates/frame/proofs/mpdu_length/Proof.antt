@@ -6,13 +6,12 @@ use Rattle.frame.proofs.mpdu_length.Statement.{statement}
 use Rattle.frame.proofs.mpdu_length.Tie as tie
 
 cast-l : tie.Need-cast-l
-cast-l c = omega (arith, c .shared-slice-known2 .given 7)
+cast-l c = omega (arith, c .shared-slice-known .given 7)
 
 pub mpdu-length-spec : {M : Type 1} → statement M
 mpdu-length-spec =
     tie.close
     (tie.spec
-    (λ c. search (needs, laws))
     (λ c. search (needs, laws))
     (λ c. search (needs, laws))
     (λ c. search (needs, laws))

@@ -145,7 +145,7 @@ module _ {M : Type 1} (𝓤 : URA M) (H : Heap 𝓤) (A : Atoms 𝓤) (W : Given
     there : (i : ℕ) → i < m → i < length (Table i)
     there i small = omega (arith, few, same i (omega arith))
 
-    off : (i : ℕ) → i < m → i * 16 < 2 ^ 64
+    off : (i : ℕ) → i < m → i * 22 < 2 ^ 64
     off i small = omega (arith, few, room .1)
 
     next : (i : ℕ) → i < m → i + 1 < 2 ^ 64
@@ -268,7 +268,7 @@ module _ {M : Type 1} (𝓤 : URA M) (H : Heap 𝓤) (A : Atoms 𝓤) (W : Given
           (init ! 7 refl (tt, record { fits = off i small })) $
           assigns ! (bin ! (load ! (from ! (fld ! refl (stop !))) (look-in ! 9 (sub ! 0 refl (whole !)))) (load ! (from ! (stop !)) (look ! 7 refl)) tt)
           (from ! (stop !)) (init ! 8 refl (tt, tt)) $
-          rewrite ! 8 (λ (p : ℕ). ‵ (fat fullShare tyPtr l₁₁ 0 (vptr b p))) (sym (place-is 16 o i)) refl $
+          rewrite ! 8 (λ (p : ℕ). ‵ (fat fullShare tyPtr l₁₁ 0 (vptr b p))) (sym (place-is 22 o i)) refl $
           move ! (3 ∷ []) $ elem-out ! R (Is R) (shows 𝓤 H A R) (LL.vals T.the-type T′.the-laws) (LL.tells T.the-type T′.the-laws) fullShare
           (Table i) i r b o (there i small) (λ _.
           -- [frames[i]; what it owns; the others; what r owns; the token; rows; _5; _8; _9; _10; _11; _1; …]

@@ -7,10 +7,10 @@ use Rattle.pti.proofs.payload.count_frames.Statement.{statement}
 use Rattle.pti.proofs.payload.count_frames.Tie as tie
 
 abbrev Inv-loop : tie.InvT-loop
-Inv-loop payload width count₀ at₀ count at = Tallying width payload count at
+Inv-loop rates payload rules count₀ at₀ count at = Tallying rules payload count at
 
 abbrev μ-loop : tie.MeasureT-loop
-μ-loop payload width count₀ at₀ count at = length payload - at
+μ-loop rates payload rules count₀ at₀ count at = length payload - at
 
 loop-holds : tie.Need-loop-holds Inv-loop μ-loop
 loop-holds c = search (needs, laws)

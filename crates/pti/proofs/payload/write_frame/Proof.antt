@@ -4,9 +4,6 @@ use borrow.Author.Needs.{needs}
 use Rattle.pti.proofs.payload.write_frame.Statement.{statement}
 use Rattle.pti.proofs.payload.write_frame.Tie as tie
 
-frame-of-requires : tie.Need-frame-of-requires
-frame-of-requires c κs = (search (needs, laws), (search (needs, laws), search (needs, laws)))
-
 pub write-frame-spec : {M : Type 1} → statement M
 write-frame-spec =
     tie.close
@@ -15,7 +12,7 @@ write-frame-spec =
     (λ c. search (needs, laws))
     (λ c. search (needs, laws))
     (λ c. search (needs, laws))
-    frame-of-requires
+    (λ c κs. search (needs, laws))
     (λ c κs. search (needs, laws))
     (λ c. search (needs, laws))
     (λ c. search (needs, laws)))

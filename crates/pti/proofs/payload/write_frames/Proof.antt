@@ -7,10 +7,10 @@ use Rattle.pti.proofs.payload.write_frames.Statement.{statement}
 use Rattle.pti.proofs.payload.write_frames.Tie as tie
 
 abbrev Inv-loop : tie.InvT-loop
-Inv-loop rates payload width table₀ n₀ number₀ at₀ table n number at = Writing width payload table₀ table n number at
+Inv-loop rates payload rules table₀ n₀ number₀ at₀ table n number at = Writing rules payload table₀ table n number at
 
 abbrev μ-loop : tie.MeasureT-loop
-μ-loop rates payload width table₀ n₀ number₀ at₀ table n number at = length payload - at
+μ-loop rates payload rules table₀ n₀ number₀ at₀ table n number at = length payload - at
 
 loop-holds : tie.Need-loop-holds Inv-loop μ-loop
 loop-holds c = search (needs, laws)
