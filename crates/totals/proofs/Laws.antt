@@ -23,10 +23,12 @@ use Rattle.records.specs.Records.{bodiesFrom, bytesOf}
 use Rattle.records.specs.Steps.{Follows}
 use Rattle.records.proofs.Laws.{led, body-nearer, after-fits}
 use Rattle.frame.specs.declared.Parts.{Parts}
+use Rattle.frame.specs.declared.Reading.{Reading}
+use Rattle.frame.specs.declared.Rules.{Rules}
 use Rattle.frame.specs.declared.PtiFrame.{PtiFrame}
 use Rattle.frame.specs.declared.Split.{Split}
 use Rattle.frame.specs.declared.Split.the-variants.{Into, Nothing as NoSplit}
-use Rattle.frame.specs.Frame.{regionBits, isFrame, frameOf, fields, beamsNumber}
+use Rattle.frame.specs.Frame.{regionBits, rulesOf, isFrame, frameOf, fields, beamsNumber}
 use Rattle.frame.specs.Steps.{splitOf, framedBy}
 use Rattle.frame.proofs.Ranges.{mpdu-inside}
 use Rattle.frame.proofs.Laws.{split-frame, split-none, split-framed, parts-in}
@@ -35,10 +37,12 @@ use Rattle.header.specs.declared.DecodedHeader.{DecodedHeader}
 use Rattle.header.specs.declared.Decoded.{Decoded}
 use Rattle.header.specs.declared.Decoded.the-variants as header
 use Rattle.header.specs.Decode.{decoded, Decodes}
+use Rattle.totals.specs.declared.Framed.{Framed}
+use Rattle.totals.specs.declared.Framed.the-variants.{Is, Nothing}
 use Rattle.totals.specs.declared.Added.{Added}
 use Rattle.totals.specs.declared.Added.the-variants.{Counted, Refused}
 use Rattle.totals.specs.Totals.{size, refusedCounts, headerCounts, beamCounts, room, frameCounts, raisedBy, within, Adds}
-use Rattle.totals.specs.Steps.{zeros, tally, tallyRows, Room, Tallies, Lies, Spans, spanned, bodyCounts, plus, AddsSums}
+use Rattle.totals.specs.Steps.{zeros, tally, tallyRows, Room, Tallies, Lies, Spans, spanned, framedIn, bodyCounts, plus, AddsSums}
 use Rattle.totals.proofs.Sums.{adds-none, adds-both, adds-within, grown, length-rows, room-less, sum-laws}
 use Rattle.totals.proofs.Keys.{key-low}
 
@@ -106,27 +110,39 @@ module _ (s : List ℕ) (body : ℕ) (f : PtiFrame) (lies : Lies s body f) where
   end-inside at is = omega (arith, lies .inside)
 
 -- ---- a body
-module _ (w : ℕ) (t : List ℕ) (region : ℕ) (s : List ℕ) (b : Span) (x : Split) (is-x : x ≡ splitOf w (spanned s b)) where
-  pub body-none : (a : List ℕ) → x ≡ NoSplit → Tallies 3 (bodyCounts w t region s b) a a
-  body-none a e = rw (split-none w (spanned s b) x is-x e) (adds-none 3 a)
+module _ (w : Rules) (b : List ℕ) (x : Split) (is-x : x ≡ splitOf w b) where
+  pub framed-none : x ≡ NoSplit → Nothing ≡ framedIn w b
+  framed-none e = rw (split-none w b x is-x e) refl
 
-  module _ (p : Parts) (e : x ≡ Into p) (f : PtiFrame) (is-f : f ≡ framedBy (spanned s b) p) where
-    whole : isFrame w (spanned s b) ≡ true
-    whole = split-frame w (spanned s b) x is-x p e
+  pub framed-one : (p : Parts) (f : PtiFrame) → f ≡ framedBy (w .reading) b p → x ≡ Into p → Is f ≡ framedIn w b
+  framed-one p f is-f e = rw (split-frame w b x is-x p e) (ap Is (split-framed w b x is-x p e f is-f))
 
-    the-frame : f ≡ frameOf w (spanned s b)
-    the-frame = split-framed w (spanned s b) x is-x p e f is-f
+is-framed : (t : Bool) (f g : PtiFrame) → cond t (Is f) Nothing ≡ Is g → (t ≡ true) × (g ≡ f)
+is-framed true f g e = (refl, cc)
+is-framed false f g e = (cc, cc)
+
+not-framed : (t : Bool) (f : PtiFrame) → cond t (Is f) Nothing ≡ Nothing → t ≡ false
+not-framed true f e = cc
+not-framed false f e = refl
+
+module _ (w : Rules) (t : List ℕ) (region : ℕ) (s : List ℕ) (b : Span) (x : Framed) (is-x : x ≡ framedIn w (spanned s b)) where
+  pub body-none : (a : List ℕ) → x ≡ Nothing → Tallies 3 (bodyCounts w t region s b) a a
+  body-none a e = rw (not-framed (isFrame w (spanned s b)) (frameOf w (spanned s b)) (sym is-x ∙ e)) (adds-none 3 a)
+
+  module _ (f : PtiFrame) (e : x ≡ Is f) where
+    one : (isFrame w (spanned s b) ≡ true) × (f ≡ frameOf w (spanned s b))
+    one = is-framed (isFrame w (spanned s b)) (frameOf w (spanned s b)) f (sym is-x ∙ e)
 
     pub body-counted : (a c : List ℕ) → Tallies 3 (frameCounts t region s (rowOf 0 (b .start .0) f)) a c → Tallies 3 (bodyCounts w t region s b) a c
-    body-counted a c q = rw whole (rw the-frame at q)
+    body-counted a c q = rw (one .0) (rw (one .1) at q)
 
     pub body-lies : Spans s b → Lies s (b .start .0) f
     body-lies spans =
         let few : length (spanned s b) ≤ b .end .0 - b .start .0 = rw length-take (omega arith) in
-        rw the-frame
+        rw (one .1)
         (record {
-          rate = omega (arith, rate-low (fields w (spanned s b) .channel) (fields w (spanned s b) .region));
-          inside = omega (arith, mpdu-inside w (spanned s b) whole, spans .ordered, spans .inside);
+          rate = omega (arith, rate-low (fields (w .width) (spanned s b) .channel) (fields (w .width) (spanned s b) .region));
+          inside = omega (arith, mpdu-inside w (spanned s b) (one .0), spans .ordered, spans .inside);
         })
 
 pub body-short : (s : List ℕ) (b : Span) → Spans s b → length (spanned s b) < 65535
@@ -139,7 +155,7 @@ pub body-inside : (s : List ℕ) (b : Span) → Spans s b → b .end .0 ≤ leng
 body-inside s b spans = omega (arith, spans .inside)
 
 -- ---- body by body: with those that are left counted, the sums are those of all rows; the next body has some number
-pub record Counting (w : ℕ) (t : List ℕ) (region : ℕ) (s sums : List ℕ) (at : ℕ) : Type 0 where
+pub record Counting (w : Rules) (t : List ℕ) (region : ℕ) (s sums : List ℕ) (at : ℕ) : Type 0 where
   pub number : ℕ
   pub rest : tallyRows (frameCounts t region s) sums (rowsIn w s number (bodiesFrom s at))
       ≡ tallyRows (frameCounts t region s) zeros (rowsOf w s)
@@ -158,10 +174,10 @@ room-zeros i = go (ltb i size) refl
     go : (b : Bool) → ltb i size ≡ b → getD zeros i 0 + 3 * (65540 - 1) * 65536 < 2 ^ 64
     go b e = let z = zero-at b e in omega arith
 
-pub counting-starts : (w : ℕ) (t : List ℕ) (region : ℕ) (s sums : List ℕ) → sums ≡ zeros → Counting w t region s sums 1
+pub counting-starts : (w : Rules) (t : List ℕ) (region : ℕ) (s sums : List ℕ) → sums ≡ zeros → Counting w t region s sums 1
 counting-starts w t region s sums e = rw e (record { number = 0; rest = refl; room = room-zeros; some = omega arith })
 
-module _ (w : ℕ) (t : List ℕ) (region : ℕ) (s sums : List ℕ) (at : ℕ) (inv : Counting w t region s sums at) (r : Next) (follows : Follows s at r) where
+module _ (w : Rules) (t : List ℕ) (region : ℕ) (s sums : List ℕ) (at : ℕ) (inv : Counting w t region s sums at) (r : Next) (follows : Follows s at r) where
   pub counting-done : r ≡ NoMore
       → sums ≡ tallyRows (frameCounts t region s) zeros (rowsOf w s)
   unfolding rowsIn tallyRows
@@ -221,35 +237,42 @@ module _ (totals sums : List ℕ) (over : Bool) (is : over ≡ not (within (plus
   sums-added totals′ e h = let yes = sums-fit h in record { answer = rw yes refl; after = rw yes e }
 
 -- ---- the answer
-module _ (firmware w : ℕ) (t : List ℕ) (region : ℕ) (s totals : List ℕ) (is-w : w ≡ regionBits firmware) where
-  pub adds-unknown : w ≡ 0 → Adds firmware t region s totals (Refused (Firmware firmware)) totals
-  adds-unknown none = record { answer = rw (← is-w, eq-eqb w 0 none) refl; after = refl }
+module _ (firmware : ℕ) (reading : Reading) (w : Rules) (t : List ℕ) (region : ℕ) (s totals : List ℕ) (is-w : w ≡ rulesOf firmware reading) where
+  bits : w .width ≡ regionBits firmware
+  bits = ap (λ (x : Rules). x .width) is-w
 
-  module _ (some : w ≡ 0 → ⊥) where
-    known : eqb w 0 ≡ false
-    known = ne-eqb w 0 some
+  pub adds-unknown : w .width ≡ 0 → Adds firmware reading t region s totals (Refused (Firmware firmware)) totals
+  adds-unknown none = record { answer = rw (← bits, eq-eqb (w .width) 0 none) refl; after = refl }
 
-    pub adds-judged : (v : Verdict) (x : Refusal) → v ≡ verdict t → v ≡ text.Refused x → Adds firmware t region s totals (Refused x) totals
-    adds-judged v x is e = record { answer = rw (← is-w, known, sym is ∙ e) refl; after = refl }
+  module _ (some : w .width ≡ 0 → ⊥) where
+    known : eqb (regionBits firmware) 0 ≡ false
+    known = rw (← bits) (ne-eqb (w .width) 0 some)
+
+    pub adds-judged : (v : Verdict) (x : Refusal) → v ≡ verdict t → v ≡ text.Refused x → Adds firmware reading t region s totals (Refused x) totals
+    adds-judged v x is e = record { answer = rw (known, sym is ∙ e) refl; after = refl }
 
     module _ (accepted : verdict t ≡ text.Accepted) where
-      pub adds-long : 65535 < length s → Adds firmware t region s totals (Refused (TooLong (length s))) totals
-      adds-long long = record { answer = rw (← is-w, known, accepted, lt-leb (length s) 65535 long) refl; after = refl }
+      pub adds-long : 65535 < length s → Adds firmware reading t region s totals (Refused (TooLong (length s))) totals
+      adds-long long = record { answer = rw (known, accepted, lt-leb (length s) 65535 long) refl; after = refl }
+
+      abbrev after : List ℕ
+      after = raisedBy (rulesOf firmware reading) t region s totals
 
       pub adds-sums : (sums : List ℕ) (r : Added) (totals′ : List ℕ) → AddsSums totals sums r totals′
           → sums ≡ tallyRows (frameCounts t region s) zeros (rowsOf w s) → length totals ≡ size → length s ≤ 65535
-          → Adds firmware t region s totals r totals′
+          → Adds firmware reading t region s totals r totals′
       adds-sums sums r totals′ adds counted full short =
-          let all : plus totals sums ≡ raisedBy w t region s totals = rw counted (grown (frameCounts t region s) (rowsOf w s) totals full) in
-          go (within (raisedBy w t region s totals)) refl (rw all at (adds .answer)) (rw all at (adds .after))
+          let counts : sums ≡ tallyRows (frameCounts t region s) zeros (rowsOf (rulesOf firmware reading) s) = rw is-w at counted in
+          let all : plus totals sums ≡ after = rw counts (grown (frameCounts t region s) (rowsOf (rulesOf firmware reading) s) totals full) in
+          go (within after) refl (rw all at (adds .answer)) (rw all at (adds .after))
         where
           fits : leb (length s) 65535 ≡ true
           fits = le-leb (length s) 65535 short
 
-          go : (b : Bool) → within (raisedBy w t region s totals) ≡ b → r ≡ cond b Counted (Refused PastLimit)
-              → totals′ ≡ cond b (raisedBy w t region s totals) totals → Adds firmware t region s totals r totals′
-          go true e is after = record { answer = rw (← is-w, known, accepted, fits, e) is; after = rw (is, ← is-w) after }
-          go false e is after = record { answer = rw (← is-w, known, accepted, fits, e) is; after = rw is after }
+          go : (b : Bool) → within after ≡ b → r ≡ cond b Counted (Refused PastLimit) → totals′ ≡ cond b after totals
+              → Adds firmware reading t region s totals r totals′
+          go true e is now = record { answer = rw (known, accepted, fits, e) is; after = rw is now }
+          go false e is now = record { answer = rw (known, accepted, fits, e) is; after = rw is now }
 
 pub accepted-text : (t : List ℕ) (v : Verdict) → v ≡ verdict t → v ≡ text.Accepted → verdict t ≡ text.Accepted
 accepted-text t v e q = sym e ∙ q
@@ -271,6 +294,8 @@ pub ruleset laws = (
   end-fits,
   end-inside,
   parts-in,
+  framed-none,
+  framed-one,
   body-none,
   body-counted,
   body-lies,

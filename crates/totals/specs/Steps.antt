@@ -6,10 +6,13 @@ use Prim.Native.Nat.{ℕ, _+_, _-_, _*_, _^_, _≤_, _<_}
 use lib.ListN.{length, getD, set, take, drop, replicate}
 use Rattle.refusal.specs.declared.Refusal.the-variants.{PastLimit}
 use Rattle.records.specs.declared.Span.{Span}
+use Rattle.frame.specs.declared.Rules.{Rules}
 use Rattle.frame.specs.declared.PtiFrame.{PtiFrame}
 use Rattle.frame.specs.Frame.{isFrame, frameOf}
 use Rattle.pti.specs.Payload.{rowOf}
 use Rattle.totals.specs.Totals.{size, frameCounts, within}
+use Rattle.totals.specs.declared.Framed.{Framed}
+use Rattle.totals.specs.declared.Framed.the-variants.{Is, Nothing}
 use Rattle.totals.specs.declared.Added.{Added}
 use Rattle.totals.specs.declared.Added.the-variants.{Counted, Refused}
 
@@ -62,7 +65,11 @@ pub record Spans (s : List ℕ) (b : Span) : Type 0 where
 abbrev pub spanned : List ℕ → Span → List ℕ
 spanned s b = take (b .end .0 - b .start .0) (drop (b .start .0) s)
 
+-- the frame of a body, if it holds one
+abbrev pub framedIn : Rules → List ℕ → Framed
+framedIn w b = cond (isFrame w b) (Is (frameOf w b)) Nothing
+
 -- what the frame in a body counts, if it holds one
-abbrev pub bodyCounts : ℕ → List ℕ → ℕ → List ℕ → Span → List (ℕ × ℕ)
+abbrev pub bodyCounts : Rules → List ℕ → ℕ → List ℕ → Span → List (ℕ × ℕ)
 bodyCounts w t region s b =
     cond (isFrame w (spanned s b)) (frameCounts t region s (rowOf 0 (b .start .0) (frameOf w (spanned s b)))) []

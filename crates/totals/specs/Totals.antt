@@ -10,7 +10,9 @@ use Rattle.refusal.specs.Refusal.{numberOf, carriedBy}
 use Rattle.text.specs.declared.Verdict.{Verdict}
 use Rattle.text.specs.declared.Verdict.the-variants as text
 use Rattle.frame_text.specs.Rules.{verdict}
-use Rattle.frame.specs.Frame.{regionBits}
+use Rattle.frame.specs.declared.Reading.{Reading}
+use Rattle.frame.specs.declared.Rules.{Rules}
+use Rattle.frame.specs.Frame.{regionBits, rulesOf}
 use Rattle.pti.specs.Payload.{rowsOf}
 use Rattle.header_rules.specs.Table.{rowWidth}
 use Rattle.header.specs.declared.Decoded.{Decoded}
@@ -95,8 +97,8 @@ abbrev pub grownAt : (List ℕ → List (ℕ × ℕ)) → List (List ℕ) → �
 grownAt f [] i = 0
 grownAt f (r ∷ rs) i = amountAt i (f r) + grownAt f rs i
 
--- TO4: what the total at a place grows by, for a payload s whose regions have w bits
-abbrev pub growth : ℕ → List ℕ → ℕ → List ℕ → ℕ → ℕ
+-- TO4: what the total at a place grows by, for a payload s by the rules w
+abbrev pub growth : Rules → List ℕ → ℕ → List ℕ → ℕ → ℕ
 growth w t region s = grownAt (frameCounts t region s) (rowsOf w s)
 
 -- totals, from place i on, each with what it grows by
@@ -105,7 +107,7 @@ raised g i [] = []
 raised g i (x ∷ xs) = (x + g i) ∷ raised g (suc i) xs
 
 -- TO4: the totals with a payload added
-abbrev pub raisedBy : ℕ → List ℕ → ℕ → List ℕ → List ℕ → List ℕ
+abbrev pub raisedBy : Rules → List ℕ → ℕ → List ℕ → List ℕ → List ℕ
 raisedBy w t region s totals = raised (growth w t region s) 0 totals
 
 -- ---- TO5: the answer
@@ -120,7 +122,7 @@ within [] = true
 within (x ∷ xs) = leb x most && within xs
 
 -- TO5, R10: by an accepted text: 4, then 10
-abbrev pub addedIn : ℕ → List ℕ → ℕ → List ℕ → List ℕ → Added
+abbrev pub addedIn : Rules → List ℕ → ℕ → List ℕ → List ℕ → Added
 addedIn w t region s totals =
     cond (leb (length s) 65535) (cond (within (raisedBy w t region s totals)) Counted (Refused PastLimit)) (Refused (TooLong (length s)))
 
@@ -130,12 +132,12 @@ judged text.Accepted r = r
 judged (text.Refused x) r = Refused x
 
 -- TO5, R10: 13 first, then the text
-abbrev pub addedBy : ℕ → List ℕ → ℕ → List ℕ → List ℕ → Added
+abbrev pub addedBy : Rules → List ℕ → ℕ → List ℕ → List ℕ → Added
 addedBy w t region s totals = judged (verdict t) (addedIn w t region s totals)
 
-abbrev pub addedOf : ℕ → List ℕ → ℕ → List ℕ → List ℕ → Added
-addedOf firmware t region s totals =
-    cond (eqb (regionBits firmware) 0) (Refused (Firmware firmware)) (addedBy (regionBits firmware) t region s totals)
+abbrev pub addedOf : ℕ → Reading → List ℕ → ℕ → List ℕ → List ℕ → Added
+addedOf firmware reading t region s totals =
+    cond (eqb (regionBits firmware) 0) (Refused (Firmware firmware)) (addedBy (rulesOf firmware reading) t region s totals)
 
 -- TO5: an answer in numbers: 0, or the number of the refusal, and what it carries
 abbrev pub said : Added → ℕ × ℕ
@@ -143,11 +145,11 @@ said Counted = (0, 0)
 said (Refused x) = (numberOf x, carriedBy x)
 
 -- TO4, R12: the totals after an answer or a refusal
-abbrev pub totalsAfter : ℕ → List ℕ → ℕ → List ℕ → List ℕ → Added → List ℕ
+abbrev pub totalsAfter : Rules → List ℕ → ℕ → List ℕ → List ℕ → Added → List ℕ
 totalsAfter w t region s totals Counted = raisedBy w t region s totals
 totalsAfter w t region s totals (Refused x) = totals
 
 -- TO4, TO5: what a call of `add_payload` answers and leaves
-pub record Adds (firmware : ℕ) (t : List ℕ) (region : ℕ) (s totals : List ℕ) (r : Added) (totals′ : List ℕ) : Type 0 where
-  pub answer : r ≡ addedOf firmware t region s totals
-  pub after : totals′ ≡ totalsAfter (regionBits firmware) t region s totals r
+pub record Adds (firmware : ℕ) (reading : Reading) (t : List ℕ) (region : ℕ) (s totals : List ℕ) (r : Added) (totals′ : List ℕ) : Type 0 where
+  pub answer : r ≡ addedOf firmware reading t region s totals
+  pub after : totals′ ≡ totalsAfter (rulesOf firmware reading) t region s totals r

@@ -1,9 +1,10 @@
 // The totals of a capture: TO1 to TO5 of docs/RULES.md. One payload at a time is added to totals that the caller lends.
-use frame::Beams;
 use frame::PtiFrame;
+use frame::Reading;
+use frame::Rules;
 use frame::Split;
 use frame::frame_of;
-use frame::region_bits;
+use frame::rules_of;
 use frame::split_body;
 use frame_text::check_frame_text;
 use header::Decoded;
@@ -31,7 +32,7 @@ ghost use Rattle.header.specs.declared.Decoded.the-variants.{Header};
 ghost use Rattle.header.specs.Decode.{decoded};
 ghost use Rattle.pti.specs.Payload.{rowsOf, rowOf};
 ghost use Rattle.totals.specs.Totals.{size, refusedCounts, headerCounts, beamCounts, room, frameCounts, within, Adds};
-ghost use Rattle.totals.specs.Steps.{zeros, Room, Tallies, Lies, Spans, bodyCounts, tallyRows, plus, AddsSums};
+ghost use Rattle.totals.specs.Steps.{zeros, Room, Tallies, Lies, Spans, framedIn, bodyCounts, tallyRows, plus, AddsSums};
 
 // How many rates there are: a key has a count for each.
 pub const RATE_COUNT: usize = 4;
@@ -59,6 +60,12 @@ pub enum Added {
     // Its frames are counted.
     Counted,
     Refused(Refusal),
+}
+
+// The frame of a body, if there is one.
+pub enum Framed {
+    Is(PtiFrame),
+    Nothing,
 }
 
 fn add(sums: &mut [u64; TOTALS], at: usize, n: u16)
@@ -148,37 +155,42 @@ fn count_frame(
     count_beam(repeats, sums);
 }
 
-// Counts the frame in a body of the payload, if it holds one, whose regions have so many bits.
+// The frame in a body, if it holds one by these rules.
+fn frame_in(rates: &[u8; 512], body: &[u8], rules: Rules) -> Framed
+    requires { ⌜ RateTable (now rates) ⌝ }
+    requires { ⌜ (rules .width ≤ 5) × (length (now body) < 65535) ⌝ }
+    ensures { λ r. ⌜ r ≡ framedIn rules (now (body .entry)) ⌝ }
+{
+    let Split::Into(parts) = split_body(rates, body, rules) else {
+        return Framed::Nothing;
+    };
+    let reading = rules.reading;
+    Framed::Is(frame_of(body, reading, parts))
+}
+
+// Counts the frame in a body of the payload, if it holds one by these rules.
 fn count_body(
     rates: &[u8; 512],
     text: &[u8],
     payload: &[u8],
     region: u64,
-    width: u8,
+    rules: Rules,
     span: Span,
     sums: &mut [u64; TOTALS],
 )
     requires { ⌜ RateTable (now rates) ⌝ }
     requires { ⌜ verdict (now text) ≡ Accepted ⌝ }
-    requires { ⌜ (width ≤ 5) × (Spans (now payload) span) ⌝ }
+    requires { ⌜ (rules .width ≤ 5) × (Spans (now payload) span) ⌝ }
     requires { ⌜ Room 3 (now sums) ⌝ }
     ensures { λ _.
-        ⌜ Tallies 3 (bodyCounts width (now (text .entry)) region (now (payload .entry)) span) (now (sums .entry)) (now (sums .exit)) ⌝ }
+        ⌜ Tallies 3 (bodyCounts rules (now (text .entry)) region (now (payload .entry)) span) (now (sums .entry)) (now (sums .exit)) ⌝ }
 {
     let start = span.start.0;
     let end = span.end.0;
-    let body = &payload[start..end];
-    let Split::Into(parts) = split_body(body, width) else {
+    let Framed::Is(frame) = frame_in(rates, &payload[start..end], rules) else {
         return;
     };
-    count_frame(
-        text,
-        payload,
-        region,
-        frame_of(rates, body, parts),
-        span.start,
-        sums,
-    );
+    count_frame(text, payload, region, frame, span.start, sums);
 }
 
 // Counts every frame of a payload.
@@ -187,35 +199,35 @@ fn count_frames(
     text: &[u8],
     payload: &[u8],
     region: u64,
-    width: u8,
+    rules: Rules,
     sums: &mut [u64; TOTALS],
 )
     requires { ⌜ RateTable (now rates) ⌝ }
     requires { ⌜ verdict (now text) ≡ Accepted ⌝ }
-    requires { ⌜ (width ≤ 5) × (length (now payload) ≤ 65535) ⌝ }
+    requires { ⌜ (rules .width ≤ 5) × (length (now payload) ≤ 65535) ⌝ }
     requires { ⌜ now sums ≡ zeros ⌝ }
     ensures { λ _.
-        ⌜ now (sums .exit) ≡ tallyRows (frameCounts (now (text .entry)) region (now (payload .entry))) zeros (rowsOf width (now (payload .entry))) ⌝ }
+        ⌜ now (sums .exit) ≡ tallyRows (frameCounts (now (text .entry)) region (now (payload .entry))) zeros (rowsOf rules (now (payload .entry))) ⌝ }
 {
     let mut at: usize = 1;
     loop {
         let Next::Body(span) = next_body(payload, at) else {
             return;
         };
-        count_body(rates, text, payload, region, width, span, sums);
+        count_body(rates, text, payload, region, rules, span, sums);
         at = span.end.0 + 2;
     }
 }
 
 // The same, with the rates lent once for all frames.
-fn count_payload(text: &[u8], payload: &[u8], region: u64, width: u8, sums: &mut [u64; TOTALS])
+fn count_payload(text: &[u8], payload: &[u8], region: u64, rules: Rules, sums: &mut [u64; TOTALS])
     requires { ⌜ verdict (now text) ≡ Accepted ⌝ }
-    requires { ⌜ (width ≤ 5) × (length (now payload) ≤ 65535) ⌝ }
+    requires { ⌜ (rules .width ≤ 5) × (length (now payload) ≤ 65535) ⌝ }
     requires { ⌜ now sums ≡ zeros ⌝ }
     ensures { λ _.
-        ⌜ now (sums .exit) ≡ tallyRows (frameCounts (now (text .entry)) region (now (payload .entry))) zeros (rowsOf width (now (payload .entry))) ⌝ }
+        ⌜ now (sums .exit) ≡ tallyRows (frameCounts (now (text .entry)) region (now (payload .entry))) zeros (rowsOf rules (now (payload .entry))) ⌝ }
 {
-    count_frames(&RATES, text, payload, region, width, sums)
+    count_frames(&RATES, text, payload, region, rules, sums)
 }
 
 // Would one of the totals pass the limit with these sums?
@@ -266,21 +278,22 @@ pub fn add_accepted(
     text: &[u8],
     region: u64,
     firmware: usize,
+    reading: Reading,
     payload: &[u8],
     totals: &mut [u64; TOTALS],
 ) -> Added
     requires { ⌜ verdict (now text) ≡ Accepted ⌝ }
-    ensures { λ r. ⌜ Adds firmware (now (text .entry)) region (now (payload .entry)) (now (totals .entry)) r (now (totals .exit)) ⌝ }
+    ensures { λ r. ⌜ Adds firmware reading (now (text .entry)) region (now (payload .entry)) (now (totals .entry)) r (now (totals .exit)) ⌝ }
 {
-    let width = region_bits(firmware);
-    if width == 0 {
+    let rules = rules_of(firmware, reading);
+    if rules.width == 0 {
         return Added::Refused(Refusal::Firmware(firmware));
     }
     if 65535 < payload.len() {
         return Added::Refused(Refusal::TooLong(payload.len()));
     }
     let mut sums = [0u64; TOTALS];
-    count_payload(text, payload, region, width, &mut sums);
+    count_payload(text, payload, region, rules, &mut sums);
     add_sums(&mut totals[..], &sums)
 }
 
@@ -290,17 +303,18 @@ pub fn add_payload(
     text: &[u8],
     region: u64,
     firmware: usize,
+    reading: Reading,
     payload: &[u8],
     totals: &mut [u64; TOTALS],
 ) -> Added
-    ensures { λ r. ⌜ Adds firmware (now (text .entry)) region (now (payload .entry)) (now (totals .entry)) r (now (totals .exit)) ⌝ }
+    ensures { λ r. ⌜ Adds firmware reading (now (text .entry)) region (now (payload .entry)) (now (totals .entry)) r (now (totals .exit)) ⌝ }
 {
-    let width = region_bits(firmware);
-    if width == 0 {
+    let rules = rules_of(firmware, reading);
+    if rules.width == 0 {
         return Added::Refused(Refusal::Firmware(firmware));
     }
     match check_frame_text(text) {
-        Verdict::Accepted => add_accepted(text, region, firmware, payload, totals),
+        Verdict::Accepted => add_accepted(text, region, firmware, reading, payload, totals),
         Verdict::Refused(refusal) => Added::Refused(refusal),
     }
 }

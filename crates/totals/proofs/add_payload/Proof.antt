@@ -4,35 +4,35 @@ use borrow.Author.Needs.{needs}
 use Rattle.totals.proofs.add_payload.Statement.{statement}
 use Rattle.totals.proofs.add_payload.Tie as tie
 
--- src/lib.rt:291:9
-region-bits-requires : tie.Need-region-bits-requires
-region-bits-requires c κs = search (needs, laws)
+-- src/lib.rt:296:9
+rules-of-requires : tie.Need-rules-of-requires
+rules-of-requires c κs = search (needs, laws)
 
--- src/lib.rt:293:9
+-- src/lib.rt:298:9
 returns : tie.Need-returns
 returns c = search (needs, laws)
 
--- src/lib.rt:295:11
+-- src/lib.rt:300:11
 check-frame-text-requires : tie.Need-check-frame-text-requires
 check-frame-text-requires c κs = search (needs, laws)
 
--- src/lib.rt:296:76
+-- src/lib.rt:301:85
 enum-told : tie.Need-enum-told
 enum-told c = search (needs, laws)
 
--- src/lib.rt:296:30
+-- src/lib.rt:301:30
 add-accepted-requires : tie.Need-add-accepted-requires
 add-accepted-requires c κs = search (needs, laws)
 
--- src/lib.rt:297:26
+-- src/lib.rt:302:26
 enum-known-refusal : tie.Need-enum-known-refusal
 enum-known-refusal c = search (needs, laws)
 
--- src/lib.rt:282:1
+-- src/lib.rt:286:1
 returns-2 : tie.Need-returns-2
 returns-2 c = search (needs, laws)
 
--- src/lib.rt:282:1
+-- src/lib.rt:286:1
 returns-3 : tie.Need-returns-3
 returns-3 c = search (needs, laws)
 
@@ -40,7 +40,7 @@ pub add-payload-spec : {M : Type 1} → statement M
 add-payload-spec =
     tie.close
     (tie.spec
-    region-bits-requires
+    rules-of-requires
     returns
     check-frame-text-requires
     enum-told

@@ -7,10 +7,10 @@ use Rattle.totals.proofs.count_frames.Statement.{statement}
 use Rattle.totals.proofs.count_frames.Tie as tie
 
 abbrev Inv-loop : tie.InvT-loop
-Inv-loop rates text payload region width sums₀ at₀ sums at = Counting width text region payload sums at
+Inv-loop rates text payload region rules sums₀ at₀ sums at = Counting rules text region payload sums at
 
 abbrev μ-loop : tie.MeasureT-loop
-μ-loop rates text payload region width sums₀ at₀ sums at = length payload - at
+μ-loop rates text payload region rules sums₀ at₀ sums at = length payload - at
 
 -- src/lib.rt:184:5
 loop-holds : tie.Need-loop-holds Inv-loop μ-loop
