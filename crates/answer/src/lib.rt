@@ -1,7 +1,6 @@
 // The parts of an answer. Answers wait in the writer's buffer, of which `used` bytes are taken.
 pub mod table;
 
-use refusal::Refusal;
 use writer::Buffer;
 use writer::put;
 use writer::put_byte;
@@ -47,7 +46,8 @@ pub fn put_bytes(out: &mut Buffer, used: usize, bytes: &[u8]) -> usize {
     put_hex(out, used, bytes)
 }
 
-pub fn put_refusal(out: &mut Buffer, used: usize, refusal: Refusal) -> usize {
-    let n = put_named(out, used, b"refused", refusal.number() as u64);
-    put_value(out, n, refusal.carried() as u64)
+// A refusal: its number, and what it carries.
+pub fn put_refusal(out: &mut Buffer, used: usize, number: u64, carried: u64) -> usize {
+    let n = put_named(out, used, b"refused", number);
+    put_value(out, n, carried)
 }

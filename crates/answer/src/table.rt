@@ -1,6 +1,5 @@
 // A table as a call is lent it: filled before the call, and looked at after it.
 use crate::put_refusal;
-use refusal::Refusal;
 use writer::Buffer;
 use writer::put;
 ghost use mathlib.Core.Path.{_≡_};
@@ -95,7 +94,13 @@ pub fn put_touched_bytes(out: &mut Buffer, used: usize, bytes: &[u8]) -> usize {
 }
 
 // A refusal, after which nothing may have been written to the table.
-pub fn put_refused(out: &mut Buffer, used: usize, refusal: Refusal, table: &[u64]) -> usize {
-    let n = put_refusal(out, used, refusal);
+pub fn put_refused(
+    out: &mut Buffer,
+    used: usize,
+    number: u64,
+    carried: u64,
+    table: &[u64],
+) -> usize {
+    let n = put_refusal(out, used, number, carried);
     put_touched(out, n, table)
 }

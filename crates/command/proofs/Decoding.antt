@@ -42,6 +42,7 @@ use Rattle.command.specs.declared.Params.{Params}
 use Rattle.command.specs.declared.Params.the-variants.{Rows, Refused}
 use Rattle.command_rules.proofs.Rows.{table-rows}
 use Rattle.command_rules.proofs.Bounds.{walk-most, walk-inside}
+use Rattle.command_rules.proofs.Slots.{entries-lined}
 use Rattle.command_rules.proofs.Wanting.{walk-adds}
 
 -- ---- one pass
@@ -130,7 +131,8 @@ module _ (offsets : Offsets) (x payload t : List ℕ) where
         go true q =
             let laid : t′ ≡ table t rows = rw z at (f .table-is) in
             rw (laid, q, table-rows t rows)
-            (walk-adds offsets (bodyOf payload) (definition x) (length payload) small (let d = length-drop 2 payload in omega arith))
+            (walk-adds offsets (bodyOf payload) (definition x) (length payload) small (entries-lined 1 (records form (lines x)))
+            (let d = length-drop 2 payload in omega arith))
         go false q = absurd (let e : a .refusal ≡ 8 = rw q refl in omega arith)
 
     pub accepted-fills : (a : Told) (t′ : List ℕ) → Fills (walk offsets (take (length payload - 2) (drop 2 payload)) (entriesOf (headsOf x))) t a t′

@@ -1,4 +1,4 @@
--- T33 (docs/RULES.md): what a limit means for the rows of a Q.
+-- T32, T33 (docs/RULES.md): where the entries of a definition stand, and what a limit means for the rows of a Q.
 use Prim.Native.Nat.{ℕ, suc, _≤_}
 use mathlib.Core.Bool.{Bool, true, false, cond}
 use mathlib.Core.List.{List, [], _∷_}
@@ -33,3 +33,9 @@ unfoldable pub SmallEntries : List Entry → Type 0
 SmallEntries [] = Unit {0}
 SmallEntries (single q ∷ ds) = Small q × SmallEntries ds
 SmallEntries (repeated line g qs ∷ ds) = SmallAll qs × SmallEntries ds
+
+-- T32: the entries stand on lines that rise, from this one on
+abbrev pub Lined : ℕ → List Entry → Type 0
+Lined low [] = Unit {0}
+Lined low (single q ∷ ds) = (low ≤ q .line) × Lined (suc (q .line)) ds
+Lined low (repeated line g qs ∷ ds) = (low ≤ line) × Lined (suc line) ds

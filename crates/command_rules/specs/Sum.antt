@@ -8,9 +8,9 @@ use Rattle.command_class.specs.Definition.{Parameter, Entry, single, repeated}
 use Rattle.command_rules.specs.Lengths.{wanted, Agrees}
 use Rattle.command_rules.specs.Field.{fieldOf}
 use Rattle.command_rules.specs.declared.Earlier.{Earlier}
-use Rattle.command_rules.specs.declared.Earlier.the-variants.{Value, NoValue}
+use Rattle.command_rules.specs.declared.Earlier.the-variants.{Value, NoValue, NoEntry}
 use Rattle.command_rules.specs.declared.Offsets.{Offsets}
-use Rattle.command_rules.specs.declared.Offsets.the-variants.{Answered}
+use Rattle.command_rules.specs.declared.Offsets.the-variants.{Answered, Position}
 use Rattle.command_rules.specs.declared.Row.{Row}
 
 -- the rows with this parent; 0 for those of the outer list
@@ -64,19 +64,36 @@ paramsOf [] = []
 paramsOf (single q ∷ ds) = q ∷ paramsOf ds
 paramsOf (repeated line g qs ∷ ds) = qs ++ paramsOf ds
 
--- L4: the row r stands on the line of a Q, and its bytes and those that it lacks are what that Q wants by the entries of its list, which are the
--- rows before with the same parent
-pub record Meets (ds : List Entry) (before : List Row) (r : Row) : Type 0 where
+-- D2, D3: the entry that the Q on this line is by position, if these are the outer rows so far
+abbrev pub slotAt : ℕ → List Row → Earlier
+slotAt line [] = NoEntry
+slotAt line (r ∷ rs) = cond (eqb (r .line) line) (entryIn r) (slotAt line rs)
+
+-- D2, D3: the entries of the outer list by position; a group is none
+abbrev pub slots : List Entry → List Row → List Earlier
+slots [] rows = []
+slots (single q ∷ ds) rows = slotAt (q .line) rows ∷ slots ds rows
+slots (repeated line g qs ∷ ds) rows = NoEntry ∷ slots ds rows
+
+-- C2, D1: the entries that an offset finds behind these rows, in the list whose rows have this parent; by position only the outer list differs, as
+-- in a repetition each member before exists
+abbrev pub entriesBehind : Offsets → List Entry → ℕ → List Row → List Earlier
+entriesBehind Answered ds parent before = map entryIn (childrenOf parent before)
+entriesBehind Position ds zero before = slots ds (childrenOf 0 before)
+entriesBehind Position ds (suc p) before = map entryIn (childrenOf (suc p) before)
+
+-- L4: the row r stands on the line of a Q, and its bytes and those that it lacks are what that Q wants by the entries that its offset finds
+pub record Meets (offsets : Offsets) (ds : List Entry) (before : List Row) (r : Row) : Type 0 where
   pub param : Parameter
   pub stands : List·Memᴰ param (paramsOf ds)
   pub line : r .line ≡ param .line
-  pub agrees : Agrees (wanted (fieldOf param .rule) (map entryIn (childrenOf (r .parent) before)))
+  pub agrees : Agrees (wanted (fieldOf param .rule) (entriesBehind offsets ds (r .parent) before))
       (record { taken = r .end - r .start; lacking = r .lacking })
 
 -- L4: so does each parameter's row, behind the rows before
-unfoldable pub AllMeet : List Entry → List Row → List Row → Type 0
-AllMeet ds before [] = Unit {0}
-AllMeet ds before (r ∷ rs) = (r .kind ≡ 0 → Meets ds before r) × AllMeet ds (before ++ (r ∷ [])) rs
+unfoldable pub AllMeet : Offsets → List Entry → List Row → List Row → Type 0
+AllMeet offsets ds before [] = Unit {0}
+AllMeet offsets ds before (r ∷ rs) = (r .kind ≡ 0 → Meets offsets ds before r) × AllMeet offsets ds (before ++ (r ∷ [])) rs
 
 -- C19, demand 3: the outer rows follow one another from the body's start to the remainder, and all bytes add up
 pub record Adds (offsets : Offsets) (ds : List Entry) (size : ℕ) (rows : List Row) (remainder : ℕ) : Type 0 where
@@ -84,4 +101,4 @@ pub record Adds (offsets : Offsets) (ds : List Entry) (size : ℕ) (rows : List 
   pub sum : bytes (childrenOf 0 rows) + (size - remainder) ≡ size - 2
   pub placed : Placed 0 rows
   pub cut : CutAtEnd size rows
-  pub met : offsets ≡ Answered → AllMeet ds [] rows
+  pub met : AllMeet offsets ds [] rows

@@ -3,6 +3,7 @@ use mathlib.Core.Path.{_≡_, refl, ap, _∙_}
 use mathlib.Core.Bool.{Bool, true, false}
 use mathlib.Core.List.{List}
 use Prim.Native.Nat.{ℕ, _-_, _^_, _<_}
+use native.Mathlib.Omega.{arith}
 use lib.Signed.{mag}
 use mir.Syntax.{w8}
 use mir.Val.{toZ, ofZ, hbits}
@@ -12,7 +13,7 @@ use Rattle.refusal.specs.Refusal.{numberOf, carriedBy}
 use Rattle.records.specs.declared.Counted.{Counted}
 use Rattle.records.specs.declared.Counted.the-variants.{Records, Refused as Uncounted}
 use Rattle.records.specs.declared.Span.{Span}
-use Rattle.records.specs.Records.{said, saidOf, Counts, spanOf}
+use Rattle.records.specs.Records.{said, saidOf, Counts}
 use Rattle.records.specs.Steps.{IsBody}
 use Rattle.frame.specs.Frame.{directionNumber, beamsNumber, numbersAt, parsedOf, Parses as ParsesRecord}
 use Rattle.frame.specs.declared.PtiFrame.{PtiFrame}
@@ -44,7 +45,7 @@ use Rattle.libtap.specs.declared.frames.TapFrame.{TapFrame}
 use Rattle.libtap.specs.declared.headers.TapBits.{TapBits}
 use Rattle.libtap.specs.declared.headers.TapHeader.{TapHeader}
 use Rattle.libtap.specs.declared.commands.TapParams.{TapParams}
-use Rattle.libtap.specs.Answers.{answered, judged, toldTidied, ToldTidied, part, framed, toldFrame, Told}
+use Rattle.libtap.specs.Answers.{answered, judged, toldTidied, ToldTidied, part, ToldBody, framed, toldFrame, Told}
 use Rattle.libtap.specs.Headers.{toldBits, headed, toldHeader, ToldHeader}
 use Rattle.libtap.specs.Commands.{toldBy}
 
@@ -71,8 +72,8 @@ counts-refusal c x number carried e is-number is-carried = rw (e, is-number, is-
 pub counts-all : (s : List ℕ) (c : Counted) (r : TapAnswer) → Counts s c → r ≡ answered (said c) → r ≡ answered (saidOf s)
 counts-all s c r so is-r = is-r ∙ ap answered (so .numbers)
 
-pub parts : (s : List ℕ) (k : ℕ) (b : Span) → IsBody s k b → record { start = b .start .0; length = b .end .0 - b .start .0 } ≡ part (spanOf s k)
-parts s k b body = rw (body .is) refl
+pub parts : (s : List ℕ) (k : ℕ) (b : Span) → IsBody s k b → ToldBody s k (record { start = b .start .0; length = b .end .0 - b .start .0 })
+parts s k b body = record { answer = rw (body .is) refl; inside = omega (arith, body .ordered, body .inside) }
 
 pub framed-row : (f : PtiFrame) (d rssi beams : ℕ) → d ≡ directionNumber (f .direction) → rssi ≡ ofZ w8 (toZ w8 (ofZ w8 (f .rssi)))
     → mag (f .rssi) < 2 ^ hbits w8 → beams ≡ beamsNumber (f .beams)

@@ -1,9 +1,10 @@
 -- The answers of the calls on payloads, records and texts as C has them.
 use mathlib.Core.Path.{_≡_}
 use mathlib.Core.List.{List}
-use Prim.Native.Nat.{ℕ}
+use Prim.Native.Nat.{ℕ, _+_, _≤_}
 use lib.ListN.{length, getD}
 use Rattle.refusal.specs.Refusal.{numberOf, carriedBy}
+use Rattle.records.specs.Records.{spanOf}
 use Rattle.frame.specs.declared.Parsed.{Parsed}
 use Rattle.frame.specs.declared.Parsed.the-variants.{Frame, Refused as NoFrame}
 use Rattle.frame.specs.Frame.{said}
@@ -24,6 +25,15 @@ answered said = record { refusal = said .0; value = said .1 }
 -- where a body starts, and its length
 abbrev pub part : ℕ × ℕ → TapPart
 part b = record { start = b .0; length = b .1 }
+
+-- what `tap_record_body` answers for a payload s: where the body k lies, inside the payload
+pub record ToldBody (s : List ℕ) (k : ℕ) (r : TapPart) : Type 0 where
+  pub answer : r ≡ part (spanOf s k)
+  pub inside : r .start + r .length ≤ length s
+
+-- as many entries as are answered stand in the table or buffer t that was lent
+abbrev pub Stands : List ℕ → TapAnswer → Type 0
+Stands t r = r .refusal ≡ 0 → r .value ≤ length t
 
 -- the numbers of a frame, as F16 has them
 abbrev pub framed : List ℕ → TapFrame

@@ -12,10 +12,10 @@ use records::find_body;
 ghost use mathlib.Core.Path.{_≡_};
 ghost use Rattle.radio.specs.Speed.{rateOf};
 ghost use Rattle.radio.specs.Beam.{beamsOf};
-ghost use Rattle.records.specs.Records.{said, saidOf, spanOf};
+ghost use Rattle.records.specs.Records.{said, saidOf};
 ghost use Rattle.frame.specs.Frame.{parsedOf, numbersAt};
 ghost use Rattle.pti.specs.Payload.{said as saidFrames};
-ghost use Rattle.libtap.specs.Answers.{answered, part, framed, toldFrame, Told};
+ghost use Rattle.libtap.specs.Answers.{answered, ToldBody, framed, toldFrame, Told};
 
 // A single record's frame as C has it: where `refusal` is 0, the eight numbers of F16, `start` in the record's body.
 #[repr(C)]
@@ -82,7 +82,7 @@ pub extern "C" fn tap_count_records(payload: &[u8]) -> TapAnswer
 // Where body k of a payload lies, from 0; an empty part where there is none or the payload is too long.
 #[no_mangle]
 pub extern "C" fn tap_record_body(payload: &[u8], k: usize) -> TapPart
-    ensures { λ r. ⌜ r ≡ part (spanOf (now (payload .entry)) k) ⌝ }
+    ensures { λ r. ⌜ ToldBody (now (payload .entry)) k r ⌝ }
 {
     let body = find_body(payload, k);
     let start = body.start.0;

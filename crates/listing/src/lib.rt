@@ -17,7 +17,7 @@ ghost use Rattle.text.specs.Text.{lines};
 ghost use Rattle.text.specs.declared.Verdict.the-variants.{Accepted};
 ghost use Rattle.frame_text.specs.Rules.{verdict};
 ghost use Rattle.header.specs.Decode.{keyOf};
-ghost use Rattle.listing_text.specs.Listing.{closed, formOf};
+ghost use Rattle.listing_text.specs.Listing.{rowWidth, closed, formOf};
 ghost use Rattle.listing_text.specs.Steps.{rowsIn};
 ghost use Rattle.listing.specs.Judge.{room, orYes, orLast, Judges};
 ghost use Rattle.listing.specs.Write.{Writes};
@@ -133,7 +133,7 @@ pub fn judge_listing(text: &[u8], mpdu: &[u8], region: u64, speed: u64, listing:
 
 // Writes the listing of the first rows of a table and of a header's number, if the buffer has room; else refusal 12.
 fn write_rows(rows: &[u64], count: usize, number: u64, buffer: &mut [u8]) -> Written
-    requires { ⌜ (count ≤ 128) × (count * 7 ≤ length (now rows)) ⌝ }
+    requires { ⌜ (count ≤ 128) × (count * rowWidth ≤ length (now rows)) ⌝ }
     ensures { λ r. ⌜ WritesRows (closed (rowsIn count (now (rows .entry))) number) (now (buffer .entry)) r (now (buffer .exit)) ⌝ }
 {
     let mut none = [0u8; 0];

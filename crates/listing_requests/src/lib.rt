@@ -2,8 +2,8 @@
 use answer::Answer;
 use answer::put_named;
 use answer::put_refusal;
-use listing::Judgement;
-use listing::judge_listing;
+use libtap::TapAnswer;
+use libtap::listings::tap_judge_listing;
 use request::Both;
 use request::Bytes;
 use request::Leading;
@@ -25,12 +25,15 @@ struct Asked {
     listing: usize,
 }
 
-fn put_judgement(out: &mut Buffer, used: usize, judgement: Judgement) -> usize {
-    match judgement {
-        Judgement::Yes => put(out, used, b"yes"),
-        Judgement::Differs(line) => put_named(out, used, b"differs", line as u64),
-        Judgement::Refused(refusal) => put_refusal(out, used, refusal),
+// Yes, the line that differs, or a refusal.
+fn put_judgement(out: &mut Buffer, used: usize, judgement: TapAnswer) -> usize {
+    if judgement.refusal != 0 {
+        return put_refusal(out, used, judgement.refusal, judgement.value);
     }
+    if judgement.value != 0 {
+        return put_named(out, used, b"differs", judgement.value);
+    }
+    put(out, used, b"yes")
 }
 
 fn judge(bytes: &[u8], asked: Asked, out: &mut Buffer, used: usize) -> usize
@@ -40,7 +43,7 @@ fn judge(bytes: &[u8], asked: Asked, out: &mut Buffer, used: usize) -> usize
     let m = asked.mpdu;
     let e = asked.listing;
     let behind = &bytes[n..];
-    let judgement = judge_listing(
+    let judgement = tap_judge_listing(
         &bytes[..n],
         &behind[..m],
         asked.region,

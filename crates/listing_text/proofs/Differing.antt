@@ -10,7 +10,7 @@ use Rattle.laws.proofs.Lists.{done, tail}
 use Rattle.text.specs.Text.{same}
 use Rattle.text.specs.Print.{shown}
 use Rattle.text.proofs.Laws.{same-lengths}
-use Rattle.listing_text.specs.Listing.{stopOf, lineOf, closed, begins, differs}
+use Rattle.listing_text.specs.Listing.{rowWidth, stopOf, lineOf, closed, begins, differs}
 use Rattle.listing_text.specs.Steps.{Writes, Passes, rowsIn}
 use Rattle.listing_text.proofs.Lining.{line-front, rows-next, rows-none}
 
@@ -29,7 +29,7 @@ module _ (s numbers line₀ : List ℕ) (n : ℕ) (line : List ℕ) (w : Writes 
         within = omega arith;
       }
 
-  module _ (b : Bool) (test : b ≡ same (take n s) (take n line)) (size : length line₀ ≡ 147) where
+  module _ (b : Bool) (test : b ≡ same (take n s) (take n line)) (size : length line₀ ≡ rowWidth * 21) where
     is-test : b ≡ begins (lineOf numbers) s
     is-test = test ∙ rw (line-front numbers line₀ n line w size, w .count) refl
 
@@ -44,7 +44,7 @@ pub record Comparing (listing rows : List ℕ) (count number at k : ℕ) : Type 
   pub within : at ≤ length listing
   pub most : k ≤ count
   pub so : differs 1 (closed (rowsIn count rows) number) listing
-      ≡ differs (k + 1) (closed (rowsIn (count - k) (drop (k * 7) rows)) number) (drop at listing)
+      ≡ differs (k + 1) (closed (rowsIn (count - k) (drop (k * rowWidth) rows)) number) (drop at listing)
 
 pub comparing-starts : (listing rows : List ℕ) (count number : ℕ) → Comparing listing rows count number 0 0
 comparing-starts listing rows count number =
@@ -68,7 +68,7 @@ module _ (listing rows : List ℕ) (count number at k : ℕ) (w : Comparing list
   text = take (length listing - at) (drop at listing)
 
   abbrev row : List ℕ
-  row = take (k * 7 + 7 - k * 7) (drop (k * 7) rows)
+  row = take (k * rowWidth + rowWidth - k * rowWidth) (drop (k * rowWidth) rows)
 
   size : length text ≡ length listing - at
   size = ap length (tail listing at) ∙ length-drop at listing
@@ -76,15 +76,15 @@ module _ (listing rows : List ℕ) (count number at k : ℕ) (w : Comparing list
   behind : drop n (drop at listing) ≡ drop (at + n) listing
   behind = drop-drop n at listing
 
-  module _ (p : Passes row text n) (h : k < count) (room : count * 7 ≤ length rows) where
-    seven : take 7 (drop (k * 7) rows) ≡ row
-    seven = let s : k * 7 + 7 - k * 7 ≡ 7 = omega arith in rw s refl
+  module _ (p : Passes row text n) (h : k < count) (room : count * rowWidth ≤ length rows) where
+    seven : take rowWidth (drop (k * rowWidth) rows) ≡ row
+    seven = let s : k * rowWidth + rowWidth - k * rowWidth ≡ rowWidth = omega arith in rw s refl
 
     some : 1 ≤ length row
-    some = rw (← seven) (omega (arith, length-take-le 7 (drop (k * 7) rows) (omega (arith, length-drop (k * 7) rows))))
+    some = rw (← seven) (omega (arith, length-take-le rowWidth (drop (k * rowWidth) rows) (omega (arith, length-drop (k * rowWidth) rows))))
 
     abbrev further : List (List ℕ)
-    further = closed (rowsIn (count - (k + 1)) (drop ((k + 1) * 7) rows)) number
+    further = closed (rowsIn (count - (k + 1)) (drop ((k + 1) * rowWidth) rows)) number
 
     here : differs 1 (closed (rowsIn count rows) number) listing ≡ differs (k + 1) (row ∷ further) text
     here =
@@ -135,10 +135,10 @@ module _ (listing rows : List ℕ) (count number at k : ℕ) (w : Comparing list
     pub comparing-end : at + n ≤ length listing
     comparing-end = omega (arith, p .within, size, w .within)
 
-pub slice-some : (rows : List ℕ) (k : ℕ) → (k + 1) * 7 ≤ length rows → 1 ≤ length (take (k * 7 + 7 - k * 7) (drop (k * 7) rows))
+pub slice-some : (rows : List ℕ) (k : ℕ) → (k + 1) * rowWidth ≤ length rows → 1 ≤ length (take (k * rowWidth + rowWidth - k * rowWidth) (drop (k * rowWidth) rows))
 slice-some rows k h =
-    let s : k * 7 + 7 - k * 7 ≡ 7 = omega arith in
-    rw s (omega (arith, length-take-le 7 (drop (k * 7) rows) (omega (arith, length-drop (k * 7) rows))))
+    let s : k * rowWidth + rowWidth - k * rowWidth ≡ rowWidth = omega arith in
+    rw s (omega (arith, length-take-le rowWidth (drop (k * rowWidth) rows) (omega (arith, length-drop (k * rowWidth) rows))))
 
 pub ruleset laws = (
   pass-short,

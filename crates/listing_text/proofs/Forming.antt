@@ -14,7 +14,7 @@ use Rattle.text.specs.Scan.{cut}
 use Rattle.text.specs.declared.Place.{Place}
 use Rattle.text.proofs.Laws.{split-last, split-more}
 use Rattle.text.proofs.Judging.{split-some}
-use Rattle.listing_text.specs.Listing.{most, numbersIn, atEnd, lastOf, formOf}
+use Rattle.listing_text.specs.Listing.{rowWidth, most, numbersIn, atEnd, lastOf, formOf}
 use Rattle.listing_text.specs.Steps.{valueOf}
 use Rattle.listing_text.specs.declared.form.Form.{Form}
 use Rattle.listing_text.specs.declared.form.Form.the-variants.{Names, Wrong}
@@ -25,12 +25,12 @@ use Rattle.listing_text.proofs.Decimals.{value-is, value-not}
 -- ---- the numbers of a line, field by field
 pub record Counting (s : List ℕ) (at more : ℕ) : Type 0 where
   pub within : at ≤ length s
-  pub so : numbersIn 7 (fields s) ≡ numbersIn more (fields (drop at s))
+  pub so : numbersIn rowWidth (fields s) ≡ numbersIn more (fields (drop at s))
 
-pub counting-starts : (s : List ℕ) → Counting s 0 7
+pub counting-starts : (s : List ℕ) → Counting s 0 rowWidth
 counting-starts s = record { within = omega arith; so = refl }
 
-pub counting-done : (s : List ℕ) (at more : ℕ) → Counting s at more → more ≤ 0 → false ≡ numbersIn 7 (fields s)
+pub counting-done : (s : List ℕ) (at more : ℕ) → Counting s at more → more ≤ 0 → false ≡ numbersIn rowWidth (fields s)
 counting-done s at more w h =
     let z : more ≡ 0 = omega arith in
     sym (w .so ∙ rw z (some-field (fields (drop at s)) (split-some 9 (drop at s))))
@@ -55,7 +55,7 @@ module _ (s : List ℕ) (at more : ℕ) (w : Counting s at more) (some : 0 < mor
 
   -- the first field and what follows
   module _ (fs : List (List ℕ)) (is : fields rest ≡ take e rest ∷ fs) where
-    counts : numbersIn 7 (fields s) ≡ (upTo most (take e rest) && numbersIn (more - 1) fs)
+    counts : numbersIn rowWidth (fields s) ≡ (upTo most (take e rest) && numbersIn (more - 1) fs)
     counts = w .so ∙ ap (λ (l : List ℕ). numbersIn more (fields l)) (sym left) ∙ counted rest e more fs some is
 
   last-field : e ≡ length rest → fields rest ≡ take e rest ∷ []
@@ -66,13 +66,13 @@ module _ (s : List ℕ) (at more : ℕ) (w : Counting s at more) (some : 0 < mor
       split-more 9 rest (omega (arith, is-cut)) ∙ ap (λ (k : ℕ). take k rest ∷ fields (drop (k + 1) rest)) (sym is-cut)
 
   module _ (r : Value) (reads : r ≡ valueOf (take e rest)) where
-    pub counting-wrong : e ≤ length rest → r ≡ Not → false ≡ numbersIn 7 (fields s)
+    pub counting-wrong : e ≤ length rest → r ≡ Not → false ≡ numbersIn rowWidth (fields s)
     counting-wrong l q = go (eqb e (length rest)) refl
       where
         wrong : upTo most (take e rest) ≡ false
         wrong = value-not (take e rest) r reads q
 
-        go : (b : Bool) → eqb e (length rest) ≡ b → false ≡ numbersIn 7 (fields s)
+        go : (b : Bool) → eqb e (length rest) ≡ b → false ≡ numbersIn rowWidth (fields s)
         go true t = sym (counts [] (last-field (eqb-true e (length rest) t)) ∙ rw wrong refl)
         go false t = sym (counts (fields (drop (e + 1) rest)) (further-field l (eqb-false e (length rest) t)) ∙ rw wrong refl)
 
@@ -80,7 +80,7 @@ module _ (s : List ℕ) (at more : ℕ) (w : Counting s at more) (some : 0 < mor
       number : upTo most (take e rest) ≡ true
       number = value-is (take e rest) r reads v q .0
 
-      pub counting-last : e ≡ length rest → eqb (more - 1) 0 ≡ numbersIn 7 (fields s)
+      pub counting-last : e ≡ length rest → eqb (more - 1) 0 ≡ numbersIn rowWidth (fields s)
       counting-last h = sym (counts [] (last-field h) ∙ rw number (go (more - 1)))
         where
           go : (k : ℕ) → numbersIn k [] ≡ eqb k 0
@@ -108,7 +108,7 @@ module _ (s : List ℕ) (line : ℕ) (r : Value) (reads : r ≡ valueOf s) where
 
 -- ---- line by line
 pub form-line : (n : ℕ) (l : List ℕ) (ls : List (List ℕ)) → (ls ≡ [] → ⊥)
-    → formOf n (l ∷ ls) ≡ cond (atEnd ls) (lastOf n l) (cond (numbersIn 7 (fields l)) (formOf (n + 1) ls) (Wrong n))
+    → formOf n (l ∷ ls) ≡ cond (atEnd ls) (lastOf n l) (cond (numbersIn rowWidth (fields l)) (formOf (n + 1) ls) (Wrong n))
 form-line n l [] h = absurd (h refl)
 form-line n l (m ∷ ms) h = refl
 
@@ -154,7 +154,7 @@ module _ (listing : List ℕ) (p : Place) (w : Forming listing p) (e : ℕ)
   module _ (l : e ≤ length text) (h : e ≡ length text → ⊥) where
     here : formOf 1 (lines listing)
         ≡ cond (atEnd (lines (drop (p .at + e + 1) listing))) (lastOf (p .line) (take e text))
-        (cond (numbersIn 7 (fields (take e text))) (formOf (p .line + 1) (lines (drop (p .at + e + 1) listing))) (Wrong (p .line)))
+        (cond (numbersIn rowWidth (fields (take e text))) (formOf (p .line + 1) (lines (drop (p .at + e + 1) listing))) (Wrong (p .line)))
     here =
         let d : p .at + (e + 1) ≡ p .at + e + 1 = omega arith in
         let s : lines (drop (p .at) listing) ≡ take e text ∷ lines (drop (p .at + e + 1) listing) =
@@ -167,7 +167,7 @@ module _ (listing : List ℕ) (p : Place) (w : Forming listing p) (e : ℕ)
     pub forming-last : (r : Form) → p .at + e + 1 ≡ length listing → r ≡ lastOf (p .line) (take e text) → r ≡ formOf 1 (lines listing)
     forming-last r n q = q ∙ sym (here ∙ rw (done listing (p .at + e + 1) (omega arith)) refl)
 
-    module _ (n : p .at + e + 1 ≡ length listing → ⊥) (b : Bool) (row : b ≡ numbersIn 7 (fields (take e text))) where
+    module _ (n : p .at + e + 1 ≡ length listing → ⊥) (b : Bool) (row : b ≡ numbersIn rowWidth (fields (take e text))) where
       further : atEnd (lines (drop (p .at + e + 1) listing)) ≡ false
       further = end-not (drop (p .at + e + 1) listing) (omega (arith, length-drop (p .at + e + 1) listing, size, w .within))
 

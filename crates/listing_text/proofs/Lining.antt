@@ -14,7 +14,7 @@ use Rattle.rows.specs.Rows.{put}
 use Rattle.rows.proofs.Laws.{sets-append, put-room}
 use Rattle.rows.proofs.Parts.{length-put}
 use Rattle.text.specs.Print.{Every, shown}
-use Rattle.listing_text.specs.Listing.{most, stopOf, lineOf, textOf, closed}
+use Rattle.listing_text.specs.Listing.{rowWidth, most, stopOf, lineOf, textOf, closed}
 use Rattle.listing_text.specs.Steps.{Shows, Small, PutsNumber, Writes, stopBefore, rowsIn, puts, Puts, PutsAll}
 use Rattle.listing_text.specs.declared.numbers.Digits.{Digits}
 
@@ -60,13 +60,13 @@ stop-is (x ∷ xs) = rw (ne-eqb (suc (length xs)) 0 (λ e. omega arith))
 -- ---- a line, number by number
 pub record Lining (numbers line₀ line : List ℕ) (at i : ℕ) : Type 0 where
   pub within : i ≤ length numbers
-  pub size : length line ≡ 147
+  pub size : length line ≡ rowWidth * 21
   pub rest : sets line at (lineOf (drop i numbers)) ≡ sets line₀ 0 (lineOf numbers)
   pub count : at + length (lineOf (drop i numbers)) ≡ length (lineOf numbers)
   pub few : at ≤ 21 * i
   pub small : Small (drop i numbers) → Small numbers
 
-pub lining-starts : (numbers line : List ℕ) → length line ≡ 147 → Lining numbers line line 0 0
+pub lining-starts : (numbers line : List ℕ) → length line ≡ rowWidth * 21 → Lining numbers line line 0 0
 lining-starts numbers line h =
     record { within = omega arith; size = h; rest = refl; count = omega arith; few = omega arith; small = λ s. s }
 
@@ -77,7 +77,7 @@ module _ (numbers line₀ line : List ℕ) (at i : ℕ) (w : Lining numbers line
   abbrev xs : List ℕ
   xs = drop (i + 1) numbers
 
-  pub lining-room : length numbers ≤ 7 → at + 21 ≤ length line
+  pub lining-room : length numbers ≤ rowWidth → at + 21 ≤ length line
   lining-room h = omega (arith, w .few, w .size)
 
   pub lining-more : (stop r : ℕ) (line′ : List ℕ) → PutsNumber x stop line at r line′ → stop ≡ stopBefore (length numbers - (i + 1))
@@ -98,7 +98,7 @@ module _ (numbers line₀ line : List ℕ) (at i : ℕ) (w : Lining numbers line
         small = λ m. w .small (rw e (p .fits, m));
       }
 
-pub lining-done : (numbers line₀ line : List ℕ) (at i : ℕ) → Lining numbers line₀ line at i → length numbers ≤ i → length numbers ≤ 7
+pub lining-done : (numbers line₀ line : List ℕ) (at i : ℕ) → Lining numbers line₀ line at i → length numbers ≤ i → length numbers ≤ rowWidth
     → Writes numbers line₀ at line
 lining-done numbers line₀ line at i w h seven =
     let e : drop i numbers ≡ [] = done numbers i h in
@@ -110,15 +110,15 @@ lining-done numbers line₀ line at i w h seven =
     }
 
 -- ---- a line in a buffer
-pub line-front : (numbers line₀ : List ℕ) (n : ℕ) (line : List ℕ) → Writes numbers line₀ n line → length line₀ ≡ 147 → take n line ≡ lineOf numbers
+pub line-front : (numbers line₀ : List ℕ) (n : ℕ) (line : List ℕ) → Writes numbers line₀ n line → length line₀ ≡ rowWidth * 21 → take n line ≡ lineOf numbers
 line-front numbers line₀ n line w size =
     let room : 0 + length (lineOf numbers) ≤ length line₀ = omega (arith, w .count, w .few) in
     rw (w .says, sets-eq (lineOf numbers) line₀ 0 room) (take-at (lineOf numbers) _ n (sym (w .count)))
 
-pub line-count : (numbers line₀ : List ℕ) (n : ℕ) (line : List ℕ) → Writes numbers line₀ n line → length line ≡ 147 → n ≡ length (take n line)
+pub line-count : (numbers line₀ : List ℕ) (n : ℕ) (line : List ℕ) → Writes numbers line₀ n line → length line ≡ rowWidth * 21 → n ≡ length (take n line)
 line-count numbers line₀ n line w size = sym (length-take-le n line (omega (arith, w .few)))
 
-pub line-put : (numbers line₀ : List ℕ) (n : ℕ) (line b : List ℕ) (at : ℕ) (b′ : List ℕ) → Writes numbers line₀ n line → length line₀ ≡ 147
+pub line-put : (numbers line₀ : List ℕ) (n : ℕ) (line b : List ℕ) (at : ℕ) (b′ : List ℕ) → Writes numbers line₀ n line → length line₀ ≡ rowWidth * 21
     → b′ ≡ put b at (take n line)
     → Puts numbers b at (at + n) b′
 line-put numbers line₀ n line b at b′ w size e =
@@ -133,10 +133,10 @@ line-put numbers line₀ n line b at b′ w size e =
 pub record Filling (rows : List ℕ) (count number : ℕ) (b₀ b : List ℕ) (at k : ℕ) : Type 0 where
   pub within : k ≤ count
   pub size : length b ≡ length b₀
-  pub rest : puts b at (closed (rowsIn (count - k) (drop (k * 7) rows)) number) ≡ puts b₀ 0 (closed (rowsIn count rows) number)
-  pub total : at + length (textOf (closed (rowsIn (count - k) (drop (k * 7) rows)) number)) ≡ length (textOf (closed (rowsIn count rows) number))
-  pub few : at ≤ 147 * k
-  pub small : Every Small (closed (rowsIn (count - k) (drop (k * 7) rows)) number) → Every Small (closed (rowsIn count rows) number)
+  pub rest : puts b at (closed (rowsIn (count - k) (drop (k * rowWidth) rows)) number) ≡ puts b₀ 0 (closed (rowsIn count rows) number)
+  pub total : at + length (textOf (closed (rowsIn (count - k) (drop (k * rowWidth) rows)) number)) ≡ length (textOf (closed (rowsIn count rows) number))
+  pub few : at ≤ rowWidth * 21 * k
+  pub small : Every Small (closed (rowsIn (count - k) (drop (k * rowWidth) rows)) number) → Every Small (closed (rowsIn count rows) number)
 
 pub filling-starts : (rows : List ℕ) (count number : ℕ) (b : List ℕ) → Filling rows count number b b 0 0
 filling-starts rows count number b =
@@ -145,32 +145,32 @@ filling-starts rows count number b =
 
 -- the rows from row k on
 pub rows-next : (rows : List ℕ) (count k : ℕ) → k < count
-    → rowsIn (count - k) (drop (k * 7) rows) ≡ take 7 (drop (k * 7) rows) ∷ rowsIn (count - (k + 1)) (drop ((k + 1) * 7) rows)
+    → rowsIn (count - k) (drop (k * rowWidth) rows) ≡ take rowWidth (drop (k * rowWidth) rows) ∷ rowsIn (count - (k + 1)) (drop ((k + 1) * rowWidth) rows)
 rows-next rows count k h =
     let e : count - k ≡ suc (count - (k + 1)) = omega arith in
-    let d : k * 7 + 7 ≡ (k + 1) * 7 = omega arith in
-    rw (e, drop-drop 7 (k * 7) rows, d) refl
+    let d : k * rowWidth + rowWidth ≡ (k + 1) * rowWidth = omega arith in
+    rw (e, drop-drop rowWidth (k * rowWidth) rows, d) refl
 
-pub rows-none : (rows : List ℕ) (count k : ℕ) → count ≤ k → rowsIn (count - k) (drop (k * 7) rows) ≡ []
+pub rows-none : (rows : List ℕ) (count k : ℕ) → count ≤ k → rowsIn (count - k) (drop (k * rowWidth) rows) ≡ []
 rows-none rows count k h = let e : count - k ≡ 0 = omega arith in rw e refl
 
 module _ (rows : List ℕ) (count number : ℕ) (b₀ b : List ℕ) (at k : ℕ) (w : Filling rows count number b₀ b at k) where
   pub filling-few : count ≤ 128 → at < 65536
   filling-few h = omega (arith, w .few, w .within)
 
-  pub filling-more : (r : ℕ) (b′ : List ℕ) → Puts (take (k * 7 + 7 - k * 7) (drop (k * 7) rows)) b at r b′ → k < count
+  pub filling-more : (r : ℕ) (b′ : List ℕ) → Puts (take (k * rowWidth + rowWidth - k * rowWidth) (drop (k * rowWidth) rows)) b at r b′ → k < count
       → Filling rows count number b₀ b′ r (k + 1)
   filling-more r b′ p h =
-      let s : k * 7 + 7 - k * 7 ≡ 7 = omega arith in
-      let q : Puts (take 7 (drop (k * 7) rows)) b at r b′ = rw s at p in
-      let line : List ℕ = lineOf (take 7 (drop (k * 7) rows)) in
+      let s : k * rowWidth + rowWidth - k * rowWidth ≡ rowWidth = omega arith in
+      let q : Puts (take rowWidth (drop (k * rowWidth) rows)) b at r b′ = rw s at p in
+      let line : List ℕ = lineOf (take rowWidth (drop (k * rowWidth) rows)) in
       let e = rows-next rows count k h in
-      let rest : List (List ℕ) = closed (rowsIn (count - (k + 1)) (drop ((k + 1) * 7) rows)) number in
-      let n : at + (length (lineOf (take 7 (drop (k * 7) rows))) + length (textOf rest)) ≡ length (textOf (closed (rowsIn count rows) number)) =
+      let rest : List (List ℕ) = closed (rowsIn (count - (k + 1)) (drop ((k + 1) * rowWidth) rows)) number in
+      let n : at + (length (lineOf (take rowWidth (drop (k * rowWidth) rows))) + length (textOf rest)) ≡ length (textOf (closed (rowsIn count rows) number)) =
       rw (e, length-append) at (w .total) in
       record {
         within = omega arith;
-        size = ap length (q .says) ∙ length-put b at (lineOf (take 7 (drop (k * 7) rows))) ∙ w .size;
+        size = ap length (q .says) ∙ length-put b at (lineOf (take rowWidth (drop (k * rowWidth) rows))) ∙ w .size;
         rest = rw (q .says, q .count) (rw e at (w .rest));
         total = omega (arith, q .count);
         few = omega (arith, w .few, q .few);
@@ -187,11 +187,11 @@ module _ (rows : List ℕ) (count number : ℕ) (b₀ b : List ℕ) (at k : ℕ)
         small = w .small (rw e (p .small, tt));
       }
 
-pub slice-seven : (rows : List ℕ) (k : ℕ) → (k + 1) * 7 ≤ length rows → length (take (k * 7 + 7 - k * 7) (drop (k * 7) rows)) ≤ 7
+pub slice-seven : (rows : List ℕ) (k : ℕ) → (k + 1) * rowWidth ≤ length rows → length (take (k * rowWidth + rowWidth - k * rowWidth) (drop (k * rowWidth) rows)) ≤ rowWidth
 slice-seven rows k h =
-    let s : k * 7 + 7 - k * 7 ≡ 7 = omega arith in
-    let n : length (drop (k * 7) rows) ≡ length rows - k * 7 = length-drop (k * 7) rows in
-    rw s (omega (arith, length-take-le 7 (drop (k * 7) rows) (omega arith)))
+    let s : k * rowWidth + rowWidth - k * rowWidth ≡ rowWidth = omega arith in
+    let n : length (drop (k * rowWidth) rows) ≡ length rows - k * rowWidth = length-drop (k * rowWidth) rows in
+    rw s (omega (arith, length-take-le rowWidth (drop (k * rowWidth) rows) (omega arith)))
 
 pub ruleset laws = (
   number-put,

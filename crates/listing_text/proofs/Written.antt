@@ -14,7 +14,7 @@ use Rattle.text.specs.Text.{split, lines, fields, without, same, worth, upTo}
 use Rattle.text.specs.Print.{Every, Clean, shown, joined}
 use Rattle.text.proofs.Judging.{split-some}
 use Rattle.text.proofs.Printing.{shown-up-to, shown-worth, clean-shown, split-joined, without-joined, joined-split, split-long, split-without, same-is}
-use Rattle.listing_text.specs.Listing.{most, stopOf, lineOf, textOf, closed, listingOf, numbersIn, atEnd, lastOf, formOf, begins, differs}
+use Rattle.listing_text.specs.Listing.{rowWidth, most, stopOf, lineOf, textOf, closed, listingOf, numbersIn, atEnd, lastOf, formOf, begins, differs}
 use Rattle.listing_text.specs.Steps.{Small, rowsIn, puts}
 use Rattle.listing_text.specs.declared.form.Form.{Form}
 use Rattle.listing_text.specs.declared.form.Form.the-variants.{Names, Wrong}
@@ -22,11 +22,11 @@ use Rattle.listing_text.proofs.Forming.{form-line, end-not}
 use Rattle.listing_text.proofs.Differing.{line-some}
 
 -- ---- the rows that are read of a table in which rows are laid
-pub rows-laid : (rs : List (List ℕ)) (rest : List ℕ) → Wide 7 rs → rowsIn (length rs) (flat rs ++ rest) ≡ rs
+pub rows-laid : (rs : List (List ℕ)) (rest : List ℕ) → Wide rowWidth rs → rowsIn (length rs) (flat rs ++ rest) ≡ rs
 rows-laid [] rest w = refl
 rows-laid (r ∷ rs) rest w =
     let e : flat (r ∷ rs) ++ rest ≡ r ++ (flat rs ++ rest) = append-assoc r (flat rs) rest in
-    rw (e, take-at r (flat rs ++ rest) 7 (w .0), drop-at r (flat rs ++ rest) 7 (w .0), rows-laid rs rest (w .1)) refl
+    rw (e, take-at r (flat rs ++ rest) rowWidth (w .0), drop-at r (flat rs ++ rest) rowWidth (w .0), rows-laid rs rest (w .1)) refl
 
 -- ---- the bytes of lines that are written one after the other
 pub puts-all : (b : List ℕ) (at : ℕ) (rs : List (List ℕ)) → at + length (textOf rs) ≤ length b → puts b at rs ≡ sets b at (textOf rs)
@@ -89,7 +89,7 @@ last-form k m = ap (formOf k) (line-lines (m ∷ []) [] (omega arith))
 
 row-form : (k m : ℕ) (r : List ℕ) (rs : List (List ℕ)) → 1 ≤ length r
     → formOf k (lines (textOf (closed (r ∷ rs) m)))
-    ≡ cond (numbersIn 7 (fields (joined 9 (cells r)))) (formOf (k + 1) (lines (textOf (closed rs m)))) (Wrong k)
+    ≡ cond (numbersIn rowWidth (fields (joined 9 (cells r)))) (formOf (k + 1) (lines (textOf (closed rs m)))) (Wrong k)
 row-form k m r rs h =
     let rest : List ℕ = textOf (closed rs m) in
     ap (formOf k) (line-lines r (textOf (closed rs m)) h)
@@ -97,14 +97,14 @@ row-form k m r rs h =
     ∙ rw (end-not (textOf (closed rs m)) (text-some rs m)) refl
 
 -- it names the number that was written
-pub names-written : (k m n last : ℕ) (rows : List (List ℕ)) → Wide 7 rows → formOf k (lines (listingOf rows m)) ≡ Names n last → n ≡ m
+pub names-written : (k m n last : ℕ) (rows : List (List ℕ)) → Wide rowWidth rows → formOf k (lines (listingOf rows m)) ≡ Names n last → n ≡ m
 names-written k m n last [] w e = go (upTo most (shown m)) (sym (last-form k m) ∙ e)
   where
     go : (b : Bool) → cond b (Names (worth 0 (shown m)) k) (Wrong k) ≡ Names n last → n ≡ m
     go true q = let z : worth 0 (shown m) ≡ n = cc in sym z ∙ shown-worth m
     go false q = absurd (let z : _≡_ {A = ℕ} 0 1 = cc in omega arith)
 names-written k m n last (r ∷ rs) w e =
-    go (numbersIn 7 (fields (joined 9 (cells r)))) (sym (row-form k m r rs (omega (arith, w .0))) ∙ e) (names-written (k + 1) m n last rs (w .1))
+    go (numbersIn rowWidth (fields (joined 9 (cells r)))) (sym (row-form k m r rs (omega (arith, w .0))) ∙ e) (names-written (k + 1) m n last rs (w .1))
   where
     go : (b : Bool) → cond b (formOf (k + 1) (lines (textOf (closed rs m)))) (Wrong k) ≡ Names n last
         → (formOf (k + 1) (lines (textOf (closed rs m))) ≡ Names n last → n ≡ m) → n ≡ m
@@ -116,7 +116,7 @@ numbers-shown [] s = refl
 numbers-shown (x ∷ xs) s = rw (shown-up-to most x (s .0)) (numbers-shown xs (s .1))
 
 -- and is of the form, where the numbers are small enough
-pub form-written : (k m : ℕ) (rows : List (List ℕ)) → Wide 7 rows → Every Small (closed rows m)
+pub form-written : (k m : ℕ) (rows : List (List ℕ)) → Wide rowWidth rows → Every Small (closed rows m)
     → formOf k (lines (listingOf rows m)) ≡ Names m (k + length rows)
 form-written k m [] w s =
     let e : k + 0 ≡ k = omega arith in
@@ -124,8 +124,8 @@ form-written k m [] w s =
 form-written k m (r ∷ rs) w s =
     let some : 1 ≤ length r = omega (arith, w .0) in
     let f : fields (joined 9 (cells r)) ≡ cells r = split-joined 9 (cells r) (cells-some r some) (no-tabs (cells r) (cells-clean r)) in
-    let g : numbersIn 7 (fields (joined 9 (cells r))) ≡ true =
-    ap (numbersIn 7) f ∙ ap (λ (n : ℕ). numbersIn n (cells r)) (sym (w .0)) ∙ numbers-shown r (s .0) in
+    let g : numbersIn rowWidth (fields (joined 9 (cells r))) ≡ true =
+    ap (numbersIn rowWidth) f ∙ ap (λ (n : ℕ). numbersIn n (cells r)) (sym (w .0)) ∙ numbers-shown r (s .0) in
     let e : k + 1 + length rs ≡ k + suc (length rs) = omega arith in
     row-form k m r rs some ∙ rw g (form-written (k + 1) m rs (w .1) (s .1)) ∙ ap (Names m) e
   where

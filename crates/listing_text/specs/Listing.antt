@@ -10,6 +10,10 @@ use Rattle.listing_text.specs.declared.form.Form.the-variants.{Names, Wr
 
 -- ---- LS1: the text
 
+-- LS1, H18: the numbers of a row
+abbrev pub rowWidth : ℕ
+rowWidth = 7
+
 -- the byte behind a number that these numbers follow: a tab, or the line's end behind the last
 abbrev pub stopOf : List ℕ → ℕ
 stopOf [] = 0x0a
@@ -62,7 +66,7 @@ lastOf n l = cond (upTo most l) (Names (worth 0 l) n) (Wrong n)
 abbrev pub formOf : ℕ → List (List ℕ) → Form
 formOf n [] = Wrong n
 formOf n (l ∷ []) = Wrong n
-formOf n (l ∷ m ∷ ms) = cond (atEnd (m ∷ ms)) (lastOf n l) (cond (numbersIn 7 (fields l)) (formOf (n + 1) (m ∷ ms)) (Wrong n))
+formOf n (l ∷ m ∷ ms) = cond (atEnd (m ∷ ms)) (lastOf n l) (cond (numbersIn rowWidth (fields l)) (formOf (n + 1) (m ∷ ms)) (Wrong n))
 
 -- ---- LS3: the first line that differs
 

@@ -1,5 +1,5 @@
 -- What the steps of reading, writing and comparing a listing answer.
-use Prim.Native.Nat.{ℕ, zero, suc, _+_, _≤_, _<_}
+use Prim.Native.Nat.{ℕ, zero, suc, _+_, _≤_, _<_, _*_}
 use mathlib.Core.Bool.{Bool, cond, _&&_}
 use mathlib.Core.Path.{_≡_}
 use mathlib.Core.List.{List, [], _∷_, _++_}
@@ -12,7 +12,7 @@ use Rattle.text.specs.Print.{Every, shown}
 use Rattle.listing_text.specs.declared.numbers.Digits.{Digits}
 use Rattle.listing_text.specs.declared.numbers.Value.{Value}
 use Rattle.listing_text.specs.declared.numbers.Value.the-variants.{Is, Not}
-use Rattle.listing_text.specs.Listing.{most, lineOf, textOf, begins}
+use Rattle.listing_text.specs.Listing.{rowWidth, most, lineOf, textOf, begins}
 
 -- LS2: the number that l says
 abbrev pub valueOf : List ℕ → Value
@@ -44,7 +44,7 @@ pub record PutsNumber (n stop : ℕ) (line : List ℕ) (at r : ℕ) (line′ : L
 pub record Writes (numbers line : List ℕ) (r : ℕ) (line′ : List ℕ) : Type 0 where
   pub says : line′ ≡ sets line 0 (lineOf numbers)
   pub count : r ≡ length (lineOf numbers)
-  pub few : r ≤ 147
+  pub few : r ≤ rowWidth * 21
   pub small : Small numbers
 
 -- the byte behind a number that so many numbers follow
@@ -59,7 +59,7 @@ pub record Passes (numbers s : List ℕ) (r : ℕ) : Type 0 where
 -- the first n rows of a table, seven numbers each
 abbrev pub rowsIn : ℕ → List ℕ → List (List ℕ)
 rowsIn zero t = []
-rowsIn (suc n) t = take 7 t ∷ rowsIn n (drop 7 t)
+rowsIn (suc n) t = take rowWidth t ∷ rowsIn n (drop rowWidth t)
 
 -- the buffer with lines written from a place on, each if there is room for it
 abbrev pub puts : List ℕ → ℕ → List (List ℕ) → List ℕ
@@ -70,7 +70,7 @@ puts b at (r ∷ rs) = puts (put b at (lineOf r)) (at + length (lineOf r)) rs
 pub record Puts (numbers b : List ℕ) (at r : ℕ) (b′ : List ℕ) : Type 0 where
   pub says : b′ ≡ put b at (lineOf numbers)
   pub count : r ≡ at + length (lineOf numbers)
-  pub few : r ≤ at + 147
+  pub few : r ≤ at + rowWidth * 21
   pub small : Small numbers
 
 -- all lines are written, each if there is room for it, and have r bytes

@@ -1,11 +1,12 @@
 // The form of a listing.
+use crate::lines::ROW_WIDTH;
 use crate::numbers::Value;
 use crate::numbers::read_value;
 use text::Place;
 use text::find;
 ghost use mathlib.Core.Path.{_≡_};
 ghost use Rattle.text.specs.Text.{lines, fields};
-ghost use Rattle.listing_text.specs.Listing.{numbersIn, lastOf, formOf};
+ghost use Rattle.listing_text.specs.Listing.{rowWidth, numbersIn, lastOf, formOf};
 
 // What a listing says by its form.
 pub enum Form {
@@ -15,12 +16,12 @@ pub enum Form {
     Wrong(usize),
 }
 
-// Are the fields of a line seven numbers?
+// Are the fields of a line the numbers of a row?
 fn is_row(s: &[u8]) -> bool
-    ensures { λ r. ⌜ r ≡ numbersIn 7 (fields (now (s .entry))) ⌝ }
+    ensures { λ r. ⌜ r ≡ numbersIn rowWidth (fields (now (s .entry))) ⌝ }
 {
     let mut at = 0;
-    let mut more: usize = 7;
+    let mut more: usize = ROW_WIDTH;
     while 0 < more {
         let rest = &s[at..];
         let e = find(rest, 9);

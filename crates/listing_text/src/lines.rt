@@ -4,14 +4,14 @@ ghost use mathlib.Core.Path.{_≡_};
 ghost use Prim.Native.Nat.{_+_, _*_, _≤_, _<_};
 ghost use lib.ListN.{length};
 ghost use Rattle.rows.specs.Rows.{put};
-ghost use Rattle.listing_text.specs.Listing.{closed};
+ghost use Rattle.listing_text.specs.Listing.{rowWidth, closed};
 ghost use Rattle.listing_text.specs.Steps.{PutsNumber, stopBefore, Writes, rowsIn, Puts, PutsAll};
 
-// The numbers of a row.
-pub const ROW: usize = 7;
+// The numbers of a row: those of H18 (docs/RULES.md).
+pub const ROW_WIDTH: usize = 7;
 
 // The longest line: the numbers of a row, twenty digits each, and a byte behind each.
-pub const LONGEST: usize = ROW * 21;
+pub const LONGEST: usize = ROW_WIDTH * 21;
 
 // Writes bytes at a place of the buffer, if it has room there; else writes nothing.
 fn put_bytes(buffer: &mut [u8], at: usize, bytes: &[u8])
@@ -53,7 +53,7 @@ fn stop_before(more: usize) -> u8
 
 // Writes the line of these numbers in front, and answers how many bytes it has.
 pub fn write_line(numbers: &[u64], line: &mut [u8]) -> usize
-    requires { ⌜ (length (now numbers) ≤ 7) × (length (now line) ≡ 147) ⌝ }
+    requires { ⌜ (length (now numbers) ≤ rowWidth) × (length (now line) ≡ rowWidth * 21) ⌝ }
     ensures { λ r. ⌜ Writes (now (numbers .entry)) (now (line .entry)) r (now (line .exit)) ⌝ }
 {
     let mut at = 0;
@@ -68,7 +68,7 @@ pub fn write_line(numbers: &[u64], line: &mut [u8]) -> usize
 
 // Writes the line of these numbers at a place of the buffer, if it has room there; answers the place behind.
 fn put_line(numbers: &[u64], buffer: &mut [u8], at: usize) -> usize
-    requires { ⌜ (length (now numbers) ≤ 7) × (at < 65536) ⌝ }
+    requires { ⌜ (length (now numbers) ≤ rowWidth) × (at < 65536) ⌝ }
     ensures { λ r. ⌜ Puts (now (numbers .entry)) (now (buffer .entry)) at r (now (buffer .exit)) ⌝ }
 {
     let mut line = [0u8; LONGEST];
@@ -79,14 +79,14 @@ fn put_line(numbers: &[u64], buffer: &mut [u8], at: usize) -> usize
 
 // Writes the listing of the first rows of a table and of a header's number, each line if the buffer has room for it; answers how many bytes it has.
 pub fn put_lines(rows: &[u64], count: usize, number: u64, buffer: &mut [u8]) -> usize
-    requires { ⌜ (count ≤ 128) × (count * 7 ≤ length (now rows)) ⌝ }
+    requires { ⌜ (count ≤ 128) × (count * rowWidth ≤ length (now rows)) ⌝ }
     ensures { λ r. ⌜ PutsAll (closed (rowsIn count (now (rows .entry))) number) (now (buffer .entry)) r (now (buffer .exit)) ⌝ }
 {
     let mut at = 0;
     let mut k: usize = 0;
     while k < count {
-        let a = k * ROW;
-        let e = a + ROW;
+        let a = k * ROW_WIDTH;
+        let e = a + ROW_WIDTH;
         at = put_line(&rows[a..e], buffer, at);
         k += 1;
     }

@@ -4,18 +4,18 @@ use answer::put_named;
 use answer::put_refusal;
 use answer::put_value;
 use answer::table::MOST_ROWS;
-use header_nodes::header_nodes;
-use node_mask::Listed;
+use libtap::TapAnswer;
+use libtap::nodes::tap_header_nodes;
 use request::Both;
 use request::Leading;
 use request::read_both;
 use request::read_leading;
 use writer::Buffer;
 use writer::put;
-ghost use mathlib.Core.Path.{_≡_};
 ghost use Prim.Native.Nat.{_≤_};
 ghost use lib.ListN.{length};
-ghost use Rattle.node_requests.specs.Nodes.{Leads, Stand};
+ghost use Rattle.libtap.specs.Answers.{Stands};
+ghost use Rattle.node_requests.specs.Nodes.{Leads};
 
 // What every entry of a table is before a call.
 const FRESH: u16 = 0xA5A5;
@@ -83,20 +83,23 @@ fn put_nodes(out: &mut Buffer, used: usize, nodes: &[u16]) -> usize {
 }
 
 // What a call answers, and the table that it was lent.
-fn put_listed(out: &mut Buffer, used: usize, word: &[u8], listed: Listed, nodes: &[u16]) -> usize
-    requires { ⌜ Stand (now nodes) listed ⌝ }
+fn put_listed(
+    out: &mut Buffer,
+    used: usize,
+    word: &[u8],
+    listed: TapAnswer,
+    nodes: &[u16],
+) -> usize
+    requires { ⌜ Stands (now nodes) listed ⌝ }
 {
-    match listed {
-        Listed::Nodes(n) => {
-            let m = put_named(out, used, word, n as u64);
-            let e = put_nodes(out, m, &nodes[..n]);
-            put_touched(out, e, &nodes[n..])
-        }
-        Listed::Refused(refusal) => {
-            let m = put_refusal(out, used, refusal);
-            put_touched(out, m, nodes)
-        }
+    if listed.refusal != 0 {
+        let m = put_refusal(out, used, listed.refusal, listed.value);
+        return put_touched(out, m, nodes);
     }
+    let n = listed.value as usize;
+    let m = put_named(out, used, word, listed.value);
+    let e = put_nodes(out, m, &nodes[..n]);
+    put_touched(out, e, &nodes[n..])
 }
 
 fn list_header(
@@ -107,7 +110,7 @@ fn list_header(
     out: &mut Buffer,
     used: usize,
 ) -> usize {
-    let listed = header_nodes(text, mpdu, asked.region, asked.speed, asked.row, nodes);
+    let listed = tap_header_nodes(text, mpdu, asked.region, asked.speed, asked.row, nodes);
     put_listed(out, used, b"headernodes", listed, nodes)
 }
 

@@ -1,19 +1,9 @@
 -- Laws of what lies in the lent buffers from request to request. Assumes nothing.
-use mathlib.Core.Path.{_≡_, refl, sym, _∙_}
-use mathlib.Core.Bool.{Bool, true, false, cond}
+use mathlib.Core.Path.{_≡_}
 use mathlib.Core.List.{List}
 use Prim.Native.Nat.{ℕ, _+_, _-_, _*_, _^_, _≤_, _<_}
 use native.Mathlib.Omega.{arith}
-use lib.Dec.{leb}
 use lib.ListN.{length, take, drop, length-drop}
-use borrow.Author.Tests.{leb-true}
-use Rattle.refusal.specs.declared.Refusal.the-variants.{MoreBytes}
-use Rattle.text.specs.declared.Verdict.{Verdict}
-use Rattle.text.specs.declared.Verdict.the-variants.{Accepted, Refused as Unfit}
-use Rattle.command_text.specs.Rules.{verdict}
-use Rattle.tidy.specs.Tidy.{answerIn, answerBy, Tidies}
-use Rattle.tidy.specs.declared.Tidied.{Tidied}
-use Rattle.tidy.specs.declared.Tidied.the-variants.{Length, Refused}
 use mir.Syntax.{w64}
 use mir.Val.{Fits}
 use Rattle.laws.proofs.Lists.{tail}
@@ -21,7 +11,6 @@ use Rattle.request.specs.declared.Leading.{Leading}
 use Rattle.request.specs.declared.Leading.the-variants.{Is as Leads}
 use Rattle.request.specs.Request.{leadingOf}
 use Rattle.request.proofs.Laws.{leading-inside}
-use Rattle.pti.proofs.Laws.{rows-room}
 use Rattle.screen.specs.declared.FrameRecord.{FrameRecord}
 use Rattle.screen.proofs.Laws.{fillable-bounds}
 use Rattle.replay.specs.declared.frame_table.FrameTable.{FrameTable}
@@ -103,19 +92,7 @@ named-fits words at next r v in-words short is e =
 pub named-rest : (words : List ℕ) (r : By) (firmware at : ℕ) → Named words r → r ≡ Firmware firmware at → at ≤ length words
 named-rest words r firmware at told is = rw is at told
 
--- ---- a tidied text lies in the buffer
-pub tidied-inside : (t b : List ℕ) (r : Tidied) (b′ : List ℕ) (n : ℕ) → Tidies t b r b′ → r ≡ Length n → length b′ ≡ length b → n ≤ length b′
-tidied-inside t b r b′ n told is same = rw same (go (verdict t) (sym is ∙ told .answer))
-  where
-    by-room : (x : Bool) → leb (length t) (length b) ≡ x → Length n ≡ cond x (Length (length t)) (Refused (MoreBytes (length t))) → n ≤ length b
-    by-room true q e = let same-length : n ≡ length t = cc in omega (arith, leb-true (length t) (length b) q)
-    by-room false q e = absurd (let z : _≡_ {A = ℕ} 0 1 = cc in omega arith)
-
-    go : (v : Verdict) → Length n ≡ answerBy v (answerIn (length t) (length b)) → n ≤ length b
-    go Accepted e = by-room (leb (length t) (length b)) refl e
-    go (Unfit x) e = absurd (let z : _≡_ {A = ℕ} 0 1 = cc in omega arith)
-
--- as many records as are filled stand in the table of frame records
+-- ---- as many records as are filled stand in the table of frame records
 pub filled-inside : (records : List FrameRecord) (rows₀ rows : List ℕ) (n lent : ℕ) (t : FrameTable) → FilledFirst records rows₀ n lent t
     → length rows ≡ length rows₀ → t .filled * rowWidth ≤ length rows
 filled-inside records rows₀ rows n lent t p same = omega (arith, p .count, fillable-bounds n lent (length rows₀))
@@ -139,9 +116,6 @@ pub ruleset serve-laws = (
   named-some,
   named-fits,
   named-rest,
-  rows-room,
   filled-inside,
   goes-in,
 )
-
-pub ruleset tidy-laws = (tidied-inside)

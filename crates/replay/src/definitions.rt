@@ -5,25 +5,25 @@ use answer::put_refusal;
 use answer::table::BYTE;
 use answer::table::MOST_BYTES;
 use answer::table::put_touched_bytes;
-use command_text::check_command_text;
-use frame_text::check_frame_text;
+use libtap::TapAnswer;
+use libtap::texts::tap_check_command_text;
+use libtap::texts::tap_check_frame_text;
+use libtap::texts::tap_tidy_command_text;
 use request::Bytes;
 use request::Leading;
 use request::read_bytes;
 use request::read_leading;
-use text::Verdict;
-use tidy::Tidied;
-use tidy::tidy_command_text;
 use writer::Buffer;
 use writer::put;
 ghost use Prim.Native.Nat.{_≤_};
 ghost use lib.ListN.{length};
+ghost use Rattle.libtap.specs.Answers.{Stands};
 
-fn put_verdict(out: &mut Buffer, used: usize, verdict: Verdict) -> usize {
-    match verdict {
-        Verdict::Accepted => put(out, used, b"accepted"),
-        Verdict::Refused(refusal) => put_refusal(out, used, refusal),
+fn put_verdict(out: &mut Buffer, used: usize, verdict: TapAnswer) -> usize {
+    if verdict.refusal != 0 {
+        return put_refusal(out, used, verdict.refusal, verdict.value);
     }
+    put(out, used, b"accepted")
 }
 
 // `frametext TEXT`
@@ -31,7 +31,7 @@ pub fn frametext(words: &[u8], bytes: &mut [u8], out: &mut Buffer, used: usize) 
     let Bytes::Are(n) = read_bytes(words, bytes) else {
         return Answer::Bad;
     };
-    let verdict = check_frame_text(&bytes[..n]);
+    let verdict = tap_check_frame_text(&bytes[..n]);
     Answer::Put(put_verdict(out, used, verdict))
 }
 
@@ -40,7 +40,7 @@ pub fn commandtext(words: &[u8], bytes: &mut [u8], out: &mut Buffer, used: usize
     let Bytes::Are(n) = read_bytes(words, bytes) else {
         return Answer::Bad;
     };
-    let verdict = check_command_text(&bytes[..n]);
+    let verdict = tap_check_command_text(&bytes[..n]);
     Answer::Put(put_verdict(out, used, verdict))
 }
 
@@ -54,14 +54,19 @@ fn put_text(out: &mut Buffer, used: usize, buffer: &[u8], n: usize) -> usize
 }
 
 // The tidied text, or a refusal, after which nothing may have been written to the buffer.
-fn put_tidied(text: &[u8], buffer: &mut [u8], out: &mut Buffer, used: usize) -> usize {
-    match tidy_command_text(text, buffer) {
-        Tidied::Length(n) => put_text(out, used, buffer, n),
-        Tidied::Refused(refusal) => {
-            let m = put_refusal(out, used, refusal);
-            put_touched_bytes(out, m, buffer)
-        }
+fn put_tidied(out: &mut Buffer, used: usize, tidied: TapAnswer, buffer: &[u8]) -> usize
+    requires { ⌜ Stands (now buffer) tidied ⌝ }
+{
+    if tidied.refusal != 0 {
+        let m = put_refusal(out, used, tidied.refusal, tidied.value);
+        return put_touched_bytes(out, m, buffer);
     }
+    put_text(out, used, buffer, tidied.value as usize)
+}
+
+fn answer_tidy(text: &[u8], buffer: &mut [u8], out: &mut Buffer, used: usize) -> usize {
+    let tidied = tap_tidy_command_text(text, buffer);
+    put_tidied(out, used, tidied, buffer)
 }
 
 // `tidy CAP TEXT`
@@ -77,5 +82,5 @@ pub fn tidy(words: &[u8], bytes: &mut [u8], out: &mut Buffer, used: usize) -> An
     };
     let room = cap as usize;
     let mut buffer = [BYTE; 196608];
-    Answer::Put(put_tidied(&bytes[..n], &mut buffer[..room], out, used))
+    Answer::Put(answer_tidy(&bytes[..n], &mut buffer[..room], out, used))
 }

@@ -7,12 +7,10 @@ use answer::put_value;
 use answer::table::MOST_ROWS;
 use answer::table::SHORT;
 use answer::table::put_touched_short;
-use pti::parse_payload;
-use pti::payload::Frames;
+use libtap::frames::tap_parse_payload;
 use pti::payload::RECORD;
 use pti::payload::ROW_WIDTH;
 use readers::line_fields::field_of;
-use refusal::Refusal;
 use request::Bytes;
 use request::Leading;
 use request::read_bytes;
@@ -112,22 +110,17 @@ fn answer_frames(
     out: &mut Buffer,
     used: usize,
 ) -> usize {
-    match parse_payload(payload, firmware, rows) {
-        Frames::Rows(n) => {
-            if word == FRAMETABLE {
-                let filled = frame_table(rows, n);
-                return put_frames(out, used, word, named, filled, rows);
-            }
-            put_frames(out, used, word, named, n, rows)
-        }
-        Frames::Refused(refusal) => put_refused(out, used, refusal, rows),
+    let frames = tap_parse_payload(payload, firmware, rows);
+    if frames.refusal != 0 {
+        let n = put_refusal(out, used, frames.refusal, frames.value);
+        return put_touched_short(out, n, rows);
     }
-}
-
-// A refusal, after which nothing may have been written to the table.
-fn put_refused(out: &mut Buffer, used: usize, refusal: Refusal, table: &[u16]) -> usize {
-    let n = put_refusal(out, used, refusal);
-    put_touched_short(out, n, table)
+    let count = frames.value as usize;
+    if word == FRAMETABLE {
+        let filled = frame_table(rows, count);
+        return put_frames(out, used, word, named, filled, rows);
+    }
+    put_frames(out, used, word, named, count, rows)
 }
 
 // The words of the answers.

@@ -1,9 +1,9 @@
 // The requests on single bits and on the checksum of an MPDU.
 use answer::Answer;
 use answer::put_named;
-use bits::Bits;
-use bits::read_bits;
-use crc::check_crc;
+use libtap::headers::TapBits;
+use libtap::headers::tap_check_crc;
+use libtap::headers::tap_read_bits;
 use request::Bytes;
 use request::Leading;
 use request::read_bytes;
@@ -11,11 +11,11 @@ use request::read_leading;
 use writer::Buffer;
 use writer::put;
 
-fn put_bits(out: &mut Buffer, used: usize, answer: Bits) -> usize {
-    match answer {
-        Bits::Value(value) => put_named(out, used, b"bits", value),
-        Bits::Declined => put(out, used, b"bits -"),
+fn put_bits(out: &mut Buffer, used: usize, answer: TapBits) -> usize {
+    if answer.is_read {
+        return put_named(out, used, b"bits", answer.value);
     }
+    put(out, used, b"bits -")
 }
 
 // `bits PLACE WIDTH BYTES`
@@ -30,7 +30,7 @@ pub fn bits(words: &[u8], bytes: &mut [u8], out: &mut Buffer, used: usize) -> An
     let Bytes::Are(n) = read_bytes(&others[from..], bytes) else {
         return Answer::Bad;
     };
-    let answer = read_bits(&bytes[..n], place, width);
+    let answer = tap_read_bits(&bytes[..n], place, width);
     Answer::Put(put_bits(out, used, answer))
 }
 
@@ -42,6 +42,6 @@ pub fn checksum(words: &[u8], bytes: &mut [u8], out: &mut Buffer, used: usize) -
     let Bytes::Are(n) = read_bytes(&words[at..], bytes) else {
         return Answer::Bad;
     };
-    let right = check_crc(&bytes[..n], speed);
+    let right = tap_check_crc(&bytes[..n], speed);
     Answer::Put(put_named(out, used, b"checksum", right as u64))
 }

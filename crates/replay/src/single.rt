@@ -8,16 +8,12 @@ use answer::Answer;
 use answer::put_bytes;
 use answer::put_named;
 use answer::put_refusal;
-use frame::Parsed;
-use frame::PtiFrame;
-use pti::count_records;
-use pti::parse_record;
-use pti::payload::beams_number;
-use pti::payload::direction_number;
-use pti::record_body;
-use pti::speed_for;
-use radio::rssi::byte_of;
-use records::Counted;
+use libtap::TapAnswer;
+use libtap::frames::TapFrame;
+use libtap::frames::tap_count_records;
+use libtap::frames::tap_parse_record;
+use libtap::frames::tap_record_body;
+use libtap::frames::tap_speed_for;
 use request::Bytes;
 use request::Leading;
 use request::Number;
@@ -35,8 +31,15 @@ pub fn rate(words: &[u8], out: &mut Buffer, used: usize) -> Answer {
     let Number::Is(region) = read_number(&words[at..]) else {
         return Answer::Bad;
     };
-    let rate = speed_for(channel as usize, region as usize);
+    let rate = tap_speed_for(channel as usize, region as usize);
     Answer::Put(put_named(out, used, b"rate", rate as u64))
+}
+
+fn put_count(out: &mut Buffer, used: usize, count: TapAnswer) -> usize {
+    if count.refusal != 0 {
+        return put_refusal(out, used, count.refusal, count.value);
+    }
+    put_named(out, used, b"count", count.value)
 }
 
 // `count PAYLOAD`
@@ -44,10 +47,16 @@ pub fn count(words: &[u8], bytes: &mut [u8], out: &mut Buffer, used: usize) -> A
     let Bytes::Are(n) = read_bytes(words, bytes) else {
         return Answer::Bad;
     };
-    match count_records(&bytes[..n]) {
-        Counted::Records(k) => Answer::Put(put_named(out, used, b"count", k as u64)),
-        Counted::Refused(refusal) => Answer::Put(put_refusal(out, used, refusal)),
-    }
+    let count = tap_count_records(&bytes[..n]);
+    Answer::Put(put_count(out, used, count))
+}
+
+fn put_body(out: &mut Buffer, used: usize, payload: &[u8], k: usize) -> usize {
+    let body = tap_record_body(payload, k);
+    let start = body.start as usize;
+    let end = start + body.length as usize;
+    let n = put(out, used, b"body ");
+    put_bytes(out, n, &payload[start..end])
 }
 
 // `body K PAYLOAD`
@@ -58,8 +67,7 @@ pub fn body(words: &[u8], bytes: &mut [u8], out: &mut Buffer, used: usize) -> An
     let Bytes::Are(n) = read_bytes(&words[at..], bytes) else {
         return Answer::Bad;
     };
-    let m = put(out, used, b"body ");
-    Answer::Put(put_bytes(out, m, record_body(&bytes[..n], k as usize)))
+    Answer::Put(put_body(out, used, &bytes[..n], k as usize))
 }
 
 // `record BODY` and `recordby FIRMWARE READING BODY`
@@ -76,26 +84,25 @@ pub fn record(
     let Bytes::Are(n) = read_bytes(&words[at..], bytes) else {
         return Answer::Bad;
     };
-    match parse_record(&bytes[..n], firmware) {
-        Parsed::Frame(frame) => Answer::Put(put_single(out, used, named, frame)),
-        Parsed::Refused(refusal) => Answer::Put(put_refusal(out, used, refusal)),
-    }
+    let frame = tap_parse_record(&bytes[..n], firmware);
+    Answer::Put(put_single(out, used, named, frame))
 }
 
 // Its start is that in the body.
-fn put_single(out: &mut Buffer, used: usize, named: bool, frame: PtiFrame) -> usize {
+fn put_single(out: &mut Buffer, used: usize, named: bool, frame: TapFrame) -> usize {
+    if frame.refusal != 0 {
+        return put_refusal(out, used, frame.refusal, frame.value);
+    }
     let n = put_word(out, used, FRAME, named);
-    let direction = frame.direction;
-    let beams = frame.beams;
     let row = [
-        direction_number(direction) as u64,
-        frame.region as u64,
-        frame.channel as u64,
-        frame.rate as u64,
-        byte_of(frame.rssi) as u64,
-        beams_number(beams) as u64,
-        frame.start.0 as u64,
-        frame.length as u64,
+        frame.direction,
+        frame.region,
+        frame.channel,
+        frame.rate,
+        frame.rssi,
+        frame.beams,
+        frame.start,
+        frame.length,
     ];
     put_frame(out, n, &row)
 }

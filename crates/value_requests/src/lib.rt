@@ -5,8 +5,8 @@ use answer::put_refusal;
 use answer::table::BYTE;
 use answer::table::MOST_BYTES;
 use answer::table::put_touched_bytes;
-use buffer::Written;
-use header_value::header_value;
+use libtap::TapAnswer;
+use libtap::values::tap_header_value;
 use node_requests::Two;
 use node_requests::read_two;
 use request::Both;
@@ -15,7 +15,7 @@ use writer::Buffer;
 use writer::put;
 ghost use Prim.Native.Nat.{_≤_};
 ghost use lib.ListN.{length};
-ghost use Rattle.value_requests.specs.Values.{Stand};
+ghost use Rattle.libtap.specs.Answers.{Stands};
 
 // A request for a row of a header: its number, the region and the speed, where the MPDU starts behind the text, and where it ends.
 struct Asked {
@@ -36,16 +36,20 @@ fn put_text(out: &mut Buffer, used: usize, word: &[u8], buffer: &[u8], n: usize)
 }
 
 // What a call answers, and the buffer that it was lent.
-fn put_written(out: &mut Buffer, used: usize, word: &[u8], written: Written, buffer: &[u8]) -> usize
-    requires { ⌜ Stand (now buffer) written ⌝ }
+fn put_written(
+    out: &mut Buffer,
+    used: usize,
+    word: &[u8],
+    written: TapAnswer,
+    buffer: &[u8],
+) -> usize
+    requires { ⌜ Stands (now buffer) written ⌝ }
 {
-    match written {
-        Written::Length(n) => put_text(out, used, word, buffer, n),
-        Written::Refused(refusal) => {
-            let m = put_refusal(out, used, refusal);
-            put_touched_bytes(out, m, buffer)
-        }
+    if written.refusal != 0 {
+        let m = put_refusal(out, used, written.refusal, written.value);
+        return put_touched_bytes(out, m, buffer);
     }
+    put_text(out, used, word, buffer, written.value as usize)
 }
 
 fn show_header(
@@ -56,7 +60,7 @@ fn show_header(
     out: &mut Buffer,
     used: usize,
 ) -> usize {
-    let written = header_value(text, mpdu, asked.region, asked.speed, asked.row, buffer);
+    let written = tap_header_value(text, mpdu, asked.region, asked.speed, asked.row, buffer);
     put_written(out, used, b"headervalue ", written, buffer)
 }
 

@@ -8,17 +8,11 @@ use lib.ListN.{length, take, drop, length-drop}
 use mir.Syntax.{w64}
 use mir.Val.{Fits}
 use Rattle.laws.proofs.Lists.{tail}
-use Rattle.records.specs.declared.PayloadOffset.{PayloadOffset}
-use Rattle.header.specs.declared.DecodedHeader.{DecodedHeader}
-use Rattle.header.specs.declared.Decoded.{Decoded}
-use Rattle.header.specs.declared.Decoded.the-variants.{Header}
 use Rattle.header_rules.specs.Table as header
 use Rattle.command_rules.specs.Rows as command
-use Rattle.command.specs.Answer.{told}
-use Rattle.command.specs.declared.Params.{Params}
-use Rattle.command.specs.declared.Params.the-variants.{Rows}
 use Rattle.request.proofs.Laws.{taken, request-laws}
 use Rattle.answer.specs.Table.{Ample}
+use Rattle.libtap.proofs.Standing.{standing-laws}
 use Rattle.walk_requests.specs.declared.Table.{Table}
 use Rattle.walk_requests.specs.declared.Table.the-variants.{Of}
 use Rattle.walk_requests.specs.declared.Radio.{Radio}
@@ -26,9 +20,7 @@ use Rattle.walk_requests.specs.declared.Radio.the-variants.{Is}
 use Rattle.walk_requests.specs.declared.Request.{Request}
 use Rattle.walk_requests.specs.declared.Asked.{Asked}
 use Rattle.walk_requests.specs.declared.Asked.the-variants as asked
-use Rattle.walk_requests.proofs.HeaderLaws.{header-stands}
-use Rattle.walk_requests.proofs.CommandLaws.{params-stand}
-use Rattle.walk_requests.specs.Walks.{Tables, Tunes, Inside, Asks, StandHeader, StandParams}
+use Rattle.walk_requests.specs.Walks.{Tables, Tunes, Inside, Asks}
 
 -- ---- a request
 -- the first n of a list, of which the first n to e are lent too, are n
@@ -87,20 +79,12 @@ module _ (held : List ℕ) (r : Asked) (q : Request) (told : Asks held r) (is : 
   asked-within = inside .within
 
 -- ---- an answer
--- as many rows as are answered stand in the table
-pub header-inside : (t : List ℕ) (r : Decoded) (h : DecodedHeader) → StandHeader t r → r ≡ Header h → h .rows * header.rowWidth ≤ length t
-header-inside t r h told is = rw is at told
+module _ (t : List ℕ) (room : length t * 8 < 2 ^ 63) (n : ℕ) where
+  pub header-fits : n * header.rowWidth ≤ length t → Fits w64 (n * header.rowWidth)
+  header-fits few = omega (arith, room)
 
-pub params-inside : (t : List ℕ) (r : Params) (n : ℕ) (e : PayloadOffset) → StandParams t (told r) → r ≡ Rows n e → n * command.rowWidth ≤ length t
-unfolding told
-params-inside t r n e stand is = rw is at stand
-
-module _ (t : List ℕ) (room : length t * 8 < 2 ^ 63) where
-  pub header-fits : (r : Decoded) (h : DecodedHeader) → StandHeader t r → r ≡ Header h → Fits w64 (h .rows * header.rowWidth)
-  header-fits r h told is = omega (arith, room, header-inside t r h told is)
-
-  pub params-fits : (r : Params) (n : ℕ) (e : PayloadOffset) → StandParams t (told r) → r ≡ Rows n e → Fits w64 (n * command.rowWidth)
-  params-fits r n e stand is = omega (arith, room, params-inside t r n e stand is)
+  pub params-fits : n * command.rowWidth ≤ length t → Fits w64 (n * command.rowWidth)
+  params-fits few = omega (arith, room)
 
 pub ruleset walk-laws = (
   taken-before,
@@ -117,11 +101,7 @@ pub ruleset walk-laws = (
   asked-within,
   header-fits,
   params-fits,
-  header-stands,
-  params-stand,
-  header-inside,
-  params-inside,
 )
 
 -- The laws that the proofs of this crate's functions go by.
-pub ruleset laws = (request-laws, walk-laws)
+pub ruleset laws = (request-laws, walk-laws, standing-laws)

@@ -7,13 +7,10 @@ use answer::table::MOST_ROWS;
 use answer::table::fill;
 use answer::table::put_refused;
 use answer::table::put_touched;
-use command::Params;
-use command::decode_params;
-use command::offsets_by;
-use frame_definition::Flags;
-use header::Decoded;
-use header::DecodedHeader;
-use header::decode_header;
+use libtap::commands::TapParams;
+use libtap::commands::tap_decode_params;
+use libtap::headers::TapHeader;
+use libtap::headers::tap_decode_header;
 use request::Both;
 use request::Leading;
 use request::read_both;
@@ -23,9 +20,9 @@ use writer::put_number;
 ghost use Prim.Native.Nat.{_≤_, _*_};
 ghost use lib.ListN.{length};
 ghost use Rattle.answer.specs.Table.{Ample};
-ghost use Rattle.header_rules.specs.Table.{rowWidth};
-ghost use Rattle.command.specs.Answer.{told};
-ghost use Rattle.walk_requests.specs.Walks.{Tables, Tunes, Asks, StandHeader, StandParams};
+ghost use Rattle.header_rules.specs.Table.{rowWidth as headerWidth};
+ghost use Rattle.command_rules.specs.Rows.{rowWidth as commandWidth};
+ghost use Rattle.walk_requests.specs.Walks.{Tables, Tunes, Asks};
 
 // How many numbers a table has, and where the other words start.
 enum Table {
@@ -236,8 +233,8 @@ fn walk_header(
     out: &mut Buffer,
     used: usize,
 ) -> usize {
-    let decoded = decode_header(text, mpdu, region, speed, rows);
-    put_decoded(out, used, decoded, rows)
+    let header = tap_decode_header(text, mpdu, region, speed, rows);
+    put_decoded(out, used, header, rows)
 }
 
 fn walk_command(
@@ -248,65 +245,56 @@ fn walk_command(
     out: &mut Buffer,
     used: usize,
 ) -> usize {
-    let params = decode_params(text, payload, offsets_by(asked.by_position), rows);
+    let params = tap_decode_params(text, payload, asked.by_position, rows);
     put_params(out, used, asked.by, params, rows)
 }
 
 // The word that answers a request on a command, and how many rows it has.
-fn put_counted(out: &mut Buffer, used: usize, by: bool, count: usize) -> usize {
+fn put_counted(out: &mut Buffer, used: usize, by: bool, count: u64) -> usize {
     if by {
-        return put_named(out, used, b"commandby", count as u64);
+        return put_named(out, used, b"commandby", count);
     }
-    put_named(out, used, b"command", count as u64)
+    put_named(out, used, b"command", count)
 }
 
-// The answer of `decode_header` and the table that it was lent.
-fn put_decoded(out: &mut Buffer, used: usize, decoded: Decoded, table: &[u64]) -> usize
-    requires { ⌜ StandHeader (now table) decoded ⌝ }
+// The answer of `tap_decode_header` and the table that it was lent.
+fn put_decoded(out: &mut Buffer, used: usize, header: TapHeader, table: &[u64]) -> usize
+    requires { ⌜ header .rows * headerWidth ≤ length (now table) ⌝ }
 {
-    match decoded {
-        Decoded::Header(header) => put_header(out, used, header, table),
-        Decoded::Refused(refusal) => put_refused(out, used, refusal, table),
+    if header.refusal != 0 {
+        return put_refused(out, used, header.refusal, header.value, table);
     }
-}
-
-// The answer of `decode_params` and the table that it was lent.
-fn put_params(out: &mut Buffer, used: usize, by: bool, params: Params, table: &[u64]) -> usize
-    requires { ⌜ StandParams (now table) (told params) ⌝ }
-{
-    match params {
-        Params::Rows { count, remainder } => {
-            let mut n = put_counted(out, used, by, count);
-            n = put_value(out, n, remainder.0 as u64);
-            put_table(out, n, table, count * command_rows::ROW_WIDTH)
-        }
-        Params::Refused(refusal) => put_refused(out, used, refusal, table),
-    }
-}
-
-fn put_header(out: &mut Buffer, used: usize, header: DecodedHeader, table: &[u64]) -> usize
-    requires { ⌜ header .rows * rowWidth ≤ length (now table) ⌝ }
-{
     let n = put_heading(out, used, header);
-    put_table(out, n, table, header.rows * header_rows::ROW_WIDTH)
+    put_table(out, n, table, header.rows as usize * header_rows::ROW_WIDTH)
 }
 
-fn put_heading(out: &mut Buffer, used: usize, header: DecodedHeader) -> usize {
-    let flags = header.flags;
-    let mut n = put_named(out, used, b"header", header.number as u64);
-    n = put_value(out, n, header.key as u64);
-    n = put_flags(out, n, flags);
+// The answer of `tap_decode_params` and the table that it was lent.
+fn put_params(out: &mut Buffer, used: usize, by: bool, params: TapParams, table: &[u64]) -> usize
+    requires { ⌜ params .rows * commandWidth ≤ length (now table) ⌝ }
+{
+    if params.refusal != 0 {
+        return put_refused(out, used, params.refusal, params.value, table);
+    }
+    let mut n = put_counted(out, used, by, params.rows);
+    n = put_value(out, n, params.remainder);
+    put_table(out, n, table, params.rows as usize * command_rows::ROW_WIDTH)
+}
+
+fn put_heading(out: &mut Buffer, used: usize, header: TapHeader) -> usize {
+    let mut n = put_named(out, used, b"header", header.number);
+    n = put_value(out, n, header.key);
+    n = put_flags(out, n, header);
     n = put_value(out, n, header.payload);
     n = put_value(out, n, header.right as u64);
-    put_value(out, n, header.rows as u64)
+    put_value(out, n, header.rows)
 }
 
 // The flags, a digit each.
-fn put_flags(out: &mut Buffer, used: usize, flags: Flags) -> usize {
-    let mut n = put_value(out, used, flags.ack as u64);
-    n = put_number(out, n, flags.routed as u64);
-    n = put_number(out, n, flags.multicast as u64);
-    put_number(out, n, flags.error as u64)
+fn put_flags(out: &mut Buffer, used: usize, header: TapHeader) -> usize {
+    let mut n = put_value(out, used, header.ack as u64);
+    n = put_number(out, n, header.routed as u64);
+    n = put_number(out, n, header.multicast as u64);
+    put_number(out, n, header.error as u64)
 }
 
 // The numbers that an answer wrote, which are so many, and whether the table is untouched past them.

@@ -8,6 +8,8 @@ pub put-listed-spec : {M : Type 1} → statement M
 put-listed-spec =
     tie.close
     (tie.spec
+    (λ c κs. search (needs, laws))
+    (λ c κs. search (needs, laws))
     (λ c. search (needs, laws))
     (λ c κs. search (needs, laws))
     (λ c. search (needs, laws))
@@ -17,8 +19,4 @@ put-listed-spec =
     (λ c. search (needs, laws))
     (λ c. search (needs, laws))
     (λ c κs. search (needs, laws))
-    (λ c. search (needs, laws))
-    (λ c κs. search (needs, laws))
-    (λ c κs. search (needs, laws))
-    (λ c. search (needs, laws))
     (λ c. search (needs, laws)))

@@ -8,10 +8,8 @@ pub put-written-spec : {M : Type 1} → statement M
 put-written-spec =
     tie.close
     (tie.spec
-    (λ c. search (needs, laws))
-    (λ c κs. search (needs, laws))
-    (λ c. search (needs, laws))
     (λ c κs. search (needs, laws))
     (λ c κs. search (needs, laws))
     (λ c. search (needs, laws))
+    (λ c κs. search (needs, laws))
     (λ c. search (needs, laws)))

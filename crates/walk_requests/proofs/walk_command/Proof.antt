@@ -10,6 +10,5 @@ walk-command-spec =
     (tie.spec
     (λ c κs. search (needs, laws))
     (λ c κs. search (needs, laws))
-    (λ c κs. search (needs, laws))
     (λ c. search (needs, laws))
     (λ c. search (needs, laws)))

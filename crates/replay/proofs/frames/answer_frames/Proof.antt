@@ -9,15 +9,14 @@ answer-frames-spec =
     tie.close
     (tie.spec
     (λ c κs. search (needs, laws))
-    (λ c. search (needs, laws))
     (λ c κs. search (needs, laws))
     (λ c κs. search (needs, laws))
     (λ c. search (needs, laws))
     (λ c. search (needs, laws))
     (λ c κs. search (needs, laws))
-    (λ c. search (needs, laws))
     (λ c κs. search (needs, laws))
     (λ c. search (needs, laws))
     (λ c. search (needs, laws))
+    (λ c κs. search (needs, laws))
     (λ c. search (needs, laws))
     (λ c. search (needs, laws)))

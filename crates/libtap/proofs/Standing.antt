@@ -1,0 +1,182 @@
+-- As many rows, nodes or bytes as a call answers stand in the table or buffer that it was lent. Assumes nothing.
+use mathlib.Core.Path.{_≡_, refl}
+use mathlib.Core.Bool.{Bool, true, false, cond}
+use mathlib.Core.List.{List}
+use Prim.Native.Nat.{ℕ, _/_, _*_, _≤_}
+use native.Mathlib.Omega.{arith}
+use lib.Dec.{eqb, leb, ltb}
+use lib.ListN.{length}
+use borrow.Author.Tests.{eqb-false, leb-true, ltb-false}
+use Rattle.refusal.specs.declared.Refusal.{Refusal}
+use Rattle.refusal.specs.declared.Refusal.the-variants.{NoSuchField, TooLong, MoreRows, MoreBytes}
+use Rattle.refusal.specs.Refusal.{numberOf, carriedBy}
+use Rattle.refusal.proofs.Numbers.{numbered}
+use Rattle.text.specs.declared.Verdict.{Verdict}
+use Rattle.text.specs.declared.Verdict.the-variants.{Accepted, Refused as Unfit}
+use Rattle.frame.specs.Frame.{regionBits}
+use Rattle.pti.specs.Payload as pti
+use Rattle.command_text.specs.Rules.{verdict}
+use Rattle.tidy.specs.declared.Tidied.the-variants as tidied
+use Rattle.tidy.specs.Tidy as tidy
+use Rattle.header.specs.declared.Decoded.{Decoded}
+use Rattle.header.specs.declared.Decoded.the-variants as decoded
+use Rattle.header.proofs.Room as room
+use Rattle.header_rules.specs.Table as header
+use Rattle.command_class.specs.Definition.{definition}
+use Rattle.command_rules.specs.Param.{inPayload}
+use Rattle.command_rules.specs.Rows as command
+use Rattle.command_rules.specs.Walk.{Walked, walk}
+use Rattle.command_rules.specs.declared.Offsets.{Offsets}
+use Rattle.command.specs.Answer as params
+use Rattle.node_mask.specs.declared.Listed.the-variants as listed
+use Rattle.node_mask.specs.Nodes.{nodesOf, listed}
+use Rattle.header_nodes.specs.Fields.{isMaskRow, maskAt}
+use Rattle.header_nodes.specs.Answer.{noSuchField, ofRow, answerOf, rowsOf, ofDecoded}
+use Rattle.buffer.specs.declared.Written.the-variants as written
+use Rattle.buffer.specs.Buffer.{answerIn}
+use Rattle.header_value.specs.Fields.{rowText}
+use Rattle.header_value.specs.Answer as value
+use Rattle.libtap.specs.declared.TapAnswer.{TapAnswer}
+use Rattle.libtap.specs.declared.headers.TapHeader.{TapHeader}
+use Rattle.libtap.specs.declared.commands.TapParams.{TapParams}
+use Rattle.libtap.specs.Answers.{Stands, toldTidied, ToldTidied, Told}
+use Rattle.libtap.specs.Headers.{toldHeader, ToldHeader}
+use Rattle.libtap.specs.Commands.{toldBy}
+use Rattle.libtap.specs.Nodes.{toldListed, ToldHeaderNodes}
+use Rattle.libtap.specs.Values.{toldWritten, ToldHeaderValue}
+
+refused-stands : (t : List ℕ) (x : Refusal) → Stands t (record { refusal = numberOf x; value = carriedBy x })
+refused-stands t x z = absurd (eqb-false (numberOf x) 0 (numbered x) z)
+
+pub stands-in : (t : List ℕ) (r : TapAnswer) → Stands t r → r .refusal ≡ 0 → r .value ≤ length t
+stands-in t r stands z = stands z
+
+-- ---- the rows of a payload
+abbrev saidBy : Bool → Bool → Bool → ℕ → ℕ → ℕ → ℕ × ℕ
+saidBy u a b firmware n size = cond u (13, firmware) (cond a (cond b (0, n) (8, n)) (4, size))
+
+frames-fit : (u a b : Bool) (firmware n room size : ℕ) → (b ≡ true → n ≤ room) → saidBy u a b firmware n size .0 ≡ 0
+    → saidBy u a b firmware n size .1 ≤ room
+frames-fit true a b firmware n room size h z = absurd (omega (arith, z))
+frames-fit false true true firmware n room size h z = h refl
+frames-fit false true false firmware n room size h z = absurd (omega (arith, z))
+frames-fit false false b firmware n room size h z = absurd (omega (arith, z))
+
+pub frames-stand : (firmware : ℕ) (s t : List ℕ) (r : TapAnswer) (t′ : List ℕ) → Told firmware s t r t′ → length t′ ≡ length t → r .refusal ≡ 0
+    → r .value * pti.rowWidth ≤ length t′
+frames-stand firmware s t r t′ p same z =
+    let rows : ℕ = length (pti.rowsOf (regionBits firmware) s) in
+    let few : r .value ≤ length t / pti.rowWidth =
+    rw (p .answer) (frames-fit (eqb (regionBits firmware) 0) (leb (length s) 65535) (leb rows (length t / pti.rowWidth)) firmware rows
+    (length t / pti.rowWidth) (length s) (leb-true rows (length t / pti.rowWidth)) (rw (p .answer) at z)) in
+    omega (arith, few, same)
+
+-- ---- the bytes of a tidied text
+pub tidied-stands : (s b : List ℕ) (r : TapAnswer) (b′ : List ℕ) → ToldTidied s b r b′ → length b′ ≡ length b → Stands b′ r
+tidied-stands s b r b′ p same = rw (p .told-so, p .tidies .answer) (by-verdict (verdict s))
+  where
+    by-room : (x : Bool) → leb (length s) (length b) ≡ x
+        → Stands b′ (toldTidied (cond x (tidied.Length (length s)) (tidied.Refused (MoreBytes (length s)))))
+    by-room true e = λ z. omega (arith, same, leb-true (length s) (length b) e)
+    by-room false e = refused-stands b′ (MoreBytes (length s))
+
+    by-verdict : (v : Verdict) → Stands b′ (toldTidied (tidy.answerBy v (tidy.answerIn (length s) (length b))))
+    by-verdict Accepted = by-room (leb (length s) (length b)) refl
+    by-verdict (Unfit x) = refused-stands b′ x
+
+-- ---- the rows of a header
+pub header-stands : (t d : List ℕ) (region speed : ℕ) (table : List ℕ) (r : TapHeader) (table′ : List ℕ)
+    → ToldHeader t d region speed table r table′ → length table′ ≡ length table → r .rows * header.rowWidth ≤ length table′
+header-stands t d region speed table r table′ p same =
+    rw (p .told) (go (p .answer) (room.header-stands t d region speed table (p .answer) table′ (p .decodes)))
+  where
+    go : (x : Decoded) → room.Stands (length table) x → toldHeader x .rows * header.rowWidth ≤ length table′
+    go (decoded.Header h) s = omega (arith, same)
+    go (decoded.Refused x) s = omega arith
+
+-- ---- the rows of a command
+module _ (offsets : Offsets) (payload t t′ : List ℕ) (same : length t′ ≡ length t) where
+  abbrev RowsStand : params.Told → Type 0
+  RowsStand a = a .rows * command.rowWidth ≤ length t′
+
+  within-stands : (w : Walked) → RowsStand (params.within w (length t))
+  unfolding params.within
+  within-stands w = go (leb (length (w .rows)) (length t / command.rowWidth)) (leb-true (length (w .rows)) (length t / command.rowWidth))
+    where
+      go : (b : Bool) → (b ≡ true → length (w .rows) ≤ length t / command.rowWidth)
+          → RowsStand (cond b (params.answered (length (w .rows)) (inPayload (w .end))) (params.refused 8 (length (w .rows))))
+      go true few = omega (arith, few refl, same)
+      go false few = omega arith
+
+  judged-stands : (v : Verdict) (long short : Bool) (a : params.Told) → RowsStand a
+      → RowsStand (params.onVerdict v (cond long (params.refused 4 (length payload)) (cond short (params.refused 5 (length payload)) a)))
+  judged-stands (Unfit x) long short a s = omega arith
+  judged-stands Accepted true short a s = omega arith
+  judged-stands Accepted false true a s = omega arith
+  judged-stands Accepted false false a s = s
+
+  answer-stands : (text : List ℕ) → RowsStand (params.answerOf offsets text payload (length t))
+  unfolding params.answerOf params.answerBy
+  answer-stands text =
+      judged-stands (verdict text) (ltb 2048 (length payload)) (ltb (length payload) 2)
+      (params.within (walk offsets (params.bodyOf payload) (definition text)) (length t))
+      (within-stands (walk offsets (params.bodyOf payload) (definition text)))
+
+pub params-stand : (offsets : Offsets) (text payload t : List ℕ) (r : TapParams) (t′ : List ℕ)
+    → params.Decodes offsets text payload t (toldBy r) t′ → length t′ ≡ length t → r .rows * command.rowWidth ≤ length t′
+unfolding toldBy
+params-stand offsets text payload t r t′ p same = rw (← p .answer) at (answer-stands offsets payload t t′ same text)
+
+-- ---- the nodes of a header's row
+module _ (table table′ : List ℕ) (same : length table′ ≡ length table) where
+  listed-stands : (m : List ℕ) → Stands table′ (toldListed (listed m (length table)))
+  listed-stands m = by-long (ltb 8191 (length m))
+    where
+      by-room : (b : Bool) → ltb (length table) (length (nodesOf m)) ≡ b
+          → Stands table′ (toldListed (cond b (listed.Refused (MoreRows (length (nodesOf m)))) (listed.Nodes (length (nodesOf m)))))
+      by-room true e = refused-stands table′ (MoreRows (length (nodesOf m)))
+      by-room false e = λ z. omega (arith, same, ltb-false (length table) (length (nodesOf m)) e)
+
+      by-long : (b : Bool) → Stands table′ (toldListed (cond b (listed.Refused (TooLong (length m)))
+          (cond (ltb (length table) (length (nodesOf m))) (listed.Refused (MoreRows (length (nodesOf m)))) (listed.Nodes (length (nodesOf m))))))
+      by-long true = refused-stands table′ (TooLong (length m))
+      by-long false = by-room (ltb (length table) (length (nodesOf m))) refl
+
+pub nodes-stand : (t d : List ℕ) (region speed k : ℕ) (table : List ℕ) (r : TapAnswer) (table′ : List ℕ)
+    → ToldHeaderNodes t d region speed k table r table′ → length table′ ≡ length table → Stands table′ r
+nodes-stand t d region speed k table r table′ p same = rw (p .told-so, p .lists .answer) (by-answer (answerOf t d region speed))
+  where
+    by-row : (b : Bool) → Stands table′ (toldListed (cond b (listed (maskAt d (rowsOf t d region speed) k) (length table)) (noSuchField k)))
+    by-row true = listed-stands table table′ same (maskAt d (rowsOf t d region speed) k)
+    by-row false = refused-stands table′ (NoSuchField k)
+
+    past : (b : Bool) → Stands table′ (toldListed (cond b (noSuchField k) (ofRow t d (rowsOf t d region speed) k (length table))))
+    past true = refused-stands table′ (NoSuchField k)
+    past false = by-row (isMaskRow t (rowsOf t d region speed) k)
+
+    by-answer : (x : Decoded) → Stands table′ (toldListed (ofDecoded t d (rowsOf t d region speed) k (length table) x))
+    by-answer (decoded.Header h) = past (leb (h .rows) k)
+    by-answer (decoded.Refused x) = refused-stands table′ x
+
+-- ---- the text of a header's row
+pub written-stands : (n : ℕ) (b b′ : List ℕ) → length b′ ≡ length b → Stands b′ (toldWritten (answerIn n (length b)))
+written-stands n b b′ same = go (leb n (length b)) refl
+  where
+    go : (x : Bool) → leb n (length b) ≡ x → Stands b′ (toldWritten (cond x (written.Length n) (written.Refused (MoreBytes n))))
+    go true e = λ z. omega (arith, same, leb-true n (length b) e)
+    go false e = refused-stands b′ (MoreBytes n)
+
+pub value-stands : (t d : List ℕ) (region speed k : ℕ) (b : List ℕ) (r : TapAnswer) (b′ : List ℕ)
+    → ToldHeaderValue t d region speed k b r b′ → length b′ ≡ length b → Stands b′ r
+value-stands t d region speed k b r b′ p same = rw (p .told-so, p .shows .answer) (by-answer (answerOf t d region speed))
+  where
+    past : (x : Bool)
+        → Stands b′ (toldWritten (cond x (written.Refused (NoSuchField k)) (answerIn (length (rowText t d (rowsOf t d region speed) k)) (length b))))
+    past true = refused-stands b′ (NoSuchField k)
+    past false = written-stands (length (rowText t d (rowsOf t d region speed) k)) b b′ same
+
+    by-answer : (x : Decoded) → Stands b′ (toldWritten (value.ofDecoded (rowText t d (rowsOf t d region speed) k) k (length b) x))
+    by-answer (decoded.Header h) = past (leb (h .rows) k)
+    by-answer (decoded.Refused x) = refused-stands b′ x
+
+pub ruleset standing-laws = (stands-in, frames-stand, tidied-stands, header-stands, params-stand, nodes-stand, value-stands)
