@@ -168,7 +168,7 @@ kind-weight t region s row accepted fair =
 
 frame-weight : (t : List ℕ) (region : ℕ) (s row : List ℕ) → verdict t ≡ text.Accepted → Fair row → weights (frameCounts t region s row) ≡ 1
 unfolding frameCounts
-frame-weight t region s row accepted fair = bytes-weight (getD row 7 0) (kindCounts t region s row) (kind-weight t region s row accepted fair)
+frame-weight t region s row accepted fair = bytes-weight _ (kindCounts t region s row) (kind-weight t region s row accepted fair)
 
 -- ---- and so do all
 rows-weight : (t : List ℕ) (region : ℕ) (s : List ℕ) (rs : List (List ℕ)) → verdict t ≡ text.Accepted → Every Fair rs
