@@ -2,4 +2,4 @@ pub mod Sums
 pub mod Keys
 pub mod Laws
 pub mod Runs
-pub mod Frames
+pub mod Whole
