@@ -40,7 +40,7 @@ extern "C" {
 #endif
 
 /* The numbers of a row. */
-#define TAP_FRAME_WIDTH 10
+#define TAP_FRAME_WIDTH 13
 #define TAP_HEADER_WIDTH 7
 #define TAP_COMMAND_WIDTH 10
 
@@ -52,9 +52,16 @@ typedef struct {
 
 /* ---- payloads, records, frames ---- */
 
+/* Whom a beam wakes: the node, the hash of its home id and, at Long Range, the power. Each is one more than its number, or 0 where there is none. */
+typedef struct {
+    uint64_t node;
+    uint64_t hash;
+    uint64_t power;
+} TapTarget;
+
 /* The frame of a single record. `direction` is 0 for Rx, 1 for Tx; `region` is the PTI's; `rate` is 0 for 9.6 kbit/s, 1 for 40, 2 for
  * 100, 3 for Long Range; `rssi` is its byte, the two's complement; `beams` is 0 for a frame that is no beam; the MPDU is `length` bytes
- * from `start` of the record's body on. */
+ * from `start` of the record's body on; `target` is all 0 unless beams are a family of their own and this is one. */
 typedef struct {
     uint64_t refusal;
     uint64_t value;
@@ -66,6 +73,7 @@ typedef struct {
     uint64_t beams;
     uint64_t start;
     uint64_t length;
+    TapTarget target;
 } TapFrame;
 
 /* A part of the caller's bytes: where it starts in them, and its length. */
@@ -86,14 +94,16 @@ TapAnswer tap_count_records(const uint8_t *payload, size_t payload_length);
 /* Body k of a payload, from 0; an empty part where there is none or the payload is too long. */
 TapPart tap_record_body(const uint8_t *payload, size_t payload_length, size_t k);
 
-/* The frame of a record's body. `firmware` is the number of the capture firmware that wrote it: 2, or 3, whose regions have five bits. Refuses by
- * 13, 4 and 9. */
-TapFrame tap_parse_record(const uint8_t *body, size_t body_length, size_t firmware);
+/* The frame of a record's body. `firmware` is the number of the capture firmware that wrote it: 2, or 3, whose regions have five bits. Where `family`
+ * is false, all that starts with 0x55 is a beam; where it is true, only what also repeats or has under 9 bytes, and a beam is told by its target
+ * too. Refuses by 13, 4 and 9. */
+TapFrame tap_parse_record(const uint8_t *body, size_t body_length, size_t firmware, bool family);
 
 /* Every frame of a payload, which that firmware wrote, a row each: direction, region, channel, rate; the RSSI's byte; how often the beam stands there, or 0; where the
  * MPDU starts in the payload, and its length (F17); the number of its record, from 0, by which tap_record_body shows the body, and where that record
- * begins in the payload (FP1). Numbers of 16 bits. Answers how many rows. Refuses by 13, 4 and 8. */
-TapAnswer tap_parse_payload(const uint8_t *payload, size_t payload_length, size_t firmware, uint16_t *table, size_t table_length);
+ * begins in the payload (FP1); node, hash and power of a beam, each one more than its number, or 0 (BF2). Numbers of 16 bits. `family` is as above. Answers how
+ * many rows. Refuses by 13, 4 and 8. */
+TapAnswer tap_parse_payload(const uint8_t *payload, size_t payload_length, size_t firmware, bool family, uint16_t *table, size_t table_length);
 
 /* ---- definition texts ---- */
 

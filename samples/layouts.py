@@ -49,6 +49,12 @@ def framed(head, tail, check):
     return body + check(body)
 
 
+def of_home(home, mpdu, check):
+    """The same frame of another network."""
+    body = home + mpdu[4 : -len(check(b""))]
+    return body + check(body)
+
+
 # --- What follows the base header -----------------------------------------------------------------
 
 

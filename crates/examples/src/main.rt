@@ -7,6 +7,7 @@ use crc::check_crc;
 use frame::Parsed;
 use header::Decoded;
 use header::decode_header;
+use pti::Reading;
 use pti::beam_count;
 use pti::count_records;
 use pti::parse_record;
@@ -44,7 +45,7 @@ fn print_count(name: &[u8], payload: &[u8]) {
 
 // The MPDU's length of the frame in a body.
 fn print_mpdu(name: &[u8], body: &[u8]) {
-    match parse_record(body, 2) {
+    match parse_record(body, 2, Reading::Marker) {
         Parsed::Frame(frame) => print(name, frame.length as u64),
         Parsed::Refused(refusal) => print_refusal(name, refusal),
     }

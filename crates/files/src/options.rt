@@ -22,23 +22,29 @@ pub struct Options {
     pub folder: usize,
     // The firmware that wrote the capture.
     pub firmware: usize,
+    // Are beams a family of their own?
+    pub family: bool,
     // How many arguments are no options, and the first three of them.
     pub count: usize,
     pub file: usize,
     pub second: usize,
     pub third: usize,
-    // The option that the next argument is for: 0, DEFINITIONS or FIRMWARE.
+    // The option that the next argument is for: 0, DEFINITIONS, FIRMWARE or BEAMS.
     open: u8,
     // An option that there isn't, 0 where there is none.
     wrong: usize,
     // Is the firmware said by something else than a number?
     is_unnumbered: bool,
+    // Are the beams said by a word that there isn't?
+    is_unread: bool,
 }
 
 // The options that take the argument behind them.
 const DEFINITIONS: u8 = 1;
 
 const FIRMWARE: u8 = 2;
+
+const BEAMS: u8 = 3;
 
 pub enum Asked {
     Options(Options),
@@ -56,6 +62,7 @@ impl Options {
             records: false,
             folder: 0,
             firmware: 2,
+            family: false,
             count: 0,
             file: 0,
             second: 0,
@@ -63,6 +70,7 @@ impl Options {
             open: 0,
             wrong: 0,
             is_unnumbered: false,
+            is_unread: false,
         }
     }
 
@@ -80,6 +88,22 @@ impl Options {
             }
             Numeral::Not => {
                 self.is_unnumbered = true;
+            }
+        }
+        self
+    }
+
+    fn with_beams(mut self, bytes: &[u8]) -> Self {
+        self.open = 0;
+        match find_field(b"marker\tfamily", bytes) {
+            0 => {
+                self.family = false;
+            }
+            1 => {
+                self.family = true;
+            }
+            _ => {
+                self.is_unread = true;
             }
         }
         self
@@ -155,7 +179,7 @@ fn is_option(bytes: &[u8]) -> bool {
 
 fn take_option(options: Options, k: usize, bytes: &[u8]) -> Options {
     match find_field(
-        b"--definitions\t--plain\t--colour\t--picture\t--progress\t--firmware\t--by-position\t--records",
+        b"--definitions\t--plain\t--colour\t--picture\t--progress\t--firmware\t--by-position\t--records\t--beams",
         bytes,
     ) {
         0 => options.opened(DEFINITIONS),
@@ -166,6 +190,7 @@ fn take_option(options: Options, k: usize, bytes: &[u8]) -> Options {
         5 => options.opened(FIRMWARE),
         6 => options.with_position(),
         7 => options.with_records(),
+        8 => options.opened(BEAMS),
         _ => options.with_wrong(k),
     }
 }
@@ -175,6 +200,7 @@ fn take_bytes(options: Options, k: usize, bytes: &[u8]) -> Options {
     match open {
         DEFINITIONS => return options.with_folder(k),
         FIRMWARE => return options.with_firmware(bytes),
+        BEAMS => return options.with_beams(bytes),
         _ => {}
     }
     if is_option(bytes) {
@@ -208,6 +234,24 @@ fn fail_option(k: usize) {
     fail(b": 'tap help' lists them\n");
 }
 
+// Says which option lacks its argument, or has one that it does not take. Is there such an option?
+fn fail_argument(options: Options) -> bool {
+    let open = options.open;
+    if open == DEFINITIONS {
+        fail(b"tap: --definitions takes a folder\n");
+        return true;
+    }
+    if open == FIRMWARE || options.is_unnumbered {
+        fail(b"tap: --firmware takes 2 or 3\n");
+        return true;
+    }
+    if open == BEAMS || options.is_unread {
+        fail(b"tap: --beams takes marker or family\n");
+        return true;
+    }
+    false
+}
+
 // The options of a word that takes so many arguments; where there is another number of them its `usage` is said.
 pub fn read(count: usize, usage: &[u8]) -> Asked {
     let options = take_all();
@@ -215,16 +259,7 @@ pub fn read(count: usize, usage: &[u8]) -> Asked {
         fail_option(options.wrong);
         return Asked::Failed;
     }
-    if options.open == DEFINITIONS {
-        fail(b"tap: --definitions takes a folder\n");
-        return Asked::Failed;
-    }
-    if options.open == FIRMWARE {
-        fail(b"tap: --firmware takes 2 or 3\n");
-        return Asked::Failed;
-    }
-    if options.is_unnumbered {
-        fail(b"tap: --firmware takes 2 or 3\n");
+    if fail_argument(options) {
         return Asked::Failed;
     }
     if options.count != count {

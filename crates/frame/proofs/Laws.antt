@@ -1,7 +1,7 @@
 -- Laws of the frame in a record's body. Assumes nothing.
 use mathlib.Core.Path.{_≡_, refl, sym, ap, _∙_}
 use mathlib.Core.Bool.{Bool, true, false, cond, not, _||_, and-false, or-true, or-false}
-use mathlib.Core.List.{List, [], _∷_, _++_}
+use mathlib.Core.List.{List, [], _∷_}
 use Prim.Native.Nat.{ℕ, zero, suc, _+_, _-_, _*_, _%_, _^_, _≤_, _<_}
 use mir.Syntax.{w8, w16}
 use mir.Val.{Fits, toZ, ofZ, hbits}
@@ -29,7 +29,7 @@ use Rattle.laws.proofs.Bools.{and-left, and-right}
 use Rattle.laws.proofs.Lists.{tail}
 use Rattle.frame.specs.Frame.{headerOf, trailerOf, directionOf, successOf, regionBits, rulesOf, readingBy, fieldsOf, header, start, trailer}
 use Rattle.frame.specs.Frame.{between, middle, fields, rateIn, isBeam, beamIn, holds, isFrame, mpduOf, beamsIn, targetIn, frameOf}
-use Rattle.frame.specs.Frame.{numbersAt, targetNumbers, Parses}
+use Rattle.frame.specs.Frame.{frameNumbers, Parses}
 use Rattle.frame.specs.Steps.{layoutOf, partsOf, splitOf, Inside, framedBy}
 use Rattle.refusal.specs.declared.Refusal.the-variants.{TooLong, NotAFrame, Firmware}
 use Rattle.frame.specs.declared.PtiFrame.{PtiFrame}
@@ -390,8 +390,7 @@ module _ (firmware : ℕ) (reading : Reading) (w : Rules) (b : List ℕ) (is-w :
           split-framed (rulesOf firmware reading) b s (is-s ∙ ap (λ (x : Rules). splitOf x b) is-w) p e f is-f in
           record {
             answer = rw (known-firmware, within, whole) (ap Frame the-f);
-            numbers =
-                rw (known-firmware, within, whole) (ap (λ (x : PtiFrame). (0, numbersAt (x .start .0) x ++ targetNumbers (x .target))) the-f);
+            numbers = rw (known-firmware, within, whole) (ap (λ (x : PtiFrame). (0, frameNumbers x)) the-f);
           }
 
 pub ruleset laws = (

@@ -180,16 +180,18 @@ numbersAt at f =
 abbrev pub targetNumbers : BeamTarget → List ℕ
 targetNumbers t = t .node ∷ t .hash ∷ t .power ∷ []
 
--- F16, BF2: an answer in numbers: 0 and those of the frame, or the number of the refusal and what it carries
+-- F16, BF2: the numbers of a single record's frame
+abbrev pub frameNumbers : PtiFrame → List ℕ
+frameNumbers f = numbersAt (f .start .0) f ++ targetNumbers (f .target)
+
+-- F16: an answer in numbers: 0 and those of the frame, or the number of the refusal and what it carries
 abbrev pub said : Parsed → ℕ × List ℕ
-said (Frame f) = (0, numbersAt (f .start .0) f ++ targetNumbers (f .target))
+said (Frame f) = (0, frameNumbers f)
 said (Refused x) = (numberOf x, carriedBy x ∷ [])
 
 -- F16, R11: those numbers for a body by these rules
 abbrev pub saidBy : Rules → List ℕ → ℕ × List ℕ
-saidBy w b =
-    cond (leb (length b) 2048) (cond (isFrame w b) (0, numbersAt (header b) (frameOf w b) ++ targetNumbers (frameOf w b .target)) (9, 0 ∷ []))
-    (4, length b ∷ [])
+saidBy w b = cond (leb (length b) 2048) (cond (isFrame w b) (0, frameNumbers (frameOf w b)) (9, 0 ∷ [])) (4, length b ∷ [])
 
 -- FV2: and by the firmware
 abbrev pub saidOf : ℕ → Reading → List ℕ → ℕ × List ℕ

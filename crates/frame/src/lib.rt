@@ -164,7 +164,7 @@ fn success_tag(direction: Direction) -> u8
 }
 
 // How many bits of its byte say the region, by the firmware that wrote the record; 0 for a firmware that there isn't.
-fn region_bits(firmware: usize) -> u8
+pub fn region_bits(firmware: usize) -> u8
     ensures { λ r. ⌜ r ≡ regionBits firmware ⌝ }
     ensures { λ r. ⌜ r ≤ 5 ⌝ }
 {

@@ -1,7 +1,7 @@
 // A frame's line of the table, column by column. Each column keeps two spaces before it.
+use crate::beam_columns::put_beam;
 use crate::mpdu_columns::Look;
 use crate::mpdu_columns::Radio;
-use crate::mpdu_columns::put_beam;
 use crate::mpdu_columns::put_mpdu;
 use radio::rssi::byte_of;
 use readers::cells::part;
@@ -77,13 +77,7 @@ fn put_heard(
     requires { ⌜ verdict (now text) ≡ Accepted ⌝ }
 {
     if frame.is_beam {
-        return put_beam(
-            out,
-            at,
-            frame.beams as u64,
-            frame.length as u64,
-            look.colour,
-        );
+        return put_beam(out, at, frame, look.colour);
     }
     let mpdu = part(payload, frame.start as usize, frame.length as usize);
     let radio = Radio {

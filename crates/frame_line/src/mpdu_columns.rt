@@ -28,7 +28,6 @@ use writer::Buffer;
 use writer::put;
 use writer::put_hex;
 use writer::put_marked;
-use writer::put_number_left;
 use writer::put_spaces;
 ghost use mathlib.Core.Path.{_≡_};
 ghost use Rattle.text.specs.declared.Verdict.the-variants.{Accepted};
@@ -188,19 +187,6 @@ fn put_unnamed(
     let mut place = put_why(out, at, refusal, NAMES + 2, colour);
     place = put_no_nodes(out, place);
     put_size(out, place, mpdu, check_crc(mpdu, speed), colour)
-}
-
-fn put_beams(out: &mut Buffer, at: usize, beams: u64, colour: bool) -> usize {
-    let mut place = put_painted(out, at, b"  Beam", 7, Hue::Name, colour);
-    place = put(out, place, b"x");
-    put_number_left(out, place, beams, NAMES - 6)
-}
-
-// A beam of so many bytes, heard so often.
-pub fn put_beam(out: &mut Buffer, at: usize, beams: u64, count: u64, colour: bool) -> usize {
-    let mut place = put_beams(out, at, beams, colour);
-    place = put_no_nodes(out, place);
-    put_marked(out, place, b"", count, 5)
 }
 
 // What the table says of an MPDU.

@@ -22,7 +22,7 @@ ghost use Prim.Native.Nat.{_<_};
 ghost use lib.ListN.{length};
 
 // The bytes of the column of the source, with the two before it.
-const SOURCE: usize = 6;
+pub const SOURCE: usize = 6;
 
 // The first of n rows for the P line at a place, if that has a name; n where there is none.
 fn row_at(text: &[u8], at: usize, rows: &[u64], n: usize, number: u64, name: &[u8]) -> usize

@@ -15,6 +15,7 @@ use frame_line::frame_row::put_row;
 use pti::parse_payload;
 use pti::payload::Frames;
 use pti::payload::ROW_WIDTH;
+use pti::reading_by;
 use refusal::Refusal;
 use screen::FrameRecord;
 use screen::record_at;
@@ -82,7 +83,7 @@ fn put_payload(
 ) -> Sheet
     requires { ⌜ verdict (now text) ≡ Accepted ⌝ }
 {
-    match parse_payload(payload, sheet.firmware, table) {
+    match parse_payload(payload, sheet.firmware, reading_by(sheet.family), table) {
         Frames::Rows(n) => {
             if n == 0 {
                 return put_empty(out, sheet);

@@ -37,6 +37,8 @@ pub struct Sheet {
     pub verdict: Verdict,
     // The firmware that wrote the capture.
     pub firmware: usize,
+    // Are beams a family of their own?
+    pub family: bool,
     // In colour?
     pub colour: bool,
     // The folder of the definitions, 0 where none is named.
@@ -58,6 +60,7 @@ impl Sheet {
             payloads: 0,
             verdict: Verdict::Fine,
             firmware: options.firmware,
+            family: options.family,
             colour: options.colour,
             folder: options.folder,
             progress: options.progress,
@@ -104,6 +107,7 @@ impl Sheet {
             payloads: self.payloads,
             verdict,
             firmware: self.firmware,
+            family: self.family,
             colour: self.colour,
             folder: self.folder,
             progress: self.progress,

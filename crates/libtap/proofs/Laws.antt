@@ -15,7 +15,8 @@ use Rattle.records.specs.declared.Counted.the-variants.{Records, Refused as Unc
 use Rattle.records.specs.declared.Span.{Span}
 use Rattle.records.specs.Records.{said, saidOf, Counts}
 use Rattle.records.specs.Steps.{IsBody}
-use Rattle.frame.specs.Frame.{directionNumber, beamsNumber, numbersAt, parsedOf, Parses as ParsesRecord}
+use Rattle.frame.specs.declared.Reading.{Reading}
+use Rattle.frame.specs.Frame.{readingBy, directionNumber, beamsNumber, targetNumbers, frameNumbers, parsedOf, Parses as ParsesRecord}
 use Rattle.frame.specs.declared.PtiFrame.{PtiFrame}
 use Rattle.frame.specs.declared.Parsed.{Parsed}
 use Rattle.frame.specs.declared.Parsed.the-variants.{Frame, Refused as NoFrame}
@@ -42,10 +43,11 @@ use Rattle.command_part.specs.declared.Part.{Part}
 use Rattle.command_part.specs.Part.{commandPart, span}
 use Rattle.libtap.specs.declared.TapAnswer.{TapAnswer}
 use Rattle.libtap.specs.declared.frames.TapFrame.{TapFrame}
+use Rattle.libtap.specs.declared.frames.TapTarget.{TapTarget}
 use Rattle.libtap.specs.declared.headers.TapBits.{TapBits}
 use Rattle.libtap.specs.declared.headers.TapHeader.{TapHeader}
 use Rattle.libtap.specs.declared.commands.TapParams.{TapParams}
-use Rattle.libtap.specs.Answers.{answered, judged, toldTidied, ToldTidied, part, ToldBody, framed, toldFrame, Told}
+use Rattle.libtap.specs.Answers.{answered, judged, toldTidied, ToldTidied, part, ToldBody, aimed, framed, toldFrame, Told}
 use Rattle.libtap.specs.Headers.{toldBits, headed, toldHeader, ToldHeader}
 use Rattle.libtap.specs.Commands.{toldBy}
 
@@ -57,9 +59,10 @@ pub tells-refusal : (f : Frames) (x : Refusal) (number carried : ℕ) → f ≡ 
     → record { refusal = number; value = carried } ≡ answered (saidFrames f)
 tells-refusal f x number carried e is-number is-carried = rw (e, is-number, is-carried) refl
 
-pub told-all : (firmware : ℕ) (s t : List ℕ) (f : Frames) (r : TapAnswer) (t′ : List ℕ) → Parses firmware s t f t′ → r ≡ answered (saidFrames f)
-    → Told firmware s t r t′
-told-all firmware s t f r t′ p is-r =
+pub told-all : (firmware : ℕ) (reading : Reading) (family : Bool) (s t : List ℕ) (f : Frames) (r : TapAnswer) (t′ : List ℕ)
+    → Parses firmware reading s t f t′ → reading ≡ readingBy family → r ≡ answered (saidFrames f) → Told firmware (readingBy family) s t r t′
+told-all firmware reading family s t f r t′ parses is-reading is-r =
+    let p : Parses firmware (readingBy family) s t f t′ = rw is-reading at parses in
     record { answer = is-r ∙ ap answered (p .numbers); table = rw (p .answer) at (p .table); located = rw (p .answer) at (p .located) }
 
 pub counts : (c : Counted) (n : ℕ) → c ≡ Records n → record { refusal = 0; value = n } ≡ answered (said c)
@@ -75,8 +78,8 @@ counts-all s c r so is-r = is-r ∙ ap answered (so .numbers)
 pub parts : (s : List ℕ) (k : ℕ) (b : Span) → IsBody s k b → ToldBody s k (record { start = b .start .0; length = b .end .0 - b .start .0 })
 parts s k b body = record { answer = rw (body .is) refl; inside = omega (arith, body .ordered, body .inside) }
 
-pub framed-row : (f : PtiFrame) (d rssi beams : ℕ) → d ≡ directionNumber (f .direction) → rssi ≡ ofZ w8 (toZ w8 (ofZ w8 (f .rssi)))
-    → mag (f .rssi) < 2 ^ hbits w8 → beams ≡ beamsNumber (f .beams)
+pub framed-row : (f : PtiFrame) (d rssi beams : ℕ) (target : TapTarget) → d ≡ directionNumber (f .direction) → rssi ≡ ofZ w8 (toZ w8 (ofZ w8 (f .rssi)))
+    → mag (f .rssi) < 2 ^ hbits w8 → beams ≡ beamsNumber (f .beams) → target ≡ aimed (targetNumbers (f .target))
     → record {
       refusal = 0;
       value = 0;
@@ -88,22 +91,34 @@ pub framed-row : (f : PtiFrame) (d rssi beams : ℕ) → d ≡ directionNumber (
       beams = beams;
       start = f .start .0;
       length = f .length;
-    } ≡ framed (numbersAt (f .start .0) f)
-framed-row f d rssi beams is-d is-rssi ok is-beams =
+      target = target;
+    } ≡ framed (frameNumbers f)
+framed-row f d rssi beams target is-d is-rssi ok is-beams is-target =
     let read-back : toZ w8 (ofZ w8 (f .rssi)) ≡ f .rssi = toZ-ofZ {w = w8} {z = f .rssi} (record { sfits = ok }) in
-    rw (is-d, is-rssi, read-back, is-beams) refl
+    rw (is-d, is-rssi, read-back, is-beams, is-target) refl
 
-pub frames : (p : Parsed) (f : PtiFrame) (r : TapFrame) → p ≡ Frame f → r ≡ framed (numbersAt (f .start .0) f) → r ≡ toldFrame p
+pub frames : (p : Parsed) (f : PtiFrame) (r : TapFrame) → p ≡ Frame f → r ≡ framed (frameNumbers f) → r ≡ toldFrame p
 frames p f r e is-r = rw e is-r
 
 pub frames-refusal : (p : Parsed) (x : Refusal) (number carried : ℕ) → p ≡ NoFrame x → number ≡ numberOf x → carried ≡ carriedBy x
-    → record { refusal = number; value = carried; direction = 0; region = 0; channel = 0; rate = 0; rssi = 0; beams = 0; start = 0; length = 0 }
-    ≡ toldFrame p
+    → record {
+      refusal = number;
+      value = carried;
+      direction = 0;
+      region = 0;
+      channel = 0;
+      rate = 0;
+      rssi = 0;
+      beams = 0;
+      start = 0;
+      length = 0;
+      target = record { node = 0; hash = 0; power = 0 };
+    } ≡ toldFrame p
 frames-refusal p x number carried e is-number is-carried = rw (e, is-number, is-carried) refl
 
-pub frames-all : (firmware : ℕ) (b : List ℕ) (p : Parsed) (r : TapFrame) → ParsesRecord firmware b p → r ≡ toldFrame p
-    → r ≡ toldFrame (parsedOf firmware b)
-frames-all firmware b p r so is-r = is-r ∙ ap toldFrame (so .answer)
+pub frames-all : (firmware : ℕ) (reading : Reading) (family : Bool) (b : List ℕ) (p : Parsed) (r : TapFrame) → ParsesRecord firmware reading b p
+    → reading ≡ readingBy family → r ≡ toldFrame p → r ≡ toldFrame (parsedOf firmware (readingBy family) b)
+frames-all firmware reading family b p r so is-reading is-r = is-r ∙ ap toldFrame (rw is-reading at (so .answer))
 
 -- ---- texts
 pub tells-accepted : (v : Verdict) → v ≡ Accepted → record { refusal = 0; value = 0 } ≡ judged v

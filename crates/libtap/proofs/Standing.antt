@@ -13,7 +13,8 @@ use Rattle.refusal.specs.Refusal.{numberOf, carriedBy}
 use Rattle.refusal.proofs.Numbers.{numbered}
 use Rattle.text.specs.declared.Verdict.{Verdict}
 use Rattle.text.specs.declared.Verdict.the-variants.{Accepted, Refused as Unfit}
-use Rattle.frame.specs.Frame.{regionBits}
+use Rattle.frame.specs.declared.Reading.{Reading}
+use Rattle.frame.specs.Frame.{regionBits, rulesOf}
 use Rattle.pti.specs.Payload as pti
 use Rattle.command_text.specs.Rules.{verdict}
 use Rattle.tidy.specs.declared.Tidied.the-variants as tidied
@@ -62,10 +63,10 @@ frames-fit false true true firmware n room size h z = h refl
 frames-fit false true false firmware n room size h z = absurd (omega (arith, z))
 frames-fit false false b firmware n room size h z = absurd (omega (arith, z))
 
-pub frames-stand : (firmware : ℕ) (s t : List ℕ) (r : TapAnswer) (t′ : List ℕ) → Told firmware s t r t′ → length t′ ≡ length t → r .refusal ≡ 0
+pub frames-stand : (firmware : ℕ) (reading : Reading) (s t : List ℕ) (r : TapAnswer) (t′ : List ℕ) → Told firmware reading s t r t′ → length t′ ≡ length t → r .refusal ≡ 0
     → r .value * pti.rowWidth ≤ length t′
-frames-stand firmware s t r t′ p same z =
-    let rows : ℕ = length (pti.rowsOf (regionBits firmware) s) in
+frames-stand firmware reading s t r t′ p same z =
+    let rows : ℕ = length (pti.rowsOf (rulesOf firmware reading) s) in
     let few : r .value ≤ length t / pti.rowWidth =
     rw (p .answer) (frames-fit (eqb (regionBits firmware) 0) (leb (length s) 65535) (leb rows (length t / pti.rowWidth)) firmware rows
     (length t / pti.rowWidth) (length s) (leb-true rows (length t / pti.rowWidth)) (rw (p .answer) at z)) in

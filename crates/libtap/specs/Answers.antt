@@ -1,13 +1,14 @@
 -- The answers of the calls on payloads, records and texts as C has them.
 use mathlib.Core.Path.{_≡_}
-use mathlib.Core.List.{List}
+use mathlib.Core.List.{List, []}
 use Prim.Native.Nat.{ℕ, _+_, _≤_}
-use lib.ListN.{length, getD}
+use lib.ListN.{length, getD, drop}
 use Rattle.refusal.specs.Refusal.{numberOf, carriedBy}
 use Rattle.records.specs.Records.{spanOf}
 use Rattle.frame.specs.declared.Parsed.{Parsed}
 use Rattle.frame.specs.declared.Parsed.the-variants.{Frame, Refused as NoFrame}
-use Rattle.frame.specs.Frame.{said}
+use Rattle.frame.specs.declared.Reading.{Reading}
+use Rattle.frame.specs.Frame.{said, rulesOf}
 use Rattle.pti.specs.Payload.{framesOf, saidOf, tableAfter, LocatedIn}
 use Rattle.text.specs.Judge as text
 use Rattle.tidy.specs.declared.Tidied.{Tidied}
@@ -17,6 +18,7 @@ use Rattle.text.specs.declared.Verdict.{Verdict}
 use Rattle.libtap.specs.declared.TapAnswer.{TapAnswer}
 use Rattle.libtap.specs.declared.frames.TapFrame.{TapFrame}
 use Rattle.libtap.specs.declared.frames.TapPart.{TapPart}
+use Rattle.libtap.specs.declared.frames.TapTarget.{TapTarget}
 
 -- an answer in numbers, as F5 and F18 (docs/RULES.md) have it
 abbrev pub answered : ℕ × ℕ → TapAnswer
@@ -35,7 +37,11 @@ pub record ToldBody (s : List ℕ) (k : ℕ) (r : TapPart) : Type 0 where
 abbrev pub Stands : List ℕ → TapAnswer → Type 0
 Stands t r = r .refusal ≡ 0 → r .value ≤ length t
 
--- the numbers of a frame, as F16 has them
+-- the numbers of a beam's target, as BF2 has them
+abbrev pub aimed : List ℕ → TapTarget
+aimed t = record { node = getD t 0 0; hash = getD t 1 0; power = getD t 2 0 }
+
+-- the numbers of a frame, as F16 has them, and behind them those of its target
 abbrev pub framed : List ℕ → TapFrame
 framed f =
     record {
@@ -49,6 +55,7 @@ framed f =
       beams = getD f 5 0;
       start = getD f 6 0;
       length = getD f 7 0;
+      target = aimed (drop 8 f);
     }
 
 -- the frame, or the refusal's number and what it carries
@@ -66,6 +73,7 @@ toldFrame (NoFrame x) =
       beams = 0;
       start = 0;
       length = 0;
+      target = aimed [];
     }
 
 -- a verdict's number and its line
@@ -84,7 +92,7 @@ pub record ToldTidied (text buffer : List ℕ) (r : TapAnswer) (buffer′ : List
   pub told-so : r ≡ toldTidied answer
 
 -- what `tap_parse_payload` answers and leaves, for a payload s and a table t
-pub record Told (firmware : ℕ) (s t : List ℕ) (r : TapAnswer) (t′ : List ℕ) : Type 0 where
-  pub answer : r ≡ answered (saidOf firmware s (length t))
-  pub table : t′ ≡ tableAfter firmware s t (framesOf firmware s (length t))
-  pub located : LocatedIn firmware s (framesOf firmware s (length t))
+pub record Told (firmware : ℕ) (reading : Reading) (s t : List ℕ) (r : TapAnswer) (t′ : List ℕ) : Type 0 where
+  pub answer : r ≡ answered (saidOf firmware reading s (length t))
+  pub table : t′ ≡ tableAfter (rulesOf firmware reading) s t (framesOf firmware reading s (length t))
+  pub located : LocatedIn (rulesOf firmware reading) s (framesOf firmware reading s (length t))

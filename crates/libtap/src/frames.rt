@@ -6,6 +6,8 @@ use pti::parse_payload;
 use pti::payload::Frames;
 use pti::payload::beams_number;
 use pti::payload::direction_number;
+use pti::reading_by;
+use radio::beam::BeamTarget;
 use radio::rssi::byte_of;
 use records::Counted;
 use records::find_body;
@@ -13,11 +15,19 @@ ghost use mathlib.Core.Path.{_≡_};
 ghost use Rattle.radio.specs.Speed.{rateOf};
 ghost use Rattle.radio.specs.Beam.{beamsOf};
 ghost use Rattle.records.specs.Records.{said, saidOf};
-ghost use Rattle.frame.specs.Frame.{parsedOf, numbersAt};
+ghost use Rattle.frame.specs.Frame.{parsedOf, readingBy, targetNumbers, frameNumbers};
 ghost use Rattle.pti.specs.Payload.{said as saidFrames};
-ghost use Rattle.libtap.specs.Answers.{answered, ToldBody, framed, toldFrame, Told};
+ghost use Rattle.libtap.specs.Answers.{answered, ToldBody, aimed, framed, toldFrame, Told};
 
-// A single record's frame as C has it: where `refusal` is 0, the eight numbers of F16, `start` in the record's body.
+// Whom a beam wakes, as C has it: the three numbers of BF2.
+#[repr(C)]
+pub struct TapTarget {
+    pub node: u64,
+    pub hash: u64,
+    pub power: u64,
+}
+
+// A single record's frame as C has it: where `refusal` is 0, the eight numbers of F16, `start` in the record's body, and whom a beam wakes.
 #[repr(C)]
 pub struct TapFrame {
     pub refusal: u64,
@@ -30,6 +40,7 @@ pub struct TapFrame {
     pub beams: u64,
     pub start: u64,
     pub length: u64,
+    pub target: TapTarget,
 }
 
 // A part of the caller's bytes: where it starts in them, and its length.
@@ -93,11 +104,22 @@ pub extern "C" fn tap_record_body(payload: &[u8], k: usize) -> TapPart
     }
 }
 
+fn tell_target(target: BeamTarget) -> TapTarget
+    ensures { λ r. ⌜ r ≡ aimed (targetNumbers target) ⌝ }
+{
+    TapTarget {
+        node: target.node as u64,
+        hash: target.hash as u64,
+        power: target.power as u64,
+    }
+}
+
 fn tell_row(frame: PtiFrame) -> TapFrame
-    ensures { λ r. ⌜ r ≡ framed (numbersAt (frame .start .0) frame) ⌝ }
+    ensures { λ r. ⌜ r ≡ framed (frameNumbers frame) ⌝ }
 {
     let direction = frame.direction;
     let beams = frame.beams;
+    let target = frame.target;
     TapFrame {
         refusal: 0,
         value: 0,
@@ -109,6 +131,7 @@ fn tell_row(frame: PtiFrame) -> TapFrame
         beams: beams_number(beams) as u64,
         start: frame.start.0 as u64,
         length: frame.length as u64,
+        target: tell_target(target),
     }
 }
 
@@ -128,16 +151,21 @@ fn tell_frame(parsed: Parsed) -> TapFrame
             beams: 0,
             start: 0,
             length: 0,
+            target: TapTarget {
+                node: 0,
+                hash: 0,
+                power: 0,
+            },
         },
     }
 }
 
-// The frame of a single record's body, which that firmware wrote, or refusal 13, 4 or 9.
+// The frame of a single record's body, which that firmware wrote, with beams as a family of their own or not, or refusal 13, 4 or 9.
 #[no_mangle]
-pub extern "C" fn tap_parse_record(body: &[u8], firmware: usize) -> TapFrame
-    ensures { λ r. ⌜ r ≡ toldFrame (parsedOf firmware (now (body .entry))) ⌝ }
+pub extern "C" fn tap_parse_record(body: &[u8], firmware: usize, family: bool) -> TapFrame
+    ensures { λ r. ⌜ r ≡ toldFrame (parsedOf firmware (readingBy family) (now (body .entry))) ⌝ }
 {
-    let parsed = pti::parse_record(body, firmware);
+    let parsed = pti::parse_record(body, firmware, reading_by(family));
     tell_frame(parsed)
 }
 
@@ -156,12 +184,17 @@ fn tell(frames: Frames) -> TapAnswer
     }
 }
 
-// Every frame of a payload, which that firmware wrote, into a table, the ten numbers of F17 and FP1 (docs/RULES.md) a row. Answers the rows, or refusal 13,
-// 4 or 8.
+// Every frame of a payload, which that firmware wrote, with beams as a family of their own or not, into a table, the thirteen numbers of F17, FP1 and BF2
+// (docs/RULES.md) a row. Answers the rows, or refusal 13, 4 or 8.
 #[no_mangle]
-pub extern "C" fn tap_parse_payload(payload: &[u8], firmware: usize, table: &mut [u16]) -> TapAnswer
-    ensures { λ r. ⌜ Told firmware (now (payload .entry)) (now (table .entry)) r (now (table .exit)) ⌝ }
+pub extern "C" fn tap_parse_payload(
+    payload: &[u8],
+    firmware: usize,
+    family: bool,
+    table: &mut [u16],
+) -> TapAnswer
+    ensures { λ r. ⌜ Told firmware (readingBy family) (now (payload .entry)) (now (table .entry)) r (now (table .exit)) ⌝ }
 {
-    let frames = parse_payload(payload, firmware, table);
+    let frames = parse_payload(payload, firmware, reading_by(family), table);
     tell(frames)
 }

@@ -87,6 +87,7 @@ fn answer_file(name: &[u8], fd: i32, task: Task, options: Options) {
     let mut mpdu = io::buffer();
     let aim = Aim {
         firmware: options.firmware,
+        family: options.family,
         left: before,
         payloads: 0,
     };

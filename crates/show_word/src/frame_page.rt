@@ -1,6 +1,7 @@
 // A frame whole: how it was heard, its bytes, and its header as a tree and, where it is asked for, as a picture.
 use crate::frame_search::Hit;
 use files::options::Options;
+use frame_line::beam_columns::number_of;
 use frame_line::frame_row::put_rate;
 use frame_line::frame_row::put_rssi;
 use frame_line::mpdu_columns::put_why;
@@ -15,6 +16,7 @@ use trees::hex_dump::put_dump;
 use trees::ruler::put_ruler;
 use writer::Buffer;
 use writer::put;
+use writer::put_digits;
 use writer::put_marked;
 use writer::put_number;
 
@@ -43,12 +45,32 @@ fn put_signal(out: &mut Buffer, at: usize, frame: FrameRecord) -> usize {
     put_channel(out, place, frame.region, frame.channel)
 }
 
-// How often a beam was heard. Any other frame has none.
-fn put_beams(out: &mut Buffer, at: usize, beams: u16) -> usize {
-    if beams == 0 {
+// A number that a beam tells as one more, if it is there.
+fn put_told(out: &mut Buffer, at: usize, name: &[u8], field: u16) -> usize {
+    if field == 0 {
         return at;
     }
-    put_marked(out, at, b"  Beam x", beams as u64, 0)
+    put_marked(out, at, name, number_of(field), 0)
+}
+
+// The hash of the home id that a beam tells.
+fn put_hash(out: &mut Buffer, at: usize, hash: u16) -> usize {
+    if hash == 0 {
+        return at;
+    }
+    let place = put(out, at, b"  hash ");
+    put_digits(out, place, number_of(hash), 2)
+}
+
+// How often a beam was heard, and whom it wakes. Any other frame has none.
+fn put_beams(out: &mut Buffer, at: usize, frame: FrameRecord) -> usize {
+    if frame.beams == 0 {
+        return at;
+    }
+    let mut place = put_marked(out, at, b"  Beam x", frame.beams as u64, 0);
+    place = put_told(out, place, b"  node ", frame.node);
+    place = put_hash(out, place, frame.hash);
+    put_told(out, place, b"  power ", frame.power)
 }
 
 // Where its record stands.
@@ -65,7 +87,7 @@ pub fn put_heard(out: &mut Buffer, at: usize, number: u64, hit: Hit, mpdu: &[u8]
     let frame = hit.frame;
     let mut place = put_number_line(out, at, number, frame.direction);
     place = put_signal(out, place, frame);
-    place = put_beams(out, place, frame.beams);
+    place = put_beams(out, place, frame);
     place = put_place(out, place, hit);
     put_dump(out, place, mpdu)
 }

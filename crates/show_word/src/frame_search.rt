@@ -6,6 +6,7 @@ use files::capture::next_item;
 use pti::parse_payload;
 use pti::payload::Frames;
 use pti::payload::ROW_WIDTH;
+use pti::reading_by;
 use readers::cells::part;
 use screen::FrameRecord;
 use screen::record_at;
@@ -25,9 +26,10 @@ pub struct Hit {
     pub payload: u64,
 }
 
-// What is sought: the frame after so many, of those behind so many payloads, which a firmware wrote.
+// What is sought: the frame after so many, of those behind so many payloads, which a firmware wrote, with beams as a family of their own or not.
 pub struct Aim {
     pub firmware: usize,
+    pub family: bool,
     pub left: u64,
     pub payloads: u64,
 }
@@ -68,7 +70,7 @@ fn search_payload(payload: &[u8], aim: Aim, table: &mut Table, mpdu: &mut [u8; 4
     ensures { λ r. ⌜ Holds (now (mpdu .exit)) r ⌝ }
 {
     let left = aim.left;
-    let Frames::Rows(n) = parse_payload(payload, aim.firmware, table) else {
+    let Frames::Rows(n) = parse_payload(payload, aim.firmware, reading_by(aim.family), table) else {
         return Search::Left(aim.behind(left));
     };
     if left < n as u64 {

@@ -185,6 +185,7 @@ fn show_file(name: &[u8], fd: i32, number: u64, options: Options) {
     let mut mpdu = io::buffer();
     let aim = Aim {
         firmware: options.firmware,
+        family: options.family,
         left: before,
         payloads: 0,
     };

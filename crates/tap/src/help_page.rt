@@ -48,6 +48,9 @@ which, with .. where there is no room for all; tap show gives them all.
                           and the byte at which that record begins, also from 0
   --firmware N            which capture firmware wrote it: 2, as without this option, or 3, which
                           says regions in five bits
+  --beams family          only what repeats, or is too short for any other frame, is a beam, and says
+                          its node, the hash of its home id and at Long Range its power. Without this
+                          option, or by --beams marker, all that starts with 55 is one
   --by-position           offsets in command texts count the lines of the text, not what is there
 
 Where the frame text is missing or refused, no frame has a name. The last line of the output is
@@ -132,7 +135,7 @@ puts the listing on standard output and the last line on standard error, so it c
   bin/tap list house.hex 7 >ours.txt
 
 A frame whose header is refused gives no listing: the last line is 'refused N V' then. It takes
---definitions and --firmware as tap frames does.
+--definitions, --firmware and --beams as tap frames does.
 ",
     );
     succeed();
@@ -148,7 +151,7 @@ header, or where rows are missing. LISTING may be -, and 65536 bytes of it are r
 
 The last line of the output is ok for yes, 'differs L' where line L differs, with status 1, or
 'refused N V': 1 to 7 as tap show says them, or 16 with the first line that is not of the form.
-docs/SUPPORT.md has examples. It takes --definitions and --firmware as tap frames does.
+docs/SUPPORT.md has examples. It takes --definitions, --firmware and --beams as tap frames does.
 ",
     );
     succeed();

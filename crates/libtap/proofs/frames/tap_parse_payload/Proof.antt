@@ -6,4 +6,5 @@ use Rattle.libtap.proofs.frames.tap_parse_payload.Tie as tie
 
 pub tap-parse-payload-spec : {M : Type 1} → statement M
 tap-parse-payload-spec =
-    tie.close (tie.spec (λ c κs. search (needs, laws)) (λ c κs. search (needs, laws)) (λ c. search (needs, laws)) (λ c. search (needs, laws)))
+    tie.close
+    (tie.spec (λ c κs. search (needs, laws)) (λ c κs. search (needs, laws)) (λ c κs. search (needs, laws)) (λ c. search (needs, laws)) (λ c. search (needs, laws)))

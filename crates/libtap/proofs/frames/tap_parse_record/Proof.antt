@@ -5,4 +5,5 @@ use Rattle.libtap.proofs.frames.tap_parse_record.Statement.{statement}
 use Rattle.libtap.proofs.frames.tap_parse_record.Tie as tie
 
 pub tap-parse-record-spec : {M : Type 1} → statement M
-tap-parse-record-spec = tie.close (tie.spec (λ c κs. search (needs, laws)) (λ c κs. search (needs, laws)) (λ c. search (needs, laws)))
+tap-parse-record-spec =
+    tie.close (tie.spec (λ c κs. search (needs, laws)) (λ c κs. search (needs, laws)) (λ c κs. search (needs, laws)) (λ c. search (needs, laws)))

@@ -18,4 +18,5 @@ tell-row-spec =
     (λ c κs. search (needs, laws))
     (λ c. search (needs, laws))
     (λ c. search (needs, laws))
+    (λ c κs. search (needs, laws))
     (λ c. search (needs, laws)))

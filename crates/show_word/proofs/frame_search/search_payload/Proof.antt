@@ -9,6 +9,7 @@ search-payload-spec =
     tie.close
     (tie.spec
     (λ c κs. search (needs, row-there))
+    (λ c κs. search (needs, row-there))
     (λ c. search (needs, row-there))
     (λ c. search (needs, row-there))
     (λ c κs. search (needs, row-there))
