@@ -27,6 +27,7 @@ pub enum Word {
     Headernodes,
     Listing,
     Headervalue,
+    Totals,
     Unknown,
 }
 
@@ -70,7 +71,7 @@ pub fn find(s: &[u8], b: u8) -> usize
 
 pub fn word_of(word: &[u8]) -> Word {
     let words: &[u8] =
-        b"rate\tcount\tbody\trecord\tframes\tframetable\tframetext\tcommandtext\theader\tcommand\tbits\tchecksum\trecordby\tframesby\tframetableby\ttidy\tcommandby\theadernodes\tlisting\theadervalue";
+        b"rate\tcount\tbody\trecord\tframes\tframetable\tframetext\tcommandtext\theader\tcommand\tbits\tchecksum\trecordby\tframesby\tframetableby\ttidy\tcommandby\theadernodes\tlisting\theadervalue\ttotals";
     match find_field(words, word) {
         0 => Word::Rate,
         1 => Word::Count,
@@ -92,6 +93,7 @@ pub fn word_of(word: &[u8]) -> Word {
         17 => Word::Headernodes,
         18 => Word::Listing,
         19 => Word::Headervalue,
+        20 => Word::Totals,
         _ => Word::Unknown,
     }
 }

@@ -15,8 +15,9 @@ use crate::definition;
 use crate::refusal::Refusal;
 use crate::request::Request;
 use crate::rows::within_table;
+use crate::totals::{Reader, Run};
 
-/// The answer to a request on frames, to `header`, `command` or `commandby`; `None` to another.
+/// The answer to a request on frames, to `header`, `command`, `commandby` or `totals`; `None` to another.
 pub fn answer(request: &Request) -> Option<String> {
     let answer = match request {
         Request::Header { cap, region, speed, text, mpdu } => {
@@ -34,6 +35,10 @@ pub fn answer(request: &Request) -> Option<String> {
             frames_answer("framesby", *firmware, *cap, payload)
         }
         Request::Frames { cap, payload } => frames_answer("frames", 2, *cap, payload),
+        Request::Totals { start, by, region, text, payloads } => {
+            let run = Run { start: *start, by: *by, region: *region, text, payloads };
+            Ok(run.answer(Reader::Reading).line)
+        }
         _ => return None,
     };
     Some(answer.unwrap_or_else(|refusal| refusal.to_string()))
