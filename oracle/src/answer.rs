@@ -10,7 +10,7 @@ use crate::definition::frame::FrameDefinition;
 use crate::definition::{self, Definition};
 use crate::limits::{self, within};
 use crate::reading::command::Offsets;
-use crate::reading::pti::{Frame, Origin, region_bits};
+use crate::reading::pti::{By, Frame, Origin, Target, region_bits};
 use crate::refusal::Refusal;
 use crate::request::{Request, push_hex};
 use crate::rows::{self, LACKING, within_table};
@@ -45,16 +45,12 @@ pub fn full_answer(line: &[u8]) -> Answer {
         Request::Rate { channel, region } => Ok(rate(*channel, *region)),
         Request::Count { payload } => count(payload),
         Request::Body { k, payload } => Ok(body(*k, payload)),
-        Request::Record { body } => record("frame", 2, body),
-        Request::Frames { cap, payload } => frames("frames", 2, *cap, payload),
-        Request::Frametable { cap, payload } => frames("frametable", 2, *cap, payload),
-        Request::Recordby { firmware, body } => record("recordby", *firmware, body),
-        Request::Framesby { firmware, cap, payload } => {
-            frames("framesby", *firmware, *cap, payload)
-        }
-        Request::Frametableby { firmware, cap, payload } => {
-            frames("frametableby", *firmware, *cap, payload)
-        }
+        Request::Record { body } => record("frame", By::SOURCE, body),
+        Request::Frames { cap, payload } => frames("frames", By::SOURCE, *cap, payload),
+        Request::Frametable { cap, payload } => frames("frametable", By::SOURCE, *cap, payload),
+        Request::Recordby { by, body } => record("recordby", *by, body),
+        Request::Framesby { by, cap, payload } => frames("framesby", *by, *cap, payload),
+        Request::Frametableby { by, cap, payload } => frames("frametableby", *by, *cap, payload),
         Request::Frametext { text } => verdict::<FrameDefinition>(text),
         Request::Commandtext { text } => verdict::<CommandDefinition>(text),
         Request::Header { cap, region, speed, text, mpdu } => {
@@ -114,26 +110,28 @@ fn body(k: u64, payload: &[u8]) -> String {
     answer
 }
 
-/// The Rust's answer for firmware 2, the second reading's for another.
-fn record(word: &str, firmware: u64, body: &[u8]) -> Result<String, Refusal> {
-    let frame = match region_bits(firmware)? {
-        4 => {
-            within(limits::BODY, body)?;
-            let frame = pti::parse_record(body).ok_or(Refusal { number: 9, carried: 0 })?;
-            by_source(&frame, mpdu_start(body, &frame), None)
-        }
-        _ => reading::pti::parse_record(firmware, body)?,
+/// The Rust's answer for firmware 2 and the beams of document 01, the second reading's for others.
+fn record(word: &str, by: By, body: &[u8]) -> Result<String, Refusal> {
+    region_bits(by.firmware)?;
+    let frame = if by == By::SOURCE {
+        within(limits::BODY, body)?;
+        let frame = pti::parse_record(body).ok_or(Refusal { number: 9, carried: 0 })?;
+        by_source(&frame, mpdu_start(body, &frame), None)
+    } else {
+        reading::pti::parse_record(by, body)?
     };
     let mut answer = word.to_string();
     push_frame(&frame, word, &mut answer);
     Ok(answer)
 }
 
-/// The Rust's answer for firmware 2, the second reading's for another.
-fn frames(word: &str, firmware: u64, cap: u64, payload: &[u8]) -> Result<String, Refusal> {
-    let frames = match region_bits(firmware)? {
-        4 => source_frames(cap, payload)?,
-        _ => reading::pti::parse_payload(firmware, payload, cap)?,
+/// The Rust's answer for firmware 2 and the beams of document 01, the second reading's for others.
+fn frames(word: &str, by: By, cap: u64, payload: &[u8]) -> Result<String, Refusal> {
+    region_bits(by.firmware)?;
+    let frames = if by == By::SOURCE {
+        source_frames(cap, payload)?
+    } else {
+        reading::pti::parse_payload(by, payload, cap)?
     };
     let mut answer = format!("{word} {}", frames.len());
     for frame in frames {
@@ -165,6 +163,7 @@ fn by_source(frame: &PtiFrame, start: usize, origin: Option<Origin>) -> Frame {
         start,
         length: frame.mpdu.len(),
         origin,
+        target: Target::default(),
     }
 }
 
@@ -194,7 +193,7 @@ fn mpdu_start(body: &[u8], frame: &PtiFrame) -> usize {
 }
 
 /// Writes ` DIR REGION CHANNEL RATE RSSI BEAMS START LENGTH`, and for a word that names a firmware
-/// ` RECORD PLACE`, if the frame stands in a payload.
+/// ` RECORD PLACE`, if the frame stands in a payload, and ` NODE HASH POWER`.
 pub fn push_frame(frame: &Frame, word: &str, answer: &mut String) {
     let Frame { region, channel, rate, rssi, start, length, .. } = frame;
     let direction = u8::from(frame.is_sent);
@@ -203,6 +202,13 @@ pub fn push_frame(frame: &Frame, word: &str, answer: &mut String) {
         .expect("a string takes all");
     if let Some(Origin { record, place }) = frame.origin.filter(|_| word.ends_with("by")) {
         write!(answer, " {record} {place}").expect("a string takes all");
+    }
+    if word.ends_with("by") {
+        let Target { node, hash, power } = frame.target;
+        for number in [node, hash, power] {
+            let number = number.map_or("-".to_string(), |number| number.to_string());
+            write!(answer, " {number}").expect("a string takes all");
+        }
     }
 }
 

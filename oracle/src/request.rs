@@ -3,6 +3,7 @@
 
 use crate::limits;
 use crate::reading::command::Offsets;
+use crate::reading::pti::{Beams, By};
 
 /// A request that has the form of one.
 #[derive(Debug, Clone, PartialEq, Eq)]
@@ -13,9 +14,9 @@ pub enum Request {
     Record { body: Vec<u8> },
     Frames { cap: u64, payload: Vec<u8> },
     Frametable { cap: u64, payload: Vec<u8> },
-    Recordby { firmware: u64, body: Vec<u8> },
-    Framesby { firmware: u64, cap: u64, payload: Vec<u8> },
-    Frametableby { firmware: u64, cap: u64, payload: Vec<u8> },
+    Recordby { by: By, body: Vec<u8> },
+    Framesby { by: By, cap: u64, payload: Vec<u8> },
+    Frametableby { by: By, cap: u64, payload: Vec<u8> },
     Frametext { text: Vec<u8> },
     Commandtext { text: Vec<u8> },
     Header { cap: u64, region: u64, speed: u64, text: Vec<u8>, mpdu: Vec<u8> },
@@ -41,14 +42,14 @@ impl Request {
             b"record" => Request::Record { body: words.bytes()? },
             b"frames" => Request::Frames { cap: words.cap()?, payload: words.bytes()? },
             b"frametable" => Request::Frametable { cap: words.cap()?, payload: words.bytes()? },
-            b"recordby" => Request::Recordby { firmware: words.by()?, body: words.bytes()? },
+            b"recordby" => Request::Recordby { by: words.by()?, body: words.bytes()? },
             b"framesby" => Request::Framesby {
-                firmware: words.by()?,
+                by: words.by()?,
                 cap: words.cap()?,
                 payload: words.bytes()?,
             },
             b"frametableby" => Request::Frametableby {
-                firmware: words.by()?,
+                by: words.by()?,
                 cap: words.cap()?,
                 payload: words.bytes()?,
             },
@@ -124,12 +125,12 @@ impl Request {
             Request::Record { body } => ("record", vec![], vec![body]),
             Request::Frames { cap, payload } => ("frames", vec![*cap], vec![payload]),
             Request::Frametable { cap, payload } => ("frametable", vec![*cap], vec![payload]),
-            Request::Recordby { firmware, body } => ("recordby", vec![*firmware, 0], vec![body]),
-            Request::Framesby { firmware, cap, payload } => {
-                ("framesby", vec![*firmware, 0, *cap], vec![payload])
+            Request::Recordby { by, body } => ("recordby", by.numbers(), vec![body]),
+            Request::Framesby { by, cap, payload } => {
+                ("framesby", [by.numbers(), vec![*cap]].concat(), vec![payload])
             }
-            Request::Frametableby { firmware, cap, payload } => {
-                ("frametableby", vec![*firmware, 0, *cap], vec![payload])
+            Request::Frametableby { by, cap, payload } => {
+                ("frametableby", [by.numbers(), vec![*cap]].concat(), vec![payload])
             }
             Request::Frametext { text } => ("frametext", vec![], vec![text]),
             Request::Commandtext { text } => ("commandtext", vec![], vec![text]),
@@ -216,10 +217,15 @@ impl<'a, W: Iterator<Item = &'a [u8]>> Words<W> {
         self.number().filter(|&cap| cap <= limits::CAP)
     }
 
-    /// `FIRMWARE READING`: there is no reading but 0.
-    fn by(&mut self) -> Option<u64> {
+    /// `FIRMWARE READING`: the reading is 0 or 1.
+    fn by(&mut self) -> Option<By> {
         let firmware = self.number()?;
-        (self.number()? == 0).then_some(firmware)
+        let beams = match self.number()? {
+            0 => Beams::Marker,
+            1 => Beams::Family,
+            _ => return None,
+        };
+        Some(By { firmware, beams })
     }
 
     /// `MODE`: 0 or 1.

@@ -4,6 +4,7 @@ use crate::generate::{FAULTS, Generator, spoil};
 use crate::limits;
 use crate::random::Random;
 use crate::reading::command::Offsets;
+use crate::reading::pti::{Beams, By};
 use crate::request::{Request, push_hex};
 use crate::shape::{Body, LONGEST_BODY, PAIRS_BY_RATE, PAIRS_OF_FIVE_BITS, enclose};
 
@@ -26,6 +27,7 @@ pub fn sample(seed: u64, kinds: &str) -> Result<Vec<Vec<u8>>, String> {
     requests.extend(about_faults(&mut Random::new(seed, u64::MAX)));
     requests.extend(about_tables());
     requests.extend(about_firmwares());
+    requests.extend(about_families());
     requests.extend(about_lengths());
     requests.extend(about_headers());
     requests.extend(about_commands());
@@ -124,8 +126,9 @@ fn bad_lines() -> Vec<Vec<u8>> {
         b"frametable 16385 -",
         b"frametable 1 0",
         b"recordby 3 5b",
-        b"recordby 3 1 5b",
+        b"recordby 3 1",
         b"recordby 3 2 -",
+        b"recordby 3 01 -",
         b"recordby - 0 -",
         b"recordby 18446744073709551616 0 -",
         b"framesby 3 0 -",
@@ -304,22 +307,31 @@ fn about_tables() -> Vec<Request> {
     requests
 }
 
+/// Repeated or not, tagged or not, and a firmware.
+const ALL_THREE: [(bool, bool, u64); 8] = [
+    (true, true, 2),
+    (true, true, 3),
+    (true, false, 2),
+    (true, false, 3),
+    (false, true, 2),
+    (false, true, 3),
+    (false, false, 2),
+    (false, false, 3),
+];
+
 /// Every region byte under both firmwares; a beam of each pair of five bits; numbers of firmwares
 /// that there aren't, with a body that is too long too.
 fn about_firmwares() -> Vec<Request> {
-    let asked = |firmware: u64, body: Vec<u8>| {
-        let payload = enclose(&body);
-        [
-            Request::Recordby { firmware, body },
-            Request::Framesby { firmware, cap: 1, payload: payload.clone() },
-            Request::Frametableby { firmware, cap: 0, payload },
-        ]
+    let by = |firmware: u64| By { firmware, beams: Beams::Marker };
+    let asked = |firmware: u64, body: Vec<u8>| asked_by(by(firmware), body);
+    let too_long = |firmware: u64| {
+        Request::Recordby { by: by(firmware), body: vec![0; limits::BODY + 1] }
     };
     let mut requests = Vec::new();
     for region in 0..=255 {
         let mut body = Body::new(2, region % 2 == 0, vec![0xC5, 1, 2]);
         (body.region, body.channel, body.protocol) = (region, region >> 4, 0x16);
-        let record = |firmware| Request::Recordby { firmware, body: body.bytes() };
+        let record = |firmware| asked(firmware, body.bytes())[0].clone();
         requests.extend([3, 2].map(record));
     }
     for &(channel, region) in PAIRS_OF_FIVE_BITS {
@@ -332,9 +344,46 @@ fn about_firmwares() -> Vec<Request> {
     for firmware in [0, 1, 4, 5, 13, 255, 258, 259, 1 << 32 | 2, u64::MAX] {
         requests.extend(asked(firmware, Body::new(2, false, vec![1]).bytes()));
         requests.extend(asked(firmware, vec![]));
-        requests.push(Request::Recordby { firmware, body: vec![0; limits::BODY + 1] });
+        requests.push(too_long(firmware));
     }
-    requests.push(Request::Recordby { firmware: 3, body: vec![0; limits::BODY + 1] });
+    requests.push(too_long(3));
+    requests
+}
+
+/// A record by itself, and in a payload.
+fn asked_by(by: By, body: Vec<u8>) -> [Request; 3] {
+    let payload = enclose(&body);
+    [
+        Request::Recordby { by, body },
+        Request::Framesby { by, cap: 1, payload: payload.clone() },
+        Request::Frametableby { by, cap: 1, payload },
+    ]
+}
+
+/// Beams as a family of their own: 1 to 12 middle bytes at every rate, that repeat or not, with the
+/// right tag and with a wrong one, under both firmwares; some of them by the other reading too.
+fn about_families() -> Vec<Request> {
+    let mut requests = Vec::new();
+    for (rate, pairs) in PAIRS_BY_RATE.iter().enumerate() {
+        let width = if rate == 3 { 4 } else { 3 };
+        for m in 1..=12 {
+            for (is_repeated, is_tagged, firmware) in ALL_THREE {
+                let mut middle: Vec<u8> = [0x55, 0x61, 0x02, 0x9A, 5, 6, 7, 8, 9, 10, 11, 12][..m].to_vec();
+                if is_repeated {
+                    middle = [0x55, 0x61, 0x02, 0x9A][..width].repeat(4)[..m].to_vec();
+                }
+                let mut body = Body::new(2, m % 2 == 0, middle);
+                (body.channel, body.region) = pairs[m % pairs.len()];
+                body.tag ^= u8::from(!is_tagged);
+                let by = By { firmware, beams: Beams::Family };
+                requests.push(asked_by(by, body.bytes())[0].clone());
+                if (8..=9).contains(&m) {
+                    requests.extend(asked_by(By { beams: Beams::Marker, ..by }, body.bytes()));
+                    requests.extend(asked_by(by, body.bytes()));
+                }
+            }
+        }
+    }
     requests
 }
 

@@ -65,8 +65,8 @@ frames-fit false true true firmware n room size h z = h refl
 frames-fit false true false firmware n room size h z = absurd (omega (arith, z))
 frames-fit false false b firmware n room size h z = absurd (omega (arith, z))
 
-pub frames-stand : (firmware : ℕ) (reading : Reading) (s t : List ℕ) (r : TapAnswer) (t′ : List ℕ) → Told firmware reading s t r t′ → length t′ ≡ length t → r .refusal ≡ 0
-    → r .value * pti.rowWidth ≤ length t′
+pub frames-stand : (firmware : ℕ) (reading : Reading) (s t : List ℕ) (r : TapAnswer) (t′ : List ℕ) → Told firmware reading s t r t′
+    → length t′ ≡ length t → r .refusal ≡ 0 → r .value * pti.rowWidth ≤ length t′
 frames-stand firmware reading s t r t′ p same z =
     let rows : ℕ = length (pti.rowsOf (rulesOf firmware reading) s) in
     let few : r .value ≤ length t / pti.rowWidth =

@@ -83,13 +83,7 @@ fn put_nodes(out: &mut Buffer, used: usize, nodes: &[u16]) -> usize {
 }
 
 // What a call answers, and the table that it was lent.
-fn put_listed(
-    out: &mut Buffer,
-    used: usize,
-    word: &[u8],
-    listed: TapAnswer,
-    nodes: &[u16],
-) -> usize
+fn put_listed(out: &mut Buffer, used: usize, word: &[u8], listed: TapAnswer, nodes: &[u16]) -> usize
     requires { ⌜ Stands (now nodes) listed ⌝ }
 {
     if listed.refusal != 0 {

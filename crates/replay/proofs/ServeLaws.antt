@@ -26,7 +26,8 @@ use Rattle.replay.specs.declared.serve.Turn.{Turn}
 use Rattle.replay.specs.declared.serve.Turn.the-variants.{Next}
 use Rattle.replay.specs.Input.{In, Empty, Finds, Fills}
 use Rattle.replay.specs.declared.frames.By.{By}
-use Rattle.replay.specs.declared.frames.By.the-variants.{Firmware}
+use Rattle.replay.specs.declared.frames.By.the-variants.{Capture as Captured}
+use Rattle.replay.specs.declared.frames.Capture.{Capture}
 use Rattle.replay.specs.Frames.{Asks, Named}
 use Rattle.replay.specs.Serve.{Goes}
 use Rattle.pti.specs.Payload.{rowWidth}
@@ -74,12 +75,12 @@ module _ (held : List ℕ) (r : Asked) (numbers n : ℕ) (told : Asks held r) (i
   asked-numbers = asked .0
 
 -- ---- the firmware that a request names
-pub named-none : (words : List ℕ) → Named words (Firmware 2 0)
-named-none words = omega arith
+pub named-none : (words : List ℕ) (capture : Capture) → Named words (Captured capture 0)
+named-none words capture = omega arith
 
-pub named-some : (words : List ℕ) (firmware at next : ℕ) (r : Leading) (v : ℕ) → at ≤ length words
-    → r ≡ leadingOf (take (length words - at) (drop at words)) → r ≡ Leads v next → Named words (Firmware firmware (at + next))
-named-some words firmware at next r v in-words is e =
+pub named-some : (words : List ℕ) (capture : Capture) (at next : ℕ) (r : Leading) (v : ℕ) → at ≤ length words
+    → r ≡ leadingOf (take (length words - at) (drop at words)) → r ≡ Leads v next → Named words (Captured capture (at + next))
+named-some words capture at next r v in-words is e =
     let inside = leading-inside (take (length words - at) (drop at words)) r v next is e in
     omega (arith, rw (tail words at, length-drop) at inside)
 
@@ -89,8 +90,8 @@ named-fits words at next r v in-words short is e =
     let inside = leading-inside (take (length words - at) (drop at words)) r v next is e in
     omega (arith, short, rw (tail words at, length-drop) at inside)
 
-pub named-rest : (words : List ℕ) (r : By) (firmware at : ℕ) → Named words r → r ≡ Firmware firmware at → at ≤ length words
-named-rest words r firmware at told is = rw is at told
+pub named-rest : (words : List ℕ) (r : By) (capture : Capture) (at : ℕ) → Named words r → r ≡ Captured capture at → at ≤ length words
+named-rest words r capture at told is = rw is at told
 
 -- ---- as many records as are filled stand in the table of frame records
 pub filled-inside : (records : List FrameRecord) (rows₀ rows : List ℕ) (n lent : ℕ) (t : FrameTable) → FilledFirst records rows₀ n lent t

@@ -6,7 +6,7 @@ use Rattle.pti.specs.Payload.{rowWidth}
 use Rattle.replay.specs.declared.frames.Asked.{Asked}
 use Rattle.replay.specs.declared.frames.Asked.the-variants.{Table, Not}
 use Rattle.replay.specs.declared.frames.By.{By}
-use Rattle.replay.specs.declared.frames.By.the-variants.{Firmware, Not as NotBy}
+use Rattle.replay.specs.declared.frames.By.the-variants.{Capture, Not as NotBy}
 
 -- no more than 16,384 rows, and bytes that the buffer holds
 abbrev pub Asks : List ℕ → Asked → Type 0
@@ -15,5 +15,5 @@ Asks held Not = Unit
 
 -- the other words of the request lie behind those that name the firmware
 abbrev pub Named : List ℕ → By → Type 0
-Named words (Firmware firmware at) = at ≤ length words
+Named words (Capture capture at) = at ≤ length words
 Named words NotBy = Unit

@@ -39,6 +39,9 @@ fn untouched() -> FrameRecord {
         length: SHORT,
         number: SHORT,
         place: SHORT,
+        node: SHORT,
+        hash: SHORT,
+        power: SHORT,
     }
 }
 
@@ -75,6 +78,9 @@ fn flat_row(record: FrameRecord) -> [u16; ROW_WIDTH] {
         record.length,
         record.number,
         record.place,
+        record.node,
+        record.hash,
+        record.power,
     ];
     let fresh: [u16; ROW_WIDTH] = [
         0xA5,
@@ -82,6 +88,9 @@ fn flat_row(record: FrameRecord) -> [u16; ROW_WIDTH] {
         0xA5,
         0xA5,
         0xA5,
+        SHORT,
+        SHORT,
+        SHORT,
         SHORT,
         SHORT,
         SHORT,

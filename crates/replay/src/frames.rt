@@ -8,6 +8,9 @@ use answer::table::MOST_ROWS;
 use answer::table::SHORT;
 use answer::table::put_touched_short;
 use libtap::frames::tap_parse_payload;
+use pti::payload::HASH;
+use pti::payload::NODE;
+use pti::payload::POWER;
 use pti::payload::RECORD;
 use pti::payload::ROW_WIDTH;
 use readers::line_fields::field_of;
@@ -33,18 +36,30 @@ enum Asked {
     Not,
 }
 
-// The firmware that a request names, and where its other words start.
+// What a request says of its bytes: the firmware that wrote them, and whether beams are a family of their own.
+pub struct Capture {
+    pub firmware: usize,
+    pub family: bool,
+}
+
+// The same, and where the other words of the request start.
 pub enum By {
-    Firmware(usize, usize),
+    Capture(Capture, usize),
     Not,
 }
 
-// `FIRMWARE READING`, if the word asks for them; else firmware 2. There is no reading but 0.
+// `FIRMWARE READING`, if the word asks for them; else firmware 2 and reading 0. The reading is 0 or 1.
 pub fn read_by(words: &[u8], named: bool) -> By
     ensures { λ r. ⌜ Named (now (words .entry)) r ⌝ }
 {
     if !named {
-        return By::Firmware(2, 0);
+        return By::Capture(
+            Capture {
+                firmware: 2,
+                family: false,
+            },
+            0,
+        );
     }
     let Leading::Is(firmware, at) = read_leading(words) else {
         return By::Not;
@@ -52,10 +67,16 @@ pub fn read_by(words: &[u8], named: bool) -> By
     let Leading::Is(reading, next) = read_leading(&words[at..]) else {
         return By::Not;
     };
-    if reading != 0 {
+    if 1 < reading {
         return By::Not;
     }
-    By::Firmware(firmware as usize, at + next)
+    By::Capture(
+        Capture {
+            firmware: firmware as usize,
+            family: reading == 1,
+        },
+        at + next,
+    )
 }
 
 // `CAP PAYLOAD`
@@ -83,7 +104,7 @@ pub fn frames(
     out: &mut Buffer,
     used: usize,
 ) -> Answer {
-    let By::Firmware(firmware, at) = read_by(words, named) else {
+    let By::Capture(capture, at) = read_by(words, named) else {
         return Answer::Bad;
     };
     let Asked::Table(numbers, n) = read_asked(&words[at..], bytes) else {
@@ -92,7 +113,7 @@ pub fn frames(
     let mut rows = [SHORT; NUMBERS];
     Answer::Put(answer_frames(
         &bytes[..n],
-        firmware,
+        capture,
         word,
         named,
         &mut rows[..numbers],
@@ -103,14 +124,14 @@ pub fn frames(
 
 fn answer_frames(
     payload: &[u8],
-    firmware: usize,
+    capture: Capture,
     word: usize,
     named: bool,
     rows: &mut [u16],
     out: &mut Buffer,
     used: usize,
 ) -> usize {
-    let frames = tap_parse_payload(payload, firmware, rows);
+    let frames = tap_parse_payload(payload, capture.firmware, capture.family, rows);
     if frames.refusal != 0 {
         let n = put_refusal(out, used, frames.refusal, frames.value);
         return put_touched_short(out, n, rows);
@@ -187,15 +208,31 @@ fn widened(rows: &[u16], i: usize) -> [u64; ROW_WIDTH]
     row
 }
 
-// A row: eight numbers, and where its record stands if the request named a firmware.
+// A row: eight numbers, and where its record stands and whom a beam wakes if the request named a firmware.
 fn put_row(out: &mut Buffer, used: usize, named: bool, row: &[u64]) -> usize
     requires { ⌜ rowWidth ≤ length (now row) ⌝ }
 {
-    let n = put_frame(out, used, row);
+    let mut n = put_frame(out, used, row);
     if named {
-        return put_numbers(out, n, &row[RECORD..ROW_WIDTH]);
+        n = put_numbers(out, n, &row[RECORD..NODE]);
+        return put_target(out, n, row[NODE], row[HASH], row[POWER]);
     }
     n
+}
+
+// A number that is told as one more, or `-` for none.
+fn put_told(out: &mut Buffer, used: usize, told: u64) -> usize {
+    if told == 0 {
+        return put(out, used, b" -");
+    }
+    put_value(out, used, told - 1)
+}
+
+// Whom a beam wakes.
+pub fn put_target(out: &mut Buffer, used: usize, node: u64, hash: u64, power: u64) -> usize {
+    let mut n = put_told(out, used, node);
+    n = put_told(out, n, hash);
+    put_told(out, n, power)
 }
 
 // The eight numbers of a frame.

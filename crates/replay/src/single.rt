@@ -2,6 +2,7 @@
 use crate::frames::By;
 use crate::frames::FRAME;
 use crate::frames::put_frame;
+use crate::frames::put_target;
 use crate::frames::put_word;
 use crate::frames::read_by;
 use answer::Answer;
@@ -78,13 +79,13 @@ pub fn record(
     out: &mut Buffer,
     used: usize,
 ) -> Answer {
-    let By::Firmware(firmware, at) = read_by(words, named) else {
+    let By::Capture(capture, at) = read_by(words, named) else {
         return Answer::Bad;
     };
     let Bytes::Are(n) = read_bytes(&words[at..], bytes) else {
         return Answer::Bad;
     };
-    let frame = tap_parse_record(&bytes[..n], firmware);
+    let frame = tap_parse_record(&bytes[..n], capture.firmware, capture.family);
     Answer::Put(put_single(out, used, named, frame))
 }
 
@@ -93,7 +94,7 @@ fn put_single(out: &mut Buffer, used: usize, named: bool, frame: TapFrame) -> us
     if frame.refusal != 0 {
         return put_refusal(out, used, frame.refusal, frame.value);
     }
-    let n = put_word(out, used, FRAME, named);
+    let mut n = put_word(out, used, FRAME, named);
     let row = [
         frame.direction,
         frame.region,
@@ -104,5 +105,10 @@ fn put_single(out: &mut Buffer, used: usize, named: bool, frame: TapFrame) -> us
         frame.start,
         frame.length,
     ];
-    put_frame(out, n, &row)
+    n = put_frame(out, n, &row);
+    if named {
+        let target = frame.target;
+        return put_target(out, n, target.node, target.hash, target.power);
+    }
+    n
 }

@@ -6,6 +6,7 @@ use zniff_core::types::{Frame, Region};
 
 use crate::limits;
 use crate::random::Random;
+use crate::reading::pti::{Beams, By};
 use crate::request::Request;
 use crate::shape::{Body, LONGEST_BODY, PAIRS_BY_RATE, PAIRS_OF_FIVE_BITS, enclose};
 
@@ -46,7 +47,7 @@ pub fn record(random: &mut Random) -> Vec<u8> {
 }
 
 pub fn recordby(random: &mut Random) -> Vec<u8> {
-    Request::Recordby { firmware: firmware(random), body: some_body(random) }.line()
+    Request::Recordby { by: by(random), body: some_body(random) }.line()
 }
 
 fn some_body(random: &mut Random) -> Vec<u8> {
@@ -54,6 +55,11 @@ fn some_body(random: &mut Random) -> Vec<u8> {
         0..=4 => long_body(random),
         _ => short_body(random, 400),
     }
+}
+
+pub fn by(random: &mut Random) -> By {
+    let beams = random.pick(&[Beams::Marker, Beams::Family, Beams::Family]);
+    By { firmware: firmware(random), beams }
 }
 
 /// A firmware's number: mostly 3, often 2, sometimes one that there isn't.
@@ -82,13 +88,13 @@ pub fn frametable(random: &mut Random) -> Vec<u8> {
 pub fn framesby(random: &mut Random) -> Vec<u8> {
     let payload = payload(random);
     let cap = cap(random, &payload);
-    Request::Framesby { firmware: firmware(random), cap, payload }.line()
+    Request::Framesby { by: by(random), cap, payload }.line()
 }
 
 pub fn frametableby(random: &mut Random) -> Vec<u8> {
     let payload = payload(random);
     let cap = cap(random, &payload);
-    Request::Frametableby { firmware: firmware(random), cap, payload }.line()
+    Request::Frametableby { by: by(random), cap, payload }.line()
 }
 
 /// A table one row short, exact, ample, empty, or the largest.
@@ -290,7 +296,11 @@ fn frame(random: &mut Random, longest: usize) -> Body {
     body.rssi = random.pick(&[any, any, 0, 3, 0x7F, 0x80, 0xFF]);
     body.filler = std::array::from_fn(|_| random.byte());
     if random.one_in(3) {
-        body.middle = beam_middle(random, if speed_for(channel, region) == 3 { 4 } else { 3 });
+        let width = if speed_for(channel, region) == 3 { 4 } else { 3 };
+        body.middle = match random.one_in(2) {
+            true => beam_middle(random, width),
+            false => marked_middle(random, width),
+        };
         body.middle.truncate(room);
         if random.one_in(2) {
             body.tag = random.byte();
@@ -355,6 +365,22 @@ fn beam_middle(random: &mut Random, width: usize) -> Vec<u8> {
     }
     if random.one_in(6) {
         middle.truncate(random.from_to(1, 2 * width));
+    }
+    middle
+}
+
+/// Middle bytes that start with 0x55, about as many as part a beam from an ordinary frame, with a
+/// byte 7 that says some length; the first bytes stand there again, or not.
+fn marked_middle(random: &mut Random, width: usize) -> Vec<u8> {
+    let m = random.from_to(1, 12);
+    let mut middle = random.bytes(m);
+    middle[0] = 0x55;
+    let l = random.pick(&[0, m as u8 - 1, m as u8, m as u8 + 1]);
+    alter(&mut middle, 7, |_| l);
+    if 2 * width <= m && random.one_in(2) {
+        let place = random.from_to(width, m - width);
+        let first = middle[..width].to_vec();
+        middle[place..place + width].copy_from_slice(&first);
     }
     middle
 }

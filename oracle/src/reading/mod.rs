@@ -12,6 +12,7 @@ pub mod values;
 
 use crate::answer::push_frame;
 use crate::definition;
+use crate::reading::pti::By;
 use crate::refusal::Refusal;
 use crate::request::Request;
 use crate::rows::within_table;
@@ -29,12 +30,10 @@ pub fn answer(request: &Request) -> Option<String> {
         Request::Commandby { offsets, cap, text, payload } => {
             command_answer("commandby", *offsets, *cap, text, payload)
         }
-        Request::Recordby { firmware, body } => record_answer("recordby", *firmware, body),
-        Request::Record { body } => record_answer("frame", 2, body),
-        Request::Framesby { firmware, cap, payload } => {
-            frames_answer("framesby", *firmware, *cap, payload)
-        }
-        Request::Frames { cap, payload } => frames_answer("frames", 2, *cap, payload),
+        Request::Recordby { by, body } => record_answer("recordby", *by, body),
+        Request::Record { body } => record_answer("frame", By::SOURCE, body),
+        Request::Framesby { by, cap, payload } => frames_answer("framesby", *by, *cap, payload),
+        Request::Frames { cap, payload } => frames_answer("frames", By::SOURCE, *cap, payload),
         Request::Totals { start, by, region, text, payloads } => {
             let run = Run { start: *start, by: *by, region: *region, text, payloads };
             Ok(run.answer(Reader::Reading).line)
@@ -56,14 +55,14 @@ fn header_answer(
     Ok(header.to_string())
 }
 
-fn record_answer(word: &str, firmware: u64, body: &[u8]) -> Result<String, Refusal> {
+fn record_answer(word: &str, by: By, body: &[u8]) -> Result<String, Refusal> {
     let mut answer = word.to_string();
-    push_frame(&pti::parse_record(firmware, body)?, word, &mut answer);
+    push_frame(&pti::parse_record(by, body)?, word, &mut answer);
     Ok(answer)
 }
 
-fn frames_answer(word: &str, firmware: u64, cap: u64, payload: &[u8]) -> Result<String, Refusal> {
-    let frames = pti::parse_payload(firmware, payload, cap)?;
+fn frames_answer(word: &str, by: By, cap: u64, payload: &[u8]) -> Result<String, Refusal> {
+    let frames = pti::parse_payload(by, payload, cap)?;
     let mut answer = format!("{word} {}", frames.len());
     for frame in frames {
         push_frame(&frame, word, &mut answer);
