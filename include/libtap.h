@@ -9,7 +9,7 @@
  *   - A table that is lent overlaps nothing else that the same call is lent: no bytes, no other table. Bytes may overlap bytes.
  *   - While a call runs nobody else writes what it is lent, or reads a table that it is lent.
  *
- * Refusals (docs/RULES.md, R1 to R9, BM3, U5, FV2 and LS2), and the `value` that each carries:
+ * Refusals (docs/RULES.md, R1 to R9, TO5, BM3, U5, FV2 and LS2), and the `value` that each carries:
  *
  *   0  none
  *   1  a line of the text has none of the forms                                     its number, from 1
@@ -23,6 +23,7 @@
  *   7  no candidate holds                                                           0
  *   8  the answer does not fit into the table                                       how many rows or nodes it has
  *   9  a body is not a frame                                                        0
+ *  10  a total would pass 2^63 - 1                                                  0
  *  11  there is no such row, or it is no mask of nodes                              its number
  *  12  the text does not fit into the buffer                                        how many bytes it has
  *  13  there is no such capture firmware                                            its number
@@ -187,6 +188,29 @@ TapAnswer tap_judge_listing(const uint8_t *text, size_t text_length, const uint8
 /* Where the command lies in an MPDU whose header ends at byte `payload`, as its answer says: before the checksum. An empty part at 0 where the two
  * leave no room for one. */
 TapPart tap_command_part(const uint8_t *mpdu, size_t mpdu_length, uint64_t payload, uint64_t speed);
+
+/* ---- totals of a capture ---- */
+
+/* How many totals there are, and which (TO1): the frames of key K at rate R stand at 4 * K + R; then those of them whose checksum is wrong, the beams,
+ * how often these stood there, the bytes of all frames, and the frames without a header, by 5, 6 and 7. */
+#define TAP_TOTALS 1031
+#define TAP_TOTAL_WRONG 1024
+#define TAP_TOTAL_BEAMS 1025
+#define TAP_TOTAL_REPEATS 1026
+#define TAP_TOTAL_BYTES 1027
+#define TAP_TOTAL_REFUSED 1023 /* and the refusal's number behind it: 5, 6 or 7 */
+
+/* Adds the frames of a payload to totals that the caller lends, 0 at first: each by the text, at that region (the code of an F line) and its own rate. Firmware
+ * and family are as of `tap_parse_payload`. Answers 0. Refuses by 13, 1 to 4 and 10, and leaves the totals as they were. */
+TapAnswer tap_add_payload(const uint8_t *text, size_t text_length, uint64_t region, size_t firmware, bool family, const uint8_t *payload,
+                          size_t payload_length, uint64_t (*totals)[TAP_TOTALS]);
+
+/* More bytes than a text of totals has. */
+#define TAP_TOTALS_LENGTH 32768
+
+/* Totals as text, a line each (TO6): `key K R N`, none where N is 0, then `wrong N`, `beams N`, `repeats N`, `bytes N`, `refused 5 N`, `refused 6 N`,
+ * `refused 7 N`. Answers its length. Refuses by 12. */
+TapAnswer tap_print_totals(const uint64_t (*totals)[TAP_TOTALS], uint8_t *buffer, size_t buffer_length);
 
 /* ---- commands ---- */
 

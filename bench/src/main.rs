@@ -1,5 +1,5 @@
 //! What the library's calls cost, each against its measure, in one process, and the stack they take:
-//! `parse_payload`, `read_bits`, `decode_header`, `header_value` and `decode_params` against zniff-rs, the checks of
+//! `parse_payload`, `read_bits`, `decode_header`, `header_value`, `decode_params` and `add_payload` against zniff-rs, the checks of
 //! definition texts and `mask_nodes` against loops in C, listings against `decode_header`.
 
 mod bits;
@@ -17,6 +17,7 @@ mod parse;
 mod payloads;
 mod stack;
 mod texts;
+mod totals;
 mod values;
 
 fn main() {
@@ -28,4 +29,5 @@ fn main() {
     listings::run();
     params::run();
     values::run();
+    totals::run();
 }

@@ -2,11 +2,16 @@
 
 use zniff_core::pti::{Direction, PtiFrame};
 
+use crate::frames;
+
 /// The numbers of a frame's row.
 const WIDTH: usize = 10;
 
 /// More rows than a payload can need: a record with a frame has 22 bytes or more.
 const ROWS: usize = 3_000;
+
+/// How many totals there are.
+pub const TOTALS: usize = 1_031;
 
 /// `refusal` is 0 and `value` how many rows there are, or `refusal` is one of R1 to R9 of
 /// docs/RULES.md and `value` what it carries.
@@ -31,6 +36,16 @@ unsafe extern "C" {
         firmware: usize,
         table: *mut u16,
         table_length: usize,
+    ) -> TapAnswer;
+    pub fn tap_add_payload(
+        text: *const u8,
+        text_length: usize,
+        region: u64,
+        firmware: usize,
+        family: bool,
+        payload: *const u8,
+        payload_length: usize,
+        totals: *mut [u64; TOTALS],
     ) -> TapAnswer;
     pub fn tap_check_frame_text(text: *const u8, text_length: usize) -> TapAnswer;
     pub fn tap_check_command_text(text: *const u8, text_length: usize) -> TapAnswer;
@@ -343,6 +358,15 @@ pub fn parse_payload(payload: &[u8], table: &mut [u16]) -> TapAnswer {
     unsafe {
         tap_parse_payload(payload.as_ptr(), payload.len(), FIRMWARE, table.as_mut_ptr(), table.len())
     }
+}
+
+/// Adds a payload to totals, by the text of `frames`.
+pub fn add_payload(payload: &[u8], totals: &mut [u64; TOTALS]) {
+    let (text, region) = (frames::TEXT, u64::from(frames::REGION));
+    let (at, length) = (payload.as_ptr(), payload.len());
+    // SAFETY: text, payload and totals are valid for the call, which writes to the totals alone.
+    let answer = unsafe { tap_add_payload(text.as_ptr(), text.len(), region, FIRMWARE, false, at, length, totals) };
+    assert_eq!(0, answer.refusal, "refused, carrying {}", answer.value);
 }
 
 /// Every frame of a payload, as zniff-rs has it.

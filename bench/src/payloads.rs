@@ -41,7 +41,7 @@ pub fn frames(length: usize) -> Vec<u8> {
     full_of(length, sizes, |random, size| frame(random, size, plain_middle))
 }
 
-fn beams(length: usize) -> Vec<u8> {
+pub fn beams(length: usize) -> Vec<u8> {
     let sizes = AROUND + 40..=AROUND + 90;
     full_of(length, sizes, |random, size| frame(random, size, beam_middle))
 }

@@ -171,6 +171,24 @@ static void show_frame(const uint16_t *frame, size_t frame_text_length, size_t c
     }
 }
 
+/* What the payload comes to: twice the same payload, and then one that would pass the limit. */
+static void show_totals(size_t frame_text_length, size_t payload_length) {
+    static uint64_t totals[TAP_TOTALS];
+    static uint8_t page[TAP_TOTALS_LENGTH];
+    for (int i = 0; i < 3; i++) {
+        if (i == 2) {
+            totals[TAP_TOTAL_BYTES] = INT64_MAX;
+        }
+        TapAnswer added = tap_add_payload(frame_text, frame_text_length, code_of(frames[1]), FIRMWARE, FAMILY, payload, payload_length, &totals);
+        if (added.refusal) {
+            printf("totals ");
+            print_refusal(added.refusal, added.value);
+        }
+    }
+    TapAnswer printed = tap_print_totals(&totals, page, sizeof page);
+    printf("totals of %llu bytes\n%.*s", (unsigned long long)printed.value, (int)printed.value, (const char *)page);
+}
+
 int main(int count, char **words) {
     if (count != 4) {
         fprintf(stderr, "usage: decode FRAME-TEXT COMMAND-TEXT PAYLOAD\n");
@@ -195,6 +213,7 @@ int main(int count, char **words) {
     for (uint64_t i = 0; i < parsed.value; i++) {
         show_frame(frames + i * TAP_FRAME_WIDTH, frame_text_length, command_text_length);
     }
+    show_totals(frame_text_length, payload_length);
     printf("ok\n");
     return 0;
 }

@@ -14,6 +14,7 @@ use crate::reading::pti::{By, Frame, Origin, Target, region_bits};
 use crate::refusal::Refusal;
 use crate::request::{Request, push_hex};
 use crate::rows::{self, LACKING, within_table};
+use crate::totals::{Reader, Run};
 use crate::{reading, source};
 
 /// An answer, without its 0x0A.
@@ -78,6 +79,10 @@ pub fn full_answer(line: &[u8]) -> Answer {
             return headervalue(*cap, *row, *region, *speed, text, mpdu)
                 .unwrap_or_else(|refusal| Err(refusal).into());
         }
+        Request::Totals { start, by, region, text, payloads } => {
+            let run = Run { start: *start, by: *by, region: *region, text, payloads };
+            return run.answer(Reader::Source);
+        }
     };
     answer.into()
 }
@@ -138,7 +143,7 @@ fn frames(word: &str, by: By, cap: u64, payload: &[u8]) -> Result<String, Refusa
     Ok(answer)
 }
 
-fn source_frames(cap: u64, payload: &[u8]) -> Result<Vec<Frame>, Refusal> {
+pub fn source_frames(cap: u64, payload: &[u8]) -> Result<Vec<Frame>, Refusal> {
     within(limits::PAYLOAD, payload)?;
     let frames = pti::parse_payload(payload);
     if frames.len() as u64 > cap {

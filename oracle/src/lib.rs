@@ -18,3 +18,4 @@ pub mod rows;
 pub mod sample;
 pub mod shape;
 pub mod source;
+pub mod totals;

@@ -20,6 +20,9 @@ pub const CAP: u64 = 16_384;
 /// The most bytes that a request may ask for as a buffer.
 pub const BUFFER: u64 = 196_608;
 
+/// The longest line that a replay program has to hold.
+pub const LINE: usize = 400_000;
+
 /// The longest definition text that is not refused by 2.
 pub const TEXT: usize = 60_000;
 /// F, B, H and D lines in a frame text.

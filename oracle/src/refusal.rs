@@ -1,4 +1,4 @@
-//! Refusals: R1 to R9, BM3, U5 and LS2 of docs/RULES.md.
+//! Refusals: R1 to R9, TO5, BM3, U5 and LS2 of docs/RULES.md.
 
 use std::fmt::{self, Display};
 

@@ -29,6 +29,7 @@ pub enum Request {
     Commandnodes { offsets: Offsets, cap: u64, row: u64, text: Vec<u8>, payload: Vec<u8> },
     Listing { region: u64, speed: u64, text: Vec<u8>, mpdu: Vec<u8>, listing: Vec<u8> },
     Headervalue { cap: u64, row: u64, region: u64, speed: u64, text: Vec<u8>, mpdu: Vec<u8> },
+    Totals { start: u64, by: By, region: u64, text: Vec<u8>, payloads: Vec<Vec<u8>> },
 }
 
 impl Request {
@@ -110,6 +111,13 @@ impl Request {
                 text: words.bytes()?,
                 mpdu: words.bytes()?,
             },
+            b"totals" => Request::Totals {
+                start: words.number()?,
+                by: words.by()?,
+                region: words.number()?,
+                text: words.bytes()?,
+                payloads: words.all_bytes()?,
+            },
             _ => return None,
         };
         words.end()?;
@@ -155,6 +163,11 @@ impl Request {
             }
             Request::Headervalue { cap, row, region, speed, text, mpdu } => {
                 ("headervalue", vec![*cap, *row, *region, *speed], vec![text, mpdu])
+            }
+            Request::Totals { start, by, region, text, payloads } => {
+                let numbers = [vec![*start], by.numbers(), vec![*region]].concat();
+                let texts = std::iter::once(text).chain(payloads).map(Vec::as_slice);
+                ("totals", numbers, texts.collect())
             }
         }
     }
@@ -241,20 +254,32 @@ impl<'a, W: Iterator<Item = &'a [u8]>> Words<W> {
     }
 
     fn bytes(&mut self) -> Option<Vec<u8>> {
-        let word = self.word()?;
-        if word == b"-" {
-            return Some(Vec::new());
+        bytes_of(self.word()?)
+    }
+
+    /// Those of all words that are left, of which there is one or more.
+    fn all_bytes(&mut self) -> Option<Vec<Vec<u8>>> {
+        let mut all = vec![self.bytes()?];
+        while let Some(word) = self.word() {
+            all.push(bytes_of(word)?);
         }
-        let (pairs, odd) = word.as_chunks::<2>();
-        if pairs.is_empty() || !odd.is_empty() {
-            return None;
-        }
-        pairs.iter().map(|&[high, low]| Some(digit(high)? << 4 | digit(low)?)).collect()
+        Some(all)
     }
 
     fn end(&mut self) -> Option<()> {
         self.word().is_none().then_some(())
     }
+}
+
+fn bytes_of(word: &[u8]) -> Option<Vec<u8>> {
+    if word == b"-" {
+        return Some(Vec::new());
+    }
+    let (pairs, odd) = word.as_chunks::<2>();
+    if pairs.is_empty() || !odd.is_empty() {
+        return None;
+    }
+    pairs.iter().map(|&[high, low]| Some(digit(high)? << 4 | digit(low)?)).collect()
 }
 
 /// The value of a lower-case hex digit.

@@ -200,6 +200,7 @@ fn say_reason(is_frame: bool, text: &[u8], refusal: Refusal, line: &[u8]) {
         Refusal::NoCandidate => {}
         Refusal::MoreRows(_) => {}
         Refusal::NotAFrame => {}
+        Refusal::PastLimit => {}
         Refusal::NoSuchField(_) => {}
         Refusal::MoreBytes(_) => {}
         Refusal::Firmware(_) => {}

@@ -14,7 +14,7 @@ pub enum File {
 }
 
 // The file of a name, where `-` means standard input.
-fn open_name(name: &[u8]) -> i32 {
+pub fn open_name(name: &[u8]) -> i32 {
     if same(name, b"-") {
         return libc::STDIN_FILENO;
     }

@@ -24,12 +24,17 @@ pub struct Options {
     pub firmware: usize,
     // Are beams a family of their own?
     pub family: bool,
+    // Is a page of totals a table in words?
+    pub words: bool,
+    // The code of the region by which all frames are decoded, if one is named.
+    pub has_region: bool,
+    pub region: u64,
     // How many arguments are no options, and the first three of them.
     pub count: usize,
     pub file: usize,
     pub second: usize,
     pub third: usize,
-    // The option that the next argument is for: 0, DEFINITIONS, FIRMWARE or BEAMS.
+    // The option that the next argument is for: 0, DEFINITIONS, FIRMWARE, BEAMS or REGION.
     open: u8,
     // An option that there isn't, 0 where there is none.
     wrong: usize,
@@ -37,6 +42,8 @@ pub struct Options {
     is_unnumbered: bool,
     // Are the beams said by a word that there isn't?
     is_unread: bool,
+    // Is the region said by something else than a number?
+    is_uncoded: bool,
 }
 
 // The options that take the argument behind them.
@@ -45,6 +52,8 @@ const DEFINITIONS: u8 = 1;
 const FIRMWARE: u8 = 2;
 
 const BEAMS: u8 = 3;
+
+const REGION: u8 = 4;
 
 pub enum Asked {
     Options(Options),
@@ -63,6 +72,9 @@ impl Options {
             folder: 0,
             firmware: 2,
             family: false,
+            words: false,
+            has_region: false,
+            region: 0,
             count: 0,
             file: 0,
             second: 0,
@@ -71,6 +83,7 @@ impl Options {
             wrong: 0,
             is_unnumbered: false,
             is_unread: false,
+            is_uncoded: false,
         }
     }
 
@@ -104,6 +117,20 @@ impl Options {
             }
             _ => {
                 self.is_unread = true;
+            }
+        }
+        self
+    }
+
+    fn with_region(mut self, bytes: &[u8]) -> Self {
+        self.open = 0;
+        match read_numeral(bytes) {
+            Numeral::Is(number) => {
+                self.has_region = true;
+                self.region = number;
+            }
+            Numeral::Not => {
+                self.is_uncoded = true;
             }
         }
         self
@@ -158,6 +185,11 @@ impl Options {
         self
     }
 
+    fn in_words(mut self) -> Self {
+        self.words = true;
+        self
+    }
+
     fn opened(mut self, option: u8) -> Self {
         self.open = option;
         self
@@ -179,7 +211,7 @@ fn is_option(bytes: &[u8]) -> bool {
 
 fn take_option(options: Options, k: usize, bytes: &[u8]) -> Options {
     match find_field(
-        b"--definitions\t--plain\t--colour\t--picture\t--progress\t--firmware\t--by-position\t--records\t--beams",
+        b"--definitions\t--plain\t--colour\t--picture\t--progress\t--firmware\t--by-position\t--records\t--beams\t--region\t--words",
         bytes,
     ) {
         0 => options.opened(DEFINITIONS),
@@ -191,6 +223,8 @@ fn take_option(options: Options, k: usize, bytes: &[u8]) -> Options {
         6 => options.with_position(),
         7 => options.with_records(),
         8 => options.opened(BEAMS),
+        9 => options.opened(REGION),
+        10 => options.in_words(),
         _ => options.with_wrong(k),
     }
 }
@@ -201,6 +235,7 @@ fn take_bytes(options: Options, k: usize, bytes: &[u8]) -> Options {
         DEFINITIONS => return options.with_folder(k),
         FIRMWARE => return options.with_firmware(bytes),
         BEAMS => return options.with_beams(bytes),
+        REGION => return options.with_region(bytes),
         _ => {}
     }
     if is_option(bytes) {
@@ -249,12 +284,15 @@ fn fail_argument(options: Options) -> bool {
         fail(b"tap: --beams takes marker or family\n");
         return true;
     }
+    if open == REGION || options.is_uncoded {
+        fail(b"tap: --region takes the code of an F line\n");
+        return true;
+    }
     false
 }
 
-// The options of a word that takes so many arguments; where there is another number of them its `usage` is said.
-pub fn read(count: usize, usage: &[u8]) -> Asked {
-    let options = take_all();
+// The options, if they can be taken; where the number of arguments does not fit the word its `usage` is said.
+fn judged(options: Options, fits: bool, usage: &[u8]) -> Asked {
     if options.wrong != 0 {
         fail_option(options.wrong);
         return Asked::Failed;
@@ -262,7 +300,7 @@ pub fn read(count: usize, usage: &[u8]) -> Asked {
     if fail_argument(options) {
         return Asked::Failed;
     }
-    if options.count != count {
+    if !fits {
         fail(usage);
         return Asked::Failed;
     }
@@ -271,4 +309,34 @@ pub fn read(count: usize, usage: &[u8]) -> Asked {
         return Asked::Failed;
     }
     Asked::Options(options)
+}
+
+// The options of a word that takes so many arguments.
+pub fn read(count: usize, usage: &[u8]) -> Asked {
+    let options = take_all();
+    judged(options, options.count == count, usage)
+}
+
+// The same of a word that takes one argument or more.
+pub fn read_some(usage: &[u8]) -> Asked {
+    let options = take_all();
+    judged(options, options.count != 0, usage)
+}
+
+// The first argument from k on that is no option and belongs to none; the number of arguments where there is none.
+pub fn next_file(from: usize) -> usize {
+    let end = os::arg_count();
+    let mut options = Options::new();
+    let mut k: usize = 2;
+    while k < end {
+        let before = options.count;
+        options = take_argument(options, k);
+        if options.count != before {
+            if from <= k {
+                return k;
+            }
+        }
+        k += 1;
+    }
+    end
 }

@@ -50,7 +50,9 @@ use Rattle.libtap.specs.Answers.{Stands, toldTidied, ToldTidied, Told}
 use Rattle.libtap.specs.Headers.{toldHeader, ToldHeader}
 use Rattle.libtap.specs.Commands.{toldBy}
 use Rattle.libtap.specs.Nodes.{toldListed, ToldHeaderNodes, ToldCommandNodes}
+use Rattle.totals_text.specs.Text.{textOf}
 use Rattle.libtap.specs.Values.{toldWritten, ToldHeaderValue}
+use Rattle.libtap.specs.Totals.{ToldTotals}
 
 refused-stands : (t : List ℕ) (x : Refusal) → Stands t (record { refusal = numberOf x; value = carriedBy x })
 refused-stands t x z = absurd (eqb-false (numberOf x) 0 (numbered x) z)
@@ -199,8 +201,14 @@ value-stands t d region speed k b r b′ p same = rw (p .told-so, p .shows .answ
     by-answer (decoded.Header h) = past (leb (h .rows) k)
     by-answer (decoded.Refused x) = refused-stands b′ x
 
+-- ---- the text of totals
+pub totals-stand : (totals b : List ℕ) (r : TapAnswer) (b′ : List ℕ) → ToldTotals totals b r b′ → length b′ ≡ length b → Stands b′ r
+totals-stand totals b r b′ p same = rw (p .told-so, p .writes .answer) (written-stands (length (textOf totals)) b b′ same)
+
 pub ruleset standing-laws = (stands-in, frames-stand, tidied-stands, header-stands, params-stand)
 
 pub ruleset node-standing = (stands-in, nodes-stand, command-nodes-stand)
 
 pub ruleset value-standing = (stands-in, value-stands)
+
+pub ruleset totals-standing = (stands-in, totals-stand)

@@ -4,3 +4,4 @@ pub mod Commands
 pub mod Nodes
 pub mod Listings
 pub mod Values
+pub mod Totals

@@ -1,5 +1,6 @@
 // The tap's calls as a static library, for C and Rust to link. libtap.h declares them for C. The program `replay` answers by the same calls, so that what is
 // compared with the Rust is what C has.
+pub mod captures;
 pub mod commands;
 pub mod frames;
 pub mod headers;
@@ -8,7 +9,7 @@ pub mod nodes;
 pub mod texts;
 pub mod values;
 
-// An answer as C has it: `refusal` is 0 and `value` the number that the call answers, or `refusal` is one of R1 to R9, BM3, U5 and LS2 (docs/RULES.md)
+// An answer as C has it: `refusal` is 0 and `value` the number that the call answers, or `refusal` is one of R1 to R9, TO5, BM3, U5 and LS2 (docs/RULES.md)
 // and `value` what it carries.
 #[repr(C)]
 pub struct TapAnswer {

@@ -5,7 +5,7 @@ use header_value::header_value;
 ghost use mathlib.Core.Path.{_≡_};
 ghost use Rattle.libtap.specs.Values.{toldWritten, ToldHeaderValue};
 
-fn tell_written(written: Written) -> TapAnswer
+pub fn tell_written(written: Written) -> TapAnswer
     ensures { λ r. ⌜ r ≡ toldWritten written ⌝ }
 {
     match written {

@@ -21,6 +21,7 @@ fn put_words(out: &mut Buffer, at: usize, refusal: Refusal, k: usize, width: usi
   - no header holds (7)\theaders that hold: \t
   - too many fields (8)\tit has \t frames, more than there is room for
   - not a frame (9)\tframes in it: \t
+  - past the limit (10)\ta total would pass 2^63 - 1, frames added: \t
   - no such field (11)\trow \t is no such field
   - text too long (12)\tit has \t bytes, more than there is room for
   - unknown firmware (13)\tthere is no capture firmware \t, only 2 and 3
@@ -36,10 +37,11 @@ fn put_words(out: &mut Buffer, at: usize, refusal: Refusal, k: usize, width: usi
         Refusal::NoCandidate => 7,
         Refusal::MoreRows(_) => 8,
         Refusal::NotAFrame => 9,
-        Refusal::NoSuchField(_) => 10,
-        Refusal::MoreBytes(_) => 11,
-        Refusal::Firmware(_) => 12,
-        Refusal::Listing(_) => 13,
+        Refusal::PastLimit => 10,
+        Refusal::NoSuchField(_) => 11,
+        Refusal::MoreBytes(_) => 12,
+        Refusal::Firmware(_) => 13,
+        Refusal::Listing(_) => 14,
     };
     put_left(out, at, field_of(numbered_line(words, line), k), width)
 }

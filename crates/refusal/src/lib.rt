@@ -1,4 +1,4 @@
-// Why a call refuses: R1 to R9, BM3, U5, FV2 and LS2 of docs/RULES.md. One case a number, with what it carries.
+// Why a call refuses: R1 to R9, TO5, BM3, U5, FV2 and LS2 of docs/RULES.md. One case a number, with what it carries.
 // Every public call of the tap answers with its numbers or with one of these.
 ghost use mathlib.Core.Path.{_≡_};
 ghost use Rattle.refusal.specs.Refusal.{numberOf, carriedBy};
@@ -22,6 +22,8 @@ pub enum Refusal {
     MoreRows(usize),
     // 9: a body that was handed over by itself is no frame.
     NotAFrame,
+    // 10: a total would pass the limit.
+    PastLimit,
     // 11: the row is not such a field. Carries its number.
     NoSuchField(usize),
     // 12: a text does not fit into the buffer. Carries how many bytes it has.
@@ -47,6 +49,7 @@ impl Refusal {
             Refusal::NoCandidate => 7,
             Refusal::MoreRows(_) => 8,
             Refusal::NotAFrame => 9,
+            Refusal::PastLimit => 10,
             Refusal::NoSuchField(_) => 11,
             Refusal::MoreBytes(_) => 12,
             Refusal::Firmware(_) => 13,
@@ -68,6 +71,7 @@ impl Refusal {
             Refusal::NoCandidate => 0,
             Refusal::MoreRows(rows) => rows,
             Refusal::NotAFrame => 0,
+            Refusal::PastLimit => 0,
             Refusal::NoSuchField(row) => row,
             Refusal::MoreBytes(length) => length,
             Refusal::Firmware(number) => number,

@@ -17,6 +17,8 @@ fn help_all() {
   tap list FILE N    the listing of frame N's header, as a dealer's program writes it
   tap judge FILE N LISTING
                      is a dealer's listing ours, and if not, which line differs
+  tap totals FILE ..
+                     what captures come to: frames by kind and rate, beams, what was refused
   tap help           this page
   tap help WORD      what a word does, and what its FILE is
 
@@ -157,16 +159,37 @@ docs/SUPPORT.md has examples. It takes --definitions, --firmware and --beams as 
     succeed();
 }
 
+fn help_totals() {
+    say(
+        b"tap totals FILE ..: what the captures in all FILEs come to, as one page, a count a line: 'key K R N' for N
+frames whose H line has the key K, heard at the rate R (0 is 9.6 kbit/s, 1 is 40, 2 is 100, 3 Long
+Range); of these 'wrong N' with a wrong checksum; 'beams N', and 'repeats N' for how often they stood
+there; 'bytes N' of all frames; 'refused 5 N', 'refused 6 N' and 'refused 7 N' for frames without a
+name, by the number of the refusal. The counts by key, the beams and the refused are all frames.
+
+  --words        a table in words instead: kinds by rate, with shares, and what was refused and why
+  --region CODE  the code of an F line, by which all frames are decoded; without it each payload is
+                 decoded by the region of its first frame
+  --progress     every 1000 payloads a count on standard error
+
+A payload that is refused is not counted, standard error says which and why, and the last line of the
+output is for the first of them. It takes --definitions, --firmware and --beams as tap frames does.
+",
+    );
+    succeed();
+}
+
 // The page of a word.
 fn help_word(word: &[u8]) {
-    match find_field(b"frames\tshow\tcheck\ttidy\tlist\tjudge\thelp", word) {
+    match find_field(b"frames\tshow\tcheck\ttidy\tlist\tjudge\ttotals\thelp", word) {
         0 => help_frames(),
         1 => help_show(),
         2 => help_check(),
         3 => help_tidy(),
         4 => help_list(),
         5 => help_judge(),
-        6 => help_all(),
+        6 => help_totals(),
+        7 => help_all(),
         _ => fail_word(word),
     }
 }

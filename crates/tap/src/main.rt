@@ -13,17 +13,19 @@ use output::outcome::fail_word;
 use readers::line_fields::find_field;
 use show_word::show_file::show_frame;
 use tidy_word::tidy_file::tidy_definition;
+use totals_word::totals_file::show_totals;
 
 // Does what a word asks for.
 fn obey(word: &[u8]) {
-    match find_field(b"frames\tshow\tcheck\ttidy\tlist\tjudge\thelp", word) {
+    match find_field(b"frames\tshow\tcheck\ttidy\tlist\tjudge\ttotals\thelp", word) {
         0 => show_frames(),
         1 => show_frame(),
         2 => check_definition(),
         3 => tidy_definition(),
         4 => list_frame(),
         5 => judge_frame(),
-        6 => help(),
+        6 => show_totals(),
+        7 => help(),
         _ => fail_word(word),
     }
 }

@@ -36,7 +36,7 @@ fn put_text(out: &mut Buffer, used: usize, word: &[u8], buffer: &[u8], n: usize)
 }
 
 // What a call answers, and the buffer that it was lent.
-fn put_written(
+pub fn put_written(
     out: &mut Buffer,
     used: usize,
     word: &[u8],

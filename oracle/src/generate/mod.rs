@@ -10,6 +10,7 @@ mod listing;
 mod nodes;
 mod pti;
 mod texts;
+mod totals;
 mod values;
 
 use crate::random::Random;
@@ -48,11 +49,12 @@ pub const KINDS: &[Kind] = &[
     Kind { name: "commandnodes", weight: 30, draw: nodes::commandnodes },
     Kind { name: "listing", weight: 30, draw: listing::listing },
     Kind { name: "headervalue", weight: 30, draw: values::headervalue },
+    Kind { name: "totals", weight: 30, draw: totals::totals },
     Kind { name: "bad", weight: 5, draw: bad::line },
 ];
 
 /// What `today` stands for: what the replay program answers so far.
-pub const TODAY: &str = "rate,count,body,record,frames,frametable,recordby,framesby,frametableby,frametext,commandtext,header,command,commandby,bits,checksum,tidy,headernodes,commandnodes,listing,headervalue,bad";
+pub const TODAY: &str = "rate,count,body,record,frames,frametable,recordby,framesby,frametableby,frametext,commandtext,header,command,commandby,bits,checksum,tidy,headernodes,commandnodes,listing,headervalue,totals,bad";
 
 /// Draws requests of some kinds under a seed.
 #[derive(Clone)]

@@ -57,7 +57,7 @@ fn some_body(random: &mut Random) -> Vec<u8> {
     }
 }
 
-fn by(random: &mut Random) -> By {
+pub fn by(random: &mut Random) -> By {
     let beams = random.pick(&[Beams::Marker, Beams::Family, Beams::Family]);
     By { firmware: firmware(random), beams }
 }
@@ -112,7 +112,7 @@ fn cap(random: &mut Random, payload: &[u8]) -> u64 {
 }
 
 /// Some payload.
-fn payload(random: &mut Random) -> Vec<u8> {
+pub fn payload(random: &mut Random) -> Vec<u8> {
     const BRACKETS: &[u8] = &[0x5B, 0x5B, 0x5D, 0x5D, 0, 1, 2, 3, 4, 5];
     let (short, long) = (random.from_to(3, 8), random.below(60));
     match random.below(4_000) {

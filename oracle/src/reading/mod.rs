@@ -16,8 +16,9 @@ use crate::reading::pti::By;
 use crate::refusal::Refusal;
 use crate::request::Request;
 use crate::rows::within_table;
+use crate::totals::{Reader, Run};
 
-/// The answer to a request on frames, to `header`, `command` or `commandby`; `None` to another.
+/// The answer to a request on frames, to `header`, `command`, `commandby` or `totals`; `None` to another.
 pub fn answer(request: &Request) -> Option<String> {
     let answer = match request {
         Request::Header { cap, region, speed, text, mpdu } => {
@@ -33,6 +34,10 @@ pub fn answer(request: &Request) -> Option<String> {
         Request::Record { body } => record_answer("frame", By::SOURCE, body),
         Request::Framesby { by, cap, payload } => frames_answer("framesby", *by, *cap, payload),
         Request::Frames { cap, payload } => frames_answer("frames", By::SOURCE, *cap, payload),
+        Request::Totals { start, by, region, text, payloads } => {
+            let run = Run { start: *start, by: *by, region: *region, text, payloads };
+            Ok(run.answer(Reader::Reading).line)
+        }
         _ => return None,
     };
     Some(answer.unwrap_or_else(|refusal| refusal.to_string()))

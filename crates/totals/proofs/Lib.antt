@@ -1,0 +1,5 @@
+pub mod Sums
+pub mod Keys
+pub mod Laws
+pub mod Runs
+pub mod Whole
