@@ -46,7 +46,8 @@ param-from body q es at n parent s left d ys k rest Absent is behind w =
     }
 
 pub param-part : (t : List ℕ) (l : Loaded) (body ns : List ℕ) (at n parent s left : ℕ) (d ys : List ℕ) (k rest : ℕ) (r : Param)
-    → ReadsParam body (fieldIn t l) (entries ns) at n parent left (take (length d - rest) (drop rest d)) 0 ys r → rest ≡ rowAt s k (length d) → left ≡ s - k
+    → ReadsParam body (fieldIn t l) (entries ns) at n parent left (take (length d - rest) (drop rest d)) 0 ys r → rest ≡ rowAt s k (length d)
+    → left ≡ s - k
     → ReadsParam body (fieldIn t l) (entries ns) at n parent s d k (take rest d ++ (ys ++ drop (length d - rest) (drop rest d))) r
 param-part t l body ns at n parent s left d ys k rest r w is behind = param-from body (fieldIn t l) (entries ns) at n parent s left d ys k rest r is behind w
 

@@ -120,7 +120,8 @@ pub ruleset repetition-laws = (row-is, turn-part, repetition-inside, repetition-
 
 -- ---- the group: what is left of the repetitions, after k of them
 pub record Turns (body : List ℕ) (qs : List Parameter) (line most start n s : ℕ) (t₀ t : List ℕ) (at next k : ℕ) : Type 0 where
-  pub rows : written s t (n + next) (repetitions body line qs (most - k) k at (n + next) .rows) ≡ written s t₀ n (repetitions body line qs most 0 start n .rows)
+  pub rows : written s t (n + next) (repetitions body line qs (most - k) k at (n + next) .rows)
+      ≡ written s t₀ n (repetitions body line qs most 0 start n .rows)
   pub count : next + length (repetitions body line qs (most - k) k at (n + next) .rows) ≡ length (repetitions body line qs most 0 start n .rows)
   pub end : repetitions body line qs (most - k) k at (n + next) .end ≡ repetitions body line qs most 0 start n .end
   pub times : k + repetitions body line qs (most - k) k at (n + next) .times ≡ repetitions body line qs most 0 start n .times

@@ -119,7 +119,8 @@ module _ (t l body : List ℕ) (count i n parent s : ℕ) (loaded : IsLoaded t l
             rw (rest, w .there, z, w .end) refl
 
         all-count : next + (length (paramRows body (fieldOf p) (o .0) (w .size) (n + next) parent) + length
-            (members body (membersOf (drop (j + 1) (headsOf t))) (e .0) (g .es ++ (paramEntry body (o .0) (w .size .taken) ∷ [])) (n + (next + c)) parent .rows))
+            (members body (membersOf (drop (j + 1) (headsOf t))) (e .0) (g .es ++ (paramEntry body (o .0) (w .size .taken) ∷ []))
+            (n + (next + c)) parent .rows))
             ≡ length (members body (membersOf (drop i (headsOf t))) start [] n parent .rows)
         all-count = rw (one-more, length-append) at (g .count-is)
 
@@ -131,7 +132,8 @@ module _ (t l body : List ℕ) (count i n parent s : ℕ) (loaded : IsLoaded t l
         taken kept′ have′ ek eh =
             let b = w .count in
             let r : written s d next (paramRows body (fieldOf p) (o .0) (w .size) (n + next) parent
-            ++ members body (membersOf (drop (j + 1) (headsOf t))) (e .0) (g .es ++ (paramEntry body (o .0) (w .size .taken) ∷ [])) (n + (next + c)) parent .rows)
+            ++ members body (membersOf (drop (j + 1) (headsOf t))) (e .0) (g .es ++ (paramEntry body (o .0) (w .size .taken) ∷ []))
+                (n + (next + c)) parent .rows)
             ≡ written s d₀ 0 (members body (membersOf (drop i (headsOf t))) start [] n parent .rows) = rw one-more at (g .rows) in
             let z : next + c ≡ next + length (paramRows body (fieldOf p) (o .0) (w .size) (n + next) parent) = omega arith in
             record {
@@ -139,7 +141,8 @@ module _ (t l body : List ℕ) (count i n parent s : ℕ) (loaded : IsLoaded t l
               kept-are = rw (ek, eh) (kept-push kept (g .es) have y (paramEntry body (o .0) (w .size .taken)) (w .entry) (g .kept-are));
               rows = rw (w .rows)
                   (written-more s d next (paramRows body (fieldOf p) (o .0) (w .size) (n + next) parent)
-                  (members body (membersOf (drop (j + 1) (headsOf t))) (e .0) (g .es ++ (paramEntry body (o .0) (w .size .taken) ∷ [])) (n + (next + c)) parent .rows)
+                  (members body (membersOf (drop (j + 1) (headsOf t))) (e .0) (g .es ++ (paramEntry body (o .0) (w .size .taken) ∷ []))
+                  (n + (next + c)) parent .rows)
                   (next + c) z ∙ r);
               count-is = omega (arith, all-count);
               end = rw one-more at (g .end);
@@ -154,7 +157,8 @@ module _ (t l body : List ℕ) (count i n parent s : ℕ) (loaded : IsLoaded t l
       m : MemberAt t l count loaded j q is-q h
       m = member-at t l count loaded j q is-q h (sym is-x ∙ member)
 
-      pub members-missing : r ≡ Absent → Gives (members body (membersOf (drop i (headsOf t))) start [] n parent) s d₀ 0 d′ (record { end = o; count = next })
+      pub members-missing : r ≡ Absent → Gives (members body (membersOf (drop i (headsOf t))) start [] n parent) s d₀ 0 d′
+          (record { end = o; count = next })
       members-missing f =
           let v = is-absent t q (m .param) (m .is) body kept (g .es) have (g .kept-are) (o .0) (n + next) parent s d next d′ r given f in
           absent (m .param) (m .rest) h (v .there) d′ (v .rows)

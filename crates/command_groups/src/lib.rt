@@ -235,7 +235,8 @@ fn read_repetition(
 ) -> Repetition
     requires { ⌜ (IsLoaded (now text) (now loaded) (group .count)) × (group .first ≤ group .count) × (length (now body) < 65536)
         × (length (now kept) ≡ 256) × (repetition .row < 2 ^ 48) ⌝ }
-    ensures { λ r. ⌜ Repeats (now (body .entry)) (group .line) (membersOf (drop (group .first) (headsOf (now (text .entry))))) (repetition .number) (repetition .at .0)
+    ensures { λ r. ⌜ Repeats (now (body .entry)) (group .line) (membersOf (drop (group .first) (headsOf (now (text .entry))))) (repetition .number)
+        (repetition .at .0)
         (repetition .row) (repetition .skip) (now (rows .entry)) 0 (now (rows .exit)) r ⌝ }
 {
     let at = repetition.at;
@@ -268,7 +269,8 @@ fn repetition_at(
 ) -> Repetition
     requires { ⌜ (IsLoaded (now text) (now loaded) (group .count)) × (group .first ≤ group .count) × (length (now body) < 65536)
         × (length (now kept) ≡ 256) × (repetition .row < 2 ^ 48) ⌝ }
-    ensures { λ r. ⌜ Repeats (now (body .entry)) (group .line) (membersOf (drop (group .first) (headsOf (now (text .entry))))) (repetition .number) (repetition .at .0)
+    ensures { λ r. ⌜ Repeats (now (body .entry)) (group .line) (membersOf (drop (group .first) (headsOf (now (text .entry))))) (repetition .number)
+        (repetition .at .0)
         (repetition .row) (repetition .skip) (now (rows .entry)) (repetition .row) (now (rows .exit)) r ⌝ }
 {
     let rest = command_rows::row_at(repetition.skip, repetition.row, rows.len());
@@ -284,7 +286,8 @@ fn repetition_at(
 
 // How often a group repeats at most, after the entries `es` of the outer list.
 pub fn repeats_at(g: Loaded, body: &[u8], at: BodyOffset, es: &[u16]) -> usize
-    ensures { λ r. ⌜ r ≡ repeats (g .paramoffs) (g .sizemask) (record { 0 = g .sizeoffs }) (entries (now (es .entry))) (length (now (body .entry)) - at .0) ⌝ }
+    ensures { λ r. ⌜ r ≡ repeats (g .paramoffs) (g .sizemask) (record { 0 = g .sizeoffs }) (entries (now (es .entry)))
+        (length (now (body .entry)) - at .0) ⌝ }
 {
     let rest = command_param::remaining(body, at);
     command_lengths::repeats_of(g.paramoffs, g.sizemask, BitShift(g.sizeoffs), es, rest)
@@ -300,7 +303,8 @@ pub fn read_group(
     spot: Spot,
     rows: &mut [u64],
 ) -> Repeated
-    requires { ⌜ (IsLoaded (now text) (now loaded) (group .count)) × (group .first ≤ group .count) × (length (now body) < 65536) × (spot .row < 2 ^ 47) ⌝ }
+    requires { ⌜ (IsLoaded (now text) (now loaded) (group .count)) × (group .first ≤ group .count) × (length (now body) < 65536)
+        × (spot .row < 2 ^ 47) ⌝ }
     ensures { λ r. ⌜ GivesGroup (repetitions (now (body .entry)) (group .line) (membersOf (drop (group .first) (headsOf (now (text .entry))))) most 0
         (spot .at .0) (spot .row)) (spot .skip) (now (rows .entry)) (spot .row) (now (rows .exit)) r ⌝ }
 {

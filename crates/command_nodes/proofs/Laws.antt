@@ -116,7 +116,8 @@ module _ (t payload rows : List ℕ) (k : ℕ) (table : List ℕ) (v : Verdict) 
     pub lent-past : length rows / rowWidth ≤ k → LentNodes t payload rows k table (listing.Refused (NoSuchField k)) table
     lent-past h = record { answer = rw (accepted, le-leb (length rows / rowWidth) k h) refl; leaves = refl }
 
-    pub lent-row : (row : Row) (r : Listed) (table′ : List ℕ) → RowNodes t payload row k table r table′ → row ≡ rowIn rows k → k < length rows / rowWidth
+    pub lent-row : (row : Row) (r : Listed) (table′ : List ℕ) → RowNodes t payload row k table r table′ → row ≡ rowIn rows k
+        → k < length rows / rowWidth
         → LentNodes t payload rows k table r table′
     lent-row row r table′ l is-row h =
         record { answer = rw (accepted, lt-leb (length rows / rowWidth) k h) (rw is-row at (l .answer)); leaves = rw is-row at (l .leaves) }

@@ -32,7 +32,8 @@ use Rattle.command_param.specs.declared.Wrote.{Wrote}
 use Rattle.command_param.proofs.Bits.{total-is, none-of}
 
 -- ---- its own row
-pub row-is : (t : List ℕ) (q : Loaded) (bs : List ℕ) (start parent : ℕ) (value : Uint) (a v k lacking : ℕ) → value ≡ valueOf bs → a ≡ valued value
+pub row-is : (t : List ℕ) (q : Loaded) (bs : List ℕ) (start parent : ℕ) (value : Uint) (a v k lacking : ℕ) → value ≡ valueOf bs
+    → a ≡ valued value
     → v ≡ orZero value → k ≡ constLine (fieldIn t q) value
     → _≡_ {A = Row} (record {
       kind = 0;
@@ -59,9 +60,11 @@ pub no-bits : (t : List ℕ) (q : Loaded) (bs d : List ℕ) (start parent s : �
     → Writes s d 1 (childRows (fieldIn t q) parent start bs) d 0
 no-bits t q bs d start parent s stands none h =
     let e : length (bitRows (getD bs 0 0) parent start (under (from t (after q)))) ≡ 0 = sym (total-is t q (getD bs 0 0) parent start s stands) ∙ none in
-    rw (eq-eqb (length bs) 1 h, none-of (bitRows (getD bs 0 0) parent start (under (from t (after q)))) e) (record { rows = sym (written-none s d 1); count = refl })
+    rw (eq-eqb (length bs) 1 h, none-of (bitRows (getD bs 0 0) parent start (under (from t (after q)))) e)
+        (record { rows = sym (written-none s d 1); count = refl })
 
-pub left-out-children : (t : List ℕ) (q : Loaded) (bs d : List ℕ) (start parent s : ℕ) (b : Bool) → Stands t q → b ≡ leftOut s (q .bits + 1) (length d) → b ≡ true
+pub left-out-children : (t : List ℕ) (q : Loaded) (bs d : List ℕ) (start parent s : ℕ) (b : Bool) → Stands t q
+    → b ≡ leftOut s (q .bits + 1) (length d) → b ≡ true
     → length bs ≡ 1 → Writes s d 1 (childRows (fieldIn t q) parent start bs) d (q .bits)
 left-out-children t q bs d start parent s b stands is e h =
     let c : q .bits ≡ length (bitRows (getD bs 0 0) parent start (under (from t (after q)))) = total-is t q (getD bs 0 0) parent start s stands in
@@ -85,7 +88,8 @@ pub ruleset row-laws = (row-is, no-children, no-bits, left-out-children, part-ch
 pub own-left-out : (s : ℕ) (d : List ℕ) (row : Row) (b : Bool) → b ≡ leftOut s 1 (length d) → b ≡ true → d ≡ written s d 0 (row ∷ [])
 own-left-out s d row b is e = sym (written-left-out s d 0 (row ∷ []) 1 b is refl e)
 
-pub own-written : (t : List ℕ) (q : Loaded) (bs : List ℕ) (at start parent lacking s : ℕ) (d d′ : List ℕ) (row : Row) → d′ ≡ written s d 0 (row ∷ [])
+pub own-written : (t : List ℕ) (q : Loaded) (bs : List ℕ) (at start parent lacking s : ℕ) (d d′ : List ℕ) (row : Row)
+    → d′ ≡ written s d 0 (row ∷ [])
     → row ≡ rowOf (fieldIn t q) parent start bs lacking → start ≡ inPayload at
     → d′ ≡ written s d 0 (rowOf (fieldIn t q) parent (inPayload at) bs lacking ∷ [])
 own-written t q bs at start parent lacking s d d′ row e r es = rw (← es, ← r) e

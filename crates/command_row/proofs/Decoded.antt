@@ -25,9 +25,11 @@ use Rattle.command_row.specs.Answer.{nth, rowBy, rowOf}
 abbrev rowsBy : Offsets → List ℕ → List ℕ → List Row
 rowsBy offsets x payload = walk offsets (bodyOf payload) (definition x) .rows
 
-module _ (offsets : Offsets) (x payload t : List ℕ) (a : Told) (t′ : List ℕ) (decodes : Decodes offsets x payload t a t′) (z : a .refusal ≡ 0) (k : ℕ) where
+module _ (offsets : Offsets) (x payload t : List ℕ) (a : Told) (t′ : List ℕ) (decodes : Decodes offsets x payload t a t′) (z : a .refusal ≡ 0)
+    (k : ℕ) where
   -- an answer, not a refusal
-  fits : (b : Bool) → a ≡ cond b (answered (length (rowsBy offsets x payload)) (inPayload (walk offsets (bodyOf payload) (definition x) .end))) (refused 8 (length (rowsBy offsets x payload)))
+  fits : (b : Bool) → a ≡ cond b (answered (length (rowsBy offsets x payload)) (inPayload (walk offsets (bodyOf payload) (definition x) .end)))
+      (refused 8 (length (rowsBy offsets x payload)))
       → nth k (rowsBy offsets x payload) ≡ nth k (rowsIn (a .rows) t′)
   unfolding tableAfter
   fits true e =

@@ -31,7 +31,8 @@ drop-append (suc n) (r ∷ rs) ss = rw suc-sub-suc (drop-append n rs ss)
 
 -- ---- write_row, row_at
 
-pub write-one : (s : ℕ) (t : List ℕ) (k : ℕ) (row : Row) (ns t′ : List ℕ) → s ≤ k → ns ≡ numbers row → t′ ≡ put t ((k - s) * rowWidth) ns
+pub write-one : (s : ℕ) (t : List ℕ) (k : ℕ) (row : Row) (ns t′ : List ℕ) → s ≤ k → ns ≡ numbers row
+    → t′ ≡ put t ((k - s) * rowWidth) ns
     → t′ ≡ written s t k (row ∷ [])
 unfolding written puts
 write-one s t k row ns t′ h en et = let z : s - k ≡ 0 = omega arith in rw z (rw en at et)
@@ -83,7 +84,8 @@ written-append s t k rs ss =
     ) refl
 
 -- the same, with the place where the second begins
-pub written-more : (s : ℕ) (t : List ℕ) (k : ℕ) (rs ss : List Row) (m : ℕ) → m ≡ k + length rs → written s (written s t k rs) m ss ≡ written s t k (rs ++ ss)
+pub written-more : (s : ℕ) (t : List ℕ) (k : ℕ) (rs ss : List Row) (m : ℕ) → m ≡ k + length rs
+    → written s (written s t k rs) m ss ≡ written s t k (rs ++ ss)
 written-more s t k rs ss m e = rw e (sym (written-append s t k rs ss))
 
 -- where there is no room nothing is written
@@ -92,7 +94,8 @@ unfolding written
 written-full s t k rs h = rows.puts-full rowWidth t (k - s) (map numbers (drop (s - k) rs)) (wide (drop (s - k) rs)) h
 
 -- where all are left out nothing is written
-pub written-left-out : (s : ℕ) (t : List ℕ) (k : ℕ) (rs : List Row) (c : ℕ) (b : Bool) → b ≡ leftOut s c (length t) → c ≡ k + length rs → b ≡ true
+pub written-left-out : (s : ℕ) (t : List ℕ) (k : ℕ) (rs : List Row) (c : ℕ) (b : Bool) → b ≡ leftOut s c (length t) → c ≡ k + length rs
+    → b ≡ true
     → written s t k rs ≡ t
 written-left-out s t k rs c b is all e = go (decLt (length t) rowWidth) (decLe c s)
   where

@@ -41,7 +41,8 @@ pub record Outer (offsets : Offsets) (t body : List ℕ) (s : ℕ) (d₀ d kept 
   pub entries-are : KeptFree kept have es
   pub rows : written s d next (outer offsets body (entriesOf (drop j (headsOf t))) at es next .rows)
       ≡ written s d₀ 0 (walk offsets body (entriesOf (headsOf t)) .rows)
-  pub count-is : next + length (outer offsets body (entriesOf (drop j (headsOf t))) at es next .rows) ≡ length (walk offsets body (entriesOf (headsOf t)) .rows)
+  pub count-is : next + length (outer offsets body (entriesOf (drop j (headsOf t))) at es next .rows)
+      ≡ length (walk offsets body (entriesOf (headsOf t)) .rows)
   pub end : outer offsets body (entriesOf (drop j (headsOf t))) at es next .end ≡ walk offsets body (entriesOf (headsOf t)) .end
   pub few : length (walk offsets body (entriesOf (headsOf t)) .rows) < 2 ^ 40
   pub inside : at ≤ length body
@@ -106,11 +107,13 @@ module _ (offsets : Offsets) (t l body : List ℕ) (count : ℕ) (loaded : IsLoa
 
     -- a Q
     module _ (p : Parameter) (rest : entriesOf (drop j (headsOf t)) ≡ single p ∷ entriesOf (drop (j + 1) (headsOf t))) where
-      absent : sizeAt body (fieldOf p) (g .es) (o .0) ≡ Missing → (d′ : List ℕ) → d′ ≡ d → (kept′ : List ℕ) (have′ : ℕ) → kept′ ≡ unvaluedKept offsets kept have
+      absent : sizeAt body (fieldOf p) (g .es) (o .0) ≡ Missing → (d′ : List ℕ) → d′ ≡ d → (kept′ : List ℕ) (have′ : ℕ)
+          → kept′ ≡ unvaluedKept offsets kept have
           → have′ ≡ unvaluedHave offsets have 0 → Outer offsets t body s d₀ d′ kept′ have′ (o .0) next (j + 1)
       unfolding outer
       absent e d′ ed kept′ have′ ek eh =
-          passed d′ ed kept′ have′ (g .es ++ unvalued offsets 0) (rw (ek, eh) (kept-unvalued offsets kept (g .es) have 0 (g .entries-are))) (rw (rest, e) refl)
+          passed d′ ed kept′ have′ (g .es ++ unvalued offsets 0) (rw (ek, eh) (kept-unvalued offsets kept (g .es) have 0 (g .entries-are)))
+              (rw (rest, e) refl)
 
       module _ (d′ : List ℕ) (e : BodyOffset) (y c : ℕ) (w : IsRead body (fieldOf p) (g .es) (o .0) next 0 s d next d′ e y c) where
         one-more : outer offsets body (entriesOf (drop j (headsOf t))) (o .0) (g .es) next
@@ -149,7 +152,8 @@ module _ (offsets : Offsets) (t l body : List ℕ) (count : ℕ) (loaded : IsLoa
               });
               rows = rw (w .rows)
                   (written-more s d next (paramRows body (fieldOf p) (o .0) (w .size) next 0)
-                  (outer offsets body (entriesOf (drop (j + 1) (headsOf t))) (e .0) (g .es ++ (paramEntry body (o .0) (w .size .taken) ∷ [])) (next + c) .rows)
+                  (outer offsets body (entriesOf (drop (j + 1) (headsOf t))) (e .0) (g .es ++ (paramEntry body (o .0) (w .size .taken) ∷ []))
+                  (next + c) .rows)
                   (next + c) z′ ∙ r);
               count-is = omega (arith, all-count);
               end = rw one-more at (g .end);
@@ -239,7 +243,8 @@ module _ (offsets : Offsets) (t l body : List ℕ) (count : ℕ) (loaded : IsLoa
         m : OuterAt t l count loaded j q is-q h
         m = outer-at t l count loaded j q is-q h (sym is-x ∙ single-q)
 
-        pub outer-missing : r ≡ Absent → (kept′ : List ℕ) (have′ : ℕ) → kept′ ≡ unvaluedKept offsets kept have → have′ ≡ unvaluedHave offsets have 0
+        pub outer-missing : r ≡ Absent → (kept′ : List ℕ) (have′ : ℕ) → kept′ ≡ unvaluedKept offsets kept have
+            → have′ ≡ unvaluedHave offsets have 0
             → Outer offsets t body s d₀ d′ kept′ have′ (o .0) next (j + 1)
         outer-missing f =
             let v = is-absent t q (m .param) (m .is) body kept (g .es) have (g .entries-are .kept-are) (o .0) next 0 s d next d′ r given f in
@@ -265,7 +270,8 @@ module _ (offsets : Offsets) (t l body : List ℕ) (count : ℕ) (loaded : IsLoa
         pub outer-group-fits : Fits w64 (next + r .count)
         outer-group-fits = group-fits (a .group) (q .line) (a .rest) d′ r (the-group q (a .group) (a .is) d′ r most is-most given)
 
-        pub outer-group : (kept′ : List ℕ) (have′ : ℕ) → kept′ ≡ unvaluedKept offsets kept have → have′ ≡ unvaluedHave offsets have (r .times)
+        pub outer-group : (kept′ : List ℕ) (have′ : ℕ) → kept′ ≡ unvaluedKept offsets kept have
+            → have′ ≡ unvaluedHave offsets have (r .times)
             → Outer offsets t body s d₀ d′ kept′ have′ (r .end .0) (next + r .count) (j + 1)
         outer-group = group-taken (a .group) (q .line) (a .rest) d′ r (the-group q (a .group) (a .is) d′ r most is-most given)
 

@@ -29,7 +29,8 @@ pub tells-header-nodes : (text mpdu : List ℕ) (region speed row : ℕ) (t : Li
     → HeaderNodes text mpdu region speed row t x t′ → r ≡ toldListed x → ToldHeaderNodes text mpdu region speed row t r t′
 tells-header-nodes text mpdu region speed row t x r t′ so is-r = record { answer = x; lists = so; told-so = is-r }
 
-pub tells-command-nodes : (position : Bool) (offsets : Offsets) (text payload : List ℕ) (row : ℕ) (t : List ℕ) (x : Listed) (r : TapAnswer) (t′ : List ℕ)
+pub tells-command-nodes : (position : Bool) (offsets : Offsets) (text payload : List ℕ) (row : ℕ) (t : List ℕ) (x : Listed) (r : TapAnswer)
+    (t′ : List ℕ)
     → CommandNodes offsets text payload row t x t′ → offsets ≡ offsetsBy position → r ≡ toldListed x
     → ToldCommandNodes (offsetsBy position) text payload row t r t′
 tells-command-nodes position offsets text payload row t x r t′ so e is-r = record { answer = x; lists = rw e at so; told-so = is-r }

@@ -19,7 +19,8 @@ toldAdded Counted = record { refusal = 0; value = 0 }
 toldAdded (Refused x) = record { refusal = numberOf x; value = carriedBy x }
 
 -- what `tap_add_payload` answers and leaves: what `add_payload` does, told so
-pub record ToldAdded (firmware : ℕ) (reading : Reading) (text : List ℕ) (region : ℕ) (payload totals : List ℕ) (r : TapAnswer) (totals′ : List ℕ) : Type 0 where
+pub record ToldAdded (firmware : ℕ) (reading : Reading) (text : List ℕ) (region : ℕ) (payload totals : List ℕ) (r : TapAnswer)
+    (totals′ : List ℕ) : Type 0 where
   pub answer : Added
   pub adds : Adds firmware reading text region payload totals answer totals′
   pub told-so : r ≡ toldAdded answer

@@ -7,7 +7,8 @@ use Rattle.command_walk.proofs.walk_params.Statement.{statement}
 use Rattle.command_walk.proofs.walk_params.Tie as tie
 
 abbrev Inv-loop : tie.InvT-loop
-Inv-loop text loaded count offsets body skip rows₀ kept₀ have₀ at₀ next₀ j₀ rows kept have at next j = Outer offsets text body skip rows₀ rows kept have (at .0) next j
+Inv-loop text loaded count offsets body skip rows₀ kept₀ have₀ at₀ next₀ j₀ rows kept have at next j =
+    Outer offsets text body skip rows₀ rows kept have (at .0) next j
 
 abbrev μ-loop : tie.MeasureT-loop
 μ-loop text loaded count offsets body skip rows₀ kept₀ have₀ at₀ next₀ j₀ rows kept have at next j = count - j

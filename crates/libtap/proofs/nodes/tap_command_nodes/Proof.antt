@@ -7,4 +7,5 @@ use Rattle.libtap.proofs.nodes.tap_command_nodes.Tie as tie
 pub tap-command-nodes-spec : {M : Type 1} → statement M
 tap-command-nodes-spec =
     tie.close
-    (tie.spec (λ c κs. search (needs, node-laws)) (λ c κs. search (needs, node-laws)) (λ c κs. search (needs, node-laws)) (λ c. search (needs, node-laws)) (λ c. search (needs, node-laws)))
+    (tie.spec (λ c κs. search (needs, node-laws)) (λ c κs. search (needs, node-laws)) (λ c κs. search (needs, node-laws))
+    (λ c. search (needs, node-laws)) (λ c. search (needs, node-laws)))
