@@ -28,6 +28,7 @@ pub enum Request {
     Commandnodes { offsets: Offsets, cap: u64, row: u64, text: Vec<u8>, payload: Vec<u8> },
     Listing { region: u64, speed: u64, text: Vec<u8>, mpdu: Vec<u8>, listing: Vec<u8> },
     Headervalue { cap: u64, row: u64, region: u64, speed: u64, text: Vec<u8>, mpdu: Vec<u8> },
+    Commandvalue { offsets: Offsets, cap: u64, row: u64, text: Vec<u8>, payload: Vec<u8> },
 }
 
 impl Request {
@@ -109,6 +110,13 @@ impl Request {
                 text: words.bytes()?,
                 mpdu: words.bytes()?,
             },
+            b"commandvalue" => Request::Commandvalue {
+                offsets: words.offsets()?,
+                cap: words.buffer()?,
+                row: words.number()?,
+                text: words.bytes()?,
+                payload: words.bytes()?,
+            },
             _ => return None,
         };
         words.end()?;
@@ -154,6 +162,9 @@ impl Request {
             }
             Request::Headervalue { cap, row, region, speed, text, mpdu } => {
                 ("headervalue", vec![*cap, *row, *region, *speed], vec![text, mpdu])
+            }
+            Request::Commandvalue { offsets, cap, row, text, payload } => {
+                ("commandvalue", vec![*offsets as u64, *cap, *row], vec![text, payload])
             }
         }
     }

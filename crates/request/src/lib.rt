@@ -28,6 +28,7 @@ pub enum Word {
     Commandnodes,
     Listing,
     Headervalue,
+    Commandvalue,
     Unknown,
 }
 
@@ -71,7 +72,7 @@ pub fn find(s: &[u8], b: u8) -> usize
 
 pub fn word_of(word: &[u8]) -> Word {
     let words: &[u8] =
-        b"rate\tcount\tbody\trecord\tframes\tframetable\tframetext\tcommandtext\theader\tcommand\tbits\tchecksum\trecordby\tframesby\tframetableby\ttidy\tcommandby\theadernodes\tlisting\theadervalue\tcommandnodes";
+        b"rate\tcount\tbody\trecord\tframes\tframetable\tframetext\tcommandtext\theader\tcommand\tbits\tchecksum\trecordby\tframesby\tframetableby\ttidy\tcommandby\theadernodes\tlisting\theadervalue\tcommandnodes\tcommandvalue";
     match find_field(words, word) {
         0 => Word::Rate,
         1 => Word::Count,
@@ -94,6 +95,7 @@ pub fn word_of(word: &[u8]) -> Word {
         18 => Word::Listing,
         19 => Word::Headervalue,
         20 => Word::Commandnodes,
+        21 => Word::Commandvalue,
         _ => Word::Unknown,
     }
 }

@@ -10,13 +10,13 @@ pub mod nodes;
 pub mod pti;
 pub mod values;
 
-use crate::answer::push_frame;
+use crate::answer::{push_frame, written};
 use crate::definition;
 use crate::refusal::Refusal;
 use crate::request::Request;
 use crate::rows::within_table;
 
-/// The answer to a request on frames, to `header`, `command` or `commandby`; `None` to another.
+/// The answer to a request on frames, to `header`, `command` or `commandby`, or on a value; `None` to another.
 pub fn answer(request: &Request) -> Option<String> {
     let answer = match request {
         Request::Header { cap, region, speed, text, mpdu } => {
@@ -34,6 +34,12 @@ pub fn answer(request: &Request) -> Option<String> {
             frames_answer("framesby", *firmware, *cap, payload)
         }
         Request::Frames { cap, payload } => frames_answer("frames", 2, *cap, payload),
+        Request::Headervalue { cap, row, region, speed, text, mpdu } => definition::read(text)
+            .and_then(|definition| values::header_values(&definition, mpdu, *region, *speed))
+            .and_then(|values| written("headervalue", &values, *row, *cap)),
+        Request::Commandvalue { offsets, cap, row, text, payload } => definition::read(text)
+            .and_then(|definition| values::command_values(&definition, payload, *offsets))
+            .and_then(|values| written("commandvalue", &values, *row, *cap)),
         _ => return None,
     };
     Some(answer.unwrap_or_else(|refusal| refusal.to_string()))
