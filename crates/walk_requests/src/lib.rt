@@ -277,7 +277,12 @@ fn put_params(out: &mut Buffer, used: usize, by: bool, params: TapParams, table:
     }
     let mut n = put_counted(out, used, by, params.rows);
     n = put_value(out, n, params.remainder);
-    put_table(out, n, table, params.rows as usize * command_rows::ROW_WIDTH)
+    put_table(
+        out,
+        n,
+        table,
+        params.rows as usize * command_rows::ROW_WIDTH,
+    )
 }
 
 fn put_heading(out: &mut Buffer, used: usize, header: TapHeader) -> usize {
