@@ -256,6 +256,11 @@ TapRow tap_command_row(const uint8_t *text, size_t text_length, const uint8_t *p
 TapAnswer tap_command_nodes(const uint8_t *text, size_t text_length, const uint8_t *payload, size_t payload_length, bool by_position, size_t row,
                             uint16_t *nodes, size_t nodes_length);
 
+/* Row `row`, from 0, of those that `tap_decode_params` writes, as people read it (VT2): UTF-8, no zero byte behind it. It takes no table of rows. Answers
+ * its length; 6,138 bytes are enough for every row. Refuses by 1 to 5 as `tap_decode_params` does, then 11, then 12. */
+TapAnswer tap_command_value(const uint8_t *text, size_t text_length, const uint8_t *payload, size_t payload_length, bool by_position, size_t row,
+                            uint8_t *buffer, size_t buffer_length);
+
 #ifdef __cplusplus
 }
 #endif

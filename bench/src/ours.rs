@@ -177,6 +177,28 @@ unsafe extern "C" {
     ) -> u64;
 }
 
+unsafe extern "C" {
+    fn bench_command_value(
+        text: *const u8,
+        text_length: usize,
+        payload: *const u8,
+        payload_length: usize,
+        row: usize,
+        buffer: *mut u8,
+        buffer_length: usize,
+        times: u64,
+    ) -> u64;
+}
+
+/// A row of a command as people read it, so many times, into a buffer.
+pub fn command_value(text: &[u8], payload: &[u8], row: usize, buffer: &mut [u8], times: u32) -> u64 {
+    let (to, room) = (buffer.as_mut_ptr(), buffer.len());
+    let (text, length) = (text.as_ptr(), text.len());
+    let (payload, size, times) = (payload.as_ptr(), payload.len(), u64::from(times));
+    // SAFETY: the slices are valid for the call, which writes inside the buffer alone.
+    unsafe { bench_command_value(text, length, payload, size, row, to, room, times) }
+}
+
 /// A row of a header as people read it, so many times, into a buffer.
 pub fn header_value(
     text: &[u8],

@@ -1,11 +1,16 @@
-//! A row of a header as people read it, against zniff-rs, which reads the header and makes a string of the row.
+//! A row of a header or of a command as people read it, against zniff-rs, which reads the header and makes a string of the row, and
+//! makes a string of each row of a command as it reads it.
 
 use std::hint::black_box;
 
+use zniff_core::decoder::command_class;
+use zniff_core::decoder::command_class::decode::{Decoded, DecodedParam as Parameter};
+use zniff_core::decoder::command_class::schema::ZwClasses;
 use zniff_core::decoder::frame_definition::decode::{self, DecodedParam};
 use zniff_core::decoder::frame_definition::schema;
 
 use crate::clock::{self, Side};
+use crate::commands::{self, Command};
 use crate::frames::{self, Frame};
 use crate::ours;
 
@@ -41,6 +46,68 @@ pub fn run() {
         }
     }
     println!("(allowed: {ACCEPTED} for the accepted call)");
+    run_commands();
+}
+
+fn run_commands() {
+    let unit = clock::unit();
+    println!("\n{unit:5} of a command's value rows   row       Rust  accepted / Rust");
+    for command in commands::commands() {
+        let rows = command.rows();
+        let loaded = command.loaded();
+        for row in [0, rows / 2, rows - 1] {
+            let read = said_row(&loaded, &command, row);
+            let mut buffer = [0; ROOM];
+            let length = ours::command_value(&command.text, &command.payload, row, &mut buffer, 1);
+            assert_eq!(read.as_bytes(), &buffer[..length as usize], "row {row} of '{}'", command.name);
+            let [rust, ours] =
+                clock::time_more([rust_row(&loaded, &command, row), command_row(&command, row)]);
+            println!(
+                "{:24} {rows:4}  {row:4}  {:9.0}  {:8.0}  {:4.2}",
+                command.name,
+                rust.median(),
+                ours.median(),
+                ours.ratio_to(&rust)
+            );
+        }
+    }
+    println!("(allowed: {ACCEPTED} for the accepted call)");
+}
+
+fn command_row<'a>(command: &'a Command, row: usize) -> Side<'a> {
+    let mut buffer = [0; ROOM];
+    Box::new(move |times| {
+        let (text, payload) = (black_box(&command.text), &command.payload);
+        _ = black_box(ours::command_value(text, payload, row, &mut buffer, times));
+    })
+}
+
+fn rust_row<'a>(loaded: &'a ZwClasses, command: &'a Command, row: usize) -> Side<'a> {
+    clock::side(move || drop(black_box(said_row(loaded, command, row))))
+}
+
+/// The Rust's command, and its string for a row.
+fn said_row(loaded: &ZwClasses, command: &Command, row: usize) -> String {
+    let decoded = command_class::decode::decode(loaded, black_box(&command.payload[..]));
+    let Decoded::Command(decoded) = decoded else {
+        panic!("a command that has rows");
+    };
+    let mut left = row;
+    nth_param(&decoded.params, &mut left).expect("a row of the command").display.clone()
+}
+
+/// A row by its number, rows being depth first.
+fn nth_param<'a>(params: &'a [Parameter], left: &mut usize) -> Option<&'a Parameter> {
+    for param in params {
+        if *left == 0 {
+            return Some(param);
+        }
+        *left -= 1;
+        if let Some(found) = nth_param(&param.children, left) {
+            return Some(found);
+        }
+    }
+    None
 }
 
 fn ask(frame: &Frame, row: usize, buffer: &mut [u8], times: u32) -> u64 {

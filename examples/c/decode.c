@@ -13,7 +13,7 @@ enum { FIRMWARE = 2 };
 /* Beams are a family of their own: an ordinary frame may start with their marker. */
 enum { FAMILY = true };
 
-enum { LONGEST_TEXT = 60000, LONGEST_PAYLOAD = 65535, FRAMES = 2978, HEADER_ROWS = 128, COMMAND_ROWS = 4096, NODES = 256, LONGEST_VALUE = 4096 };
+enum { LONGEST_TEXT = 60000, LONGEST_PAYLOAD = 65535, FRAMES = 2978, HEADER_ROWS = 128, COMMAND_ROWS = 4096, NODES = 256, LONGEST_VALUE = 6138 };
 
 static uint8_t frame_text[LONGEST_TEXT + 1];
 static uint8_t given_text[LONGEST_TEXT + 1];
@@ -116,6 +116,14 @@ static void show_command_nodes(const uint8_t *bytes, size_t length, uint64_t row
     }
 }
 
+/* Row `row` of a command as people read it. */
+static void show_command_value(const uint8_t *bytes, size_t length, uint64_t row, size_t text_length) {
+    TapAnswer shown = tap_command_value(command_text, text_length, bytes, length, false, row, value, sizeof value);
+    if (!shown.refusal) {
+        printf("      reads %.*s\n", (int)shown.value, (const char *)value);
+    }
+}
+
 /* Pages through a command without a table: are its rows those that stand in the table, and is there none behind them? */
 static bool is_paged(const uint8_t *bytes, size_t length, uint64_t rows, size_t text_length) {
     for (uint64_t i = 0; i < rows; i++) {
@@ -138,6 +146,7 @@ static void show_command(const uint8_t *bytes, size_t length, size_t text_length
     printf("  command %02x %02x, remainder at %llu\n", bytes[0], bytes[1], (unsigned long long)params.remainder);
     for (uint64_t i = 0; i < params.rows; i++) {
         print_numbers("    parameter", command_rows + i * TAP_COMMAND_WIDTH, TAP_COMMAND_WIDTH);
+        show_command_value(bytes, length, i, text_length);
         show_command_nodes(bytes, length, i, text_length);
     }
     printf("    paged one by one: %s\n", is_paged(bytes, length, params.rows, text_length) ? "the same" : "not the same");

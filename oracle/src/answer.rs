@@ -79,6 +79,9 @@ pub fn full_answer(line: &[u8]) -> Answer {
             return headervalue(*cap, *row, *region, *speed, text, mpdu)
                 .unwrap_or_else(|refusal| Err(refusal).into());
         }
+        Request::Commandvalue { offsets, cap, row, text, payload } => {
+            commandvalue(*offsets, *cap, *row, text, payload)
+        }
         Request::Totals { start, by, region, text, payloads } => {
             let run = Run { start: *start, by: *by, region: *region, text, payloads };
             return run.answer(Reader::Source);
@@ -348,18 +351,31 @@ fn headervalue(
     let (values, is_past_the_rust) =
         match source::header::display_values(&definition, mpdu, region, speed) {
             Some(values) => (values?, false),
-            None => {
-                let header = reading::header::decode_header(&definition, mpdu, region, speed)?;
-                let value = |row| reading::values::header_value(&definition, mpdu, row);
-                (header.rows.iter().map(value).collect(), true)
-            }
+            None => (reading::values::header_values(&definition, mpdu, region, speed)?, true),
         };
     let answer = written("headervalue", &values, row, cap);
     Ok(Answer { is_past_the_rust, ..answer.into() })
 }
 
-/// VT9: the value of a row, if there is such a one and the buffer has room for it.
-fn written(word: &str, values: &[String], row: u64, cap: u64) -> Result<String, Refusal> {
+/// VT11: a row of a command by the Rust's own string, or by the second reading where offsets count by position.
+fn commandvalue(
+    offsets: Offsets,
+    cap: u64,
+    row: u64,
+    text: &[u8],
+    payload: &[u8],
+) -> Result<String, Refusal> {
+    let definition: CommandDefinition = definition::read(text)?;
+    within(limits::COMMAND, payload)?;
+    let values = match offsets {
+        Offsets::Answered => source::command::displays(&definition, payload)?,
+        Offsets::Position => reading::values::command_values(&definition, payload, offsets)?,
+    };
+    written("commandvalue", &values, row, cap)
+}
+
+/// VT9, VT11: the value of a row, if there is such a one and the buffer has room for it.
+pub fn written(word: &str, values: &[String], row: u64, cap: u64) -> Result<String, Refusal> {
     let value = usize::try_from(row).ok().and_then(|row| values.get(row));
     let value = value.ok_or(Refusal { number: 11, carried: row as usize })?;
     if value.len() as u64 > cap {

@@ -29,6 +29,7 @@ pub enum Request {
     Commandnodes { offsets: Offsets, cap: u64, row: u64, text: Vec<u8>, payload: Vec<u8> },
     Listing { region: u64, speed: u64, text: Vec<u8>, mpdu: Vec<u8>, listing: Vec<u8> },
     Headervalue { cap: u64, row: u64, region: u64, speed: u64, text: Vec<u8>, mpdu: Vec<u8> },
+    Commandvalue { offsets: Offsets, cap: u64, row: u64, text: Vec<u8>, payload: Vec<u8> },
     Totals { start: u64, by: By, region: u64, text: Vec<u8>, payloads: Vec<Vec<u8>> },
 }
 
@@ -111,6 +112,13 @@ impl Request {
                 text: words.bytes()?,
                 mpdu: words.bytes()?,
             },
+            b"commandvalue" => Request::Commandvalue {
+                offsets: words.offsets()?,
+                cap: words.buffer()?,
+                row: words.number()?,
+                text: words.bytes()?,
+                payload: words.bytes()?,
+            },
             b"totals" => Request::Totals {
                 start: words.number()?,
                 by: words.by()?,
@@ -163,6 +171,9 @@ impl Request {
             }
             Request::Headervalue { cap, row, region, speed, text, mpdu } => {
                 ("headervalue", vec![*cap, *row, *region, *speed], vec![text, mpdu])
+            }
+            Request::Commandvalue { offsets, cap, row, text, payload } => {
+                ("commandvalue", vec![*offsets as u64, *cap, *row], vec![text, payload])
             }
             Request::Totals { start, by, region, text, payloads } => {
                 let numbers = [vec![*start], by.numbers(), vec![*region]].concat();

@@ -14,7 +14,7 @@ use oracle::sample::OFFSETS;
 #[test]
 fn the_rust_answers_as_the_second_reading() {
     assert!(agree(
-        &Generator::new(2, "header,command,commandby,record,recordby,frames,framesby").unwrap(),
+        &Generator::new(2, "header,command,commandby,record,recordby,frames,framesby,headervalue,commandvalue").unwrap(),
         100_000
     ));
 }

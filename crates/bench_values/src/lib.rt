@@ -1,5 +1,7 @@
 // The calls on values for the benchmark, as a static library: each is made so many times, by a text that is checked once.
 use buffer::Written;
+use command_rules::Offsets;
+use command_text::check_command_text;
 use frame_text::check_frame_text;
 use header_value::value_accepted;
 use text::Verdict;
@@ -7,7 +9,9 @@ ghost use mathlib.Core.Path.{_≡_};
 ghost use lib.ListN.{length};
 ghost use Rattle.text.specs.declared.Verdict.the-variants.{Accepted};
 ghost use Rattle.frame_text.specs.Rules.{verdict};
-ghost use Rattle.bench_values.specs.Told.{told, headerValue};
+ghost use Rattle.command_text.specs.Rules.{verdict as commandVerdict};
+ghost use Rattle.command_rules.specs.declared.Offsets.the-variants.{Answered};
+ghost use Rattle.bench_values.specs.Told.{told, headerValue, commandValue};
 
 // A text's length, or 100,000 and the refusal's number.
 fn tell(written: Written) -> u64
@@ -54,6 +58,35 @@ pub extern "C" fn bench_header_value(
 {
     match check_frame_text(text) {
         Verdict::Accepted => show_often(text, mpdu, region, speed, row, buffer, times),
+        Verdict::Refused(refusal) => tell(Written::Refused(refusal)),
+    }
+}
+
+fn show_row_often(text: &[u8], payload: &[u8], row: usize, buffer: &mut [u8], times: u64) -> u64
+    requires { ⌜ commandVerdict (now text) ≡ Accepted ⌝ }
+    ensures { λ r. ⌜ r ≡ told (commandValue Answered (now (text .entry)) (now (payload .entry)) row (length (now (buffer .entry)))) ⌝ }
+{
+    let mut k: u64 = 1;
+    while k < times {
+        command_value::value_accepted(text, payload, Offsets::Answered, row, buffer);
+        k += 1;
+    }
+    tell(command_value::value_accepted(text, payload, Offsets::Answered, row, buffer))
+}
+
+// A row of a command as people read it.
+#[no_mangle]
+pub extern "C" fn bench_command_value(
+    text: &[u8],
+    payload: &[u8],
+    row: usize,
+    buffer: &mut [u8],
+    times: u64,
+) -> u64
+    ensures { λ r. ⌜ r ≡ told (commandValue Answered (now (text .entry)) (now (payload .entry)) row (length (now (buffer .entry)))) ⌝ }
+{
+    match check_command_text(text) {
+        Verdict::Accepted => show_row_often(text, payload, row, buffer, times),
         Verdict::Refused(refusal) => tell(Written::Refused(refusal)),
     }
 }

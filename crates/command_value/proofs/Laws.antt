@@ -3,16 +3,29 @@ use mathlib.Core.Path.{_≡_, refl, sym, ap, _∙_}
 use mathlib.Core.Bool.{Bool}
 use mathlib.Core.List.{List, []}
 use Prim.Native.Nat.{ℕ, _-_, _≤_, _<_}
+use native.Mathlib.Decide.{decLe}
 use native.Mathlib.Omega.{arith}
 use lib.ListN.{length, take, drop, length-take, length-drop}
 use lib.Seq.{take-all, take-nil}
-use borrow.Author.Tests.{eq-eqb, ne-eqb}
+use borrow.Author.Tests.{eq-eqb, ne-eqb, lt-ltb}
 use Rattle.laws.proofs.Lists.{done, tail}
+use Rattle.refusal.specs.declared.Refusal.{Refusal}
+use Rattle.refusal.specs.declared.Refusal.the-variants.{TooLong}
+use Rattle.text.specs.declared.Verdict.{Verdict}
+use Rattle.text.specs.declared.Verdict.the-variants as text
+use Rattle.command_text.specs.Rules.{verdict}
+use Rattle.command_class.specs.Definition.{definition}
 use Rattle.buffer.specs.declared.Written.{Written}
+use Rattle.buffer.specs.declared.Written.the-variants as written
 use Rattle.buffer.specs.Buffer.{Writes}
 use Rattle.display.specs.Display.{display, displayBit}
+use Rattle.command_rules.specs.declared.Offsets.{Offsets}
 use Rattle.command_rules.specs.declared.Row.{Row}
+use Rattle.command_row.specs.Answer.{rowBy, rowOf}
+use Rattle.command_row.specs.declared.Found.{Found}
+use Rattle.command_row.specs.declared.Found.the-variants as found
 use Rattle.command_value.specs.Params.{asciiAt, constName, isFlag, bytesBetween, paramText, bitText, rowText}
+use Rattle.command_value.specs.Answer.{ofFound, leftBy, CommandValue}
 use Rattle.command_value.proofs.LookupLaws.{lookup-laws}
 
 -- ---- bytes_between
@@ -55,6 +68,59 @@ module _ (t p : List ℕ) (r : Row) (b : List ℕ) (w : Written) (b′ : List �
   unfolding rowText
   row-nothing s n e = rw (ne-eqb (r .kind) 0 n, ne-eqb (r .kind) 1 e) s
 
-pub ruleset row-laws = (between-none, between-past, between-rest, between-short, param-shown, bit-shown, row-param, row-bit, row-nothing)
+-- ---- value_accepted: behind the row x that `row_accepted` answers
+module _ (offsets : Offsets) (t p : List ℕ) (k : ℕ) (x : Found) (is : x ≡ rowBy offsets (definition t) p k) where
+  -- a row is answered only for a payload within limits
+  pub found-short : (r : Row) → x ≡ found.Row r → length p ≤ 2048
+  unfolding rowBy
+  found-short r e = go (decLe (length p) 2048)
+    where
+      go : Dec (length p ≤ 2048) → length p ≤ 2048
+      go (yes h) = h
+      go (no h) =
+          absurd
+          (let z : found.Row r ≡ found.Refused (TooLong (length p)) = sym e ∙ (rw (lt-ltb 2048 (length p) (omega arith)) at is) in
+          let w : _≡_ {A = ℕ} 0 1 = cc in
+          omega arith)
+
+  module _ (a : verdict t ≡ text.Accepted) (b : List ℕ) where
+    found-is : x ≡ rowOf offsets t p k
+    unfolding rowOf
+    found-is = rw a is
+
+    told : (w : Written) (b′ : List ℕ) → w ≡ ofFound t p (length b) x → b′ ≡ leftBy t p b w x → CommandValue offsets t p k b w b′
+    told w b′ e l = record { answer = rw (← found-is) e; leaves = rw (← found-is) l }
+
+    pub told-refused : (y : Refusal) → x ≡ found.Refused y → CommandValue offsets t p k b (written.Refused y) b
+    told-refused y e = told _ _ (rw e refl) (rw e refl)
+
+    pub told-row : (r : Row) (w : Written) (b′ : List ℕ) → Writes (rowText t p r) b w b′ → x ≡ found.Row r → CommandValue offsets t p k b w b′
+    told-row r w b′ s e = told w b′ (rw e (s .answer)) (rw e (s .buffer))
+
+-- ---- command_value
+pub told-not : (offsets : Offsets) (t p : List ℕ) (k : ℕ) (b : List ℕ) (v : Verdict) (y : Refusal) → v ≡ verdict t → v ≡ text.Refused y
+    → CommandValue offsets t p k b (written.Refused y) b
+unfolding rowOf
+told-not offsets t p k b v y is e = let w : verdict t ≡ text.Refused y = sym is ∙ e in record { answer = rw w refl; leaves = rw w refl }
+
+pub told-judged : (t : List ℕ) (v : Verdict) → v ≡ verdict t → v ≡ text.Accepted → verdict t ≡ text.Accepted
+told-judged t v is e = sym is ∙ e
+
+pub ruleset row-laws = (
+  between-none,
+  between-past,
+  between-rest,
+  between-short,
+  param-shown,
+  bit-shown,
+  row-param,
+  row-bit,
+  row-nothing,
+  found-short,
+  told-refused,
+  told-row,
+  told-not,
+  told-judged,
+)
 
 pub ruleset laws = (lookup-laws, row-laws)

@@ -1,2 +1,3 @@
 pub mod Params
 pub mod Lookup
+pub mod Answer

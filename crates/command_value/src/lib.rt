@@ -1,14 +1,19 @@
-// What is shown of a parameter of a command: VT2 and VT9 of docs/RULES.md. The row that is asked for names the lines that say how.
+// What is shown of a row of a command: VT2 and VT11 of docs/RULES.md. The row that is asked for is walked to, and names the lines that say how.
 mod lookup;
 
 use buffer::Written;
+use command_row::Found;
+use command_row::row_accepted;
+use command_rules::Offsets;
 use command_rules::Row;
+use command_text::check_command_text;
 use display::display;
 use display::display_bit;
 use display::write_nothing;
 use lookup::ascii_at;
 use lookup::const_name;
 use lookup::is_flag;
+use text::Verdict;
 ghost use mathlib.Core.Path.{_≡_};
 ghost use Prim.Native.Nat.{_≤_};
 ghost use lib.ListN.{length};
@@ -16,6 +21,7 @@ ghost use Rattle.text.specs.declared.Verdict.the-variants.{Accepted};
 ghost use Rattle.command_text.specs.Rules.{verdict};
 ghost use Rattle.buffer.specs.Buffer.{Writes};
 ghost use Rattle.command_value.specs.Params.{bytesBetween, paramText, bitText, rowText};
+ghost use Rattle.command_value.specs.Answer.{CommandValue};
 
 // The bytes of a payload from a place up to another, as far as they are there.
 fn bytes_between(payload: &[u8], start: u64, end: u64) -> &[u8]
@@ -67,4 +73,38 @@ pub fn row_value(text: &[u8], payload: &[u8], row: Row, buffer: &mut [u8]) -> Wr
         return bit_value(text, row, buffer);
     }
     write_nothing(buffer)
+}
+
+// The same of the row of this number by a text that is accepted; or refusal 4, 5, 11 or 12. For many commands and one text.
+pub fn value_accepted(
+    text: &[u8],
+    payload: &[u8],
+    offsets: Offsets,
+    row: usize,
+    buffer: &mut [u8],
+) -> Written
+    requires { ⌜ verdict (now text) ≡ Accepted ⌝ }
+    ensures { λ r. ⌜ CommandValue offsets (now (text .entry)) (now (payload .entry)) row (now (buffer .entry)) r (now (buffer .exit)) ⌝ }
+{
+    match row_accepted(text, payload, offsets, row) {
+        Found::Row(found) => row_value(text, payload, found, buffer),
+        Found::Refused(refusal) => Written::Refused(refusal),
+    }
+}
+
+// A value of a command as people read it: of the row of this number, from 0, with offsets read in one of the two ways. Answers its length, or refuses by 1 to 5,
+// 11 or 12; a refusal writes nothing, an answer nothing past its length.
+pub fn command_value(
+    text: &[u8],
+    payload: &[u8],
+    offsets: Offsets,
+    row: usize,
+    buffer: &mut [u8],
+) -> Written
+    ensures { λ r. ⌜ CommandValue offsets (now (text .entry)) (now (payload .entry)) row (now (buffer .entry)) r (now (buffer .exit)) ⌝ }
+{
+    match check_command_text(text) {
+        Verdict::Accepted => value_accepted(text, payload, offsets, row, buffer),
+        Verdict::Refused(refusal) => Written::Refused(refusal),
+    }
 }

@@ -43,6 +43,8 @@ use Rattle.buffer.specs.declared.Written.the-variants as written
 use Rattle.buffer.specs.Buffer.{answerIn}
 use Rattle.header_value.specs.Fields.{rowText}
 use Rattle.header_value.specs.Answer as value
+use Rattle.command_value.specs.Params as shown-rows
+use Rattle.command_value.specs.Answer as shown
 use Rattle.libtap.specs.declared.TapAnswer.{TapAnswer}
 use Rattle.libtap.specs.declared.headers.TapHeader.{TapHeader}
 use Rattle.libtap.specs.declared.commands.TapParams.{TapParams}
@@ -51,7 +53,7 @@ use Rattle.libtap.specs.Headers.{toldHeader, ToldHeader}
 use Rattle.libtap.specs.Commands.{toldBy}
 use Rattle.libtap.specs.Nodes.{toldListed, ToldHeaderNodes, ToldCommandNodes}
 use Rattle.totals_text.specs.Text.{textOf}
-use Rattle.libtap.specs.Values.{toldWritten, ToldHeaderValue}
+use Rattle.libtap.specs.Values.{toldWritten, ToldHeaderValue, ToldCommandValue}
 use Rattle.libtap.specs.Totals.{ToldTotals}
 
 refused-stands : (t : List ℕ) (x : Refusal) → Stands t (record { refusal = numberOf x; value = carriedBy x })
@@ -201,6 +203,15 @@ value-stands t d region speed k b r b′ p same = rw (p .told-so, p .shows .answ
     by-answer (decoded.Header h) = past (leb (h .rows) k)
     by-answer (decoded.Refused x) = refused-stands b′ x
 
+-- ---- the text of a command's row
+pub command-value-stands : (offsets : Offsets) (t p : List ℕ) (k : ℕ) (b : List ℕ) (r : TapAnswer) (b′ : List ℕ) → ToldCommandValue offsets t p k b r b′
+    → length b′ ≡ length b → Stands b′ r
+command-value-stands offsets t p k b r b′ told same = rw (told .told-so, told .shows .answer) (by-found (rowOf offsets t p k))
+  where
+    by-found : (x : Found) → Stands b′ (toldWritten (shown.ofFound t p (length b) x))
+    by-found (found.Row row) = written-stands (length (shown-rows.rowText t p row)) b b′ same
+    by-found (found.Refused x) = refused-stands b′ x
+
 -- ---- the text of totals
 pub totals-stand : (totals b : List ℕ) (r : TapAnswer) (b′ : List ℕ) → ToldTotals totals b r b′ → length b′ ≡ length b → Stands b′ r
 totals-stand totals b r b′ p same = rw (p .told-so, p .writes .answer) (written-stands (length (textOf totals)) b b′ same)
@@ -209,6 +220,6 @@ pub ruleset standing-laws = (stands-in, frames-stand, tidied-stands, header-stan
 
 pub ruleset node-standing = (stands-in, nodes-stand, command-nodes-stand)
 
-pub ruleset value-standing = (stands-in, value-stands)
+pub ruleset value-standing = (stands-in, value-stands, command-value-stands)
 
 pub ruleset totals-standing = (stands-in, totals-stand)

@@ -1,9 +1,12 @@
 // The calls on values as people read them.
 use crate::TapAnswer;
 use buffer::Written;
+use command::offsets_by;
+use command_value::command_value;
 use header_value::header_value;
 ghost use mathlib.Core.Path.{_≡_};
-ghost use Rattle.libtap.specs.Values.{toldWritten, ToldHeaderValue};
+ghost use Rattle.command.specs.Answer.{offsetsBy};
+ghost use Rattle.libtap.specs.Values.{toldWritten, ToldHeaderValue, ToldCommandValue};
 
 pub fn tell_written(written: Written) -> TapAnswer
     ensures { λ r. ⌜ r ≡ toldWritten written ⌝ }
@@ -34,5 +37,20 @@ pub extern "C" fn tap_header_value(
     ensures { λ r. ⌜ ToldHeaderValue (now (text .entry)) (now (mpdu .entry)) region speed row (now (buffer .entry)) r (now (buffer .exit)) ⌝ }
 {
     let written = header_value(text, mpdu, region, speed, row, buffer);
+    tell_written(written)
+}
+
+// A row of those that `tap_decode_params` writes, as people read it, into the buffer (VT2). Answers its length, or refusal 1 to 5, 11 or 12.
+#[no_mangle]
+pub extern "C" fn tap_command_value(
+    text: &[u8],
+    payload: &[u8],
+    position: bool,
+    row: usize,
+    buffer: &mut [u8],
+) -> TapAnswer
+    ensures { λ r. ⌜ ToldCommandValue (offsetsBy position) (now (text .entry)) (now (payload .entry)) row (now (buffer .entry)) r (now (buffer .exit)) ⌝ }
+{
+    let written = command_value(text, payload, offsets_by(position), row, buffer);
     tell_written(written)
 }

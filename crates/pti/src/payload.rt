@@ -225,7 +225,7 @@ fn write_frames(
     }
 }
 
-// Every frame of a payload by these rules, with the rates lent once for all of them.
+// Every frame of a payload by these rules; the first body is at hand.
 fn parse_bodies(
     rates: &[u8; 512],
     payload: &[u8],
@@ -247,6 +247,16 @@ fn parse_bodies(
     Frames::Rows(write_frames(rates, payload, rules, first, table))
 }
 
+// The same, with the rates lent once for all frames. A function of its own, so that a payload without a body does not lay them out.
+fn parse_from(payload: &[u8], rules: Rules, first: Span, table: &mut [u16]) -> Frames
+    requires { ⌜ rules .width ≤ 5 ⌝ }
+    requires { ⌜ length (now payload) ≤ 65535 ⌝ }
+    requires { ⌜ Leads (now payload) 1 first ⌝ }
+    ensures { λ r. ⌜ ParsesBy rules (now (payload .entry)) (now (table .entry)) r (now (table .exit)) ⌝ }
+{
+    parse_bodies(&RATES, payload, rules, first, table)
+}
+
 // Every frame of a payload, which that firmware wrote, by that reading of beams, into the table, or refusal 13, 4 or 8. A refusal writes nothing, an
 // answer nothing past its last row.
 pub fn parse_payload(payload: &[u8], firmware: usize, reading: Reading, table: &mut [u16]) -> Frames
@@ -262,5 +272,5 @@ pub fn parse_payload(payload: &[u8], firmware: usize, reading: Reading, table: &
     let Next::Body(first) = next_body(payload, 1) else {
         return Frames::Rows(0);
     };
-    parse_bodies(&RATES, payload, rules, first, table)
+    parse_from(payload, rules, first, table)
 }

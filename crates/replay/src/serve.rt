@@ -22,6 +22,7 @@ use request::Word;
 use request::find;
 use request::word_of;
 use totals_requests::totals;
+use value_requests::commandvalue;
 use value_requests::headervalue;
 use walk_requests::command;
 use walk_requests::commandby;
@@ -75,6 +76,7 @@ fn answer(line: &[u8], bytes: &mut [u8], rows: &mut [u64], out: &mut Buffer, use
         Word::Commandnodes => commandnodes(words, bytes, out, used),
         Word::Listing => listing(words, bytes, out, used),
         Word::Headervalue => headervalue(words, bytes, out, used),
+        Word::Commandvalue => commandvalue(words, bytes, out, used),
         Word::Totals => totals(words, bytes, out, used),
         Word::Unknown => Answer::Bad,
     }

@@ -28,6 +28,7 @@ pub enum Word {
     Commandnodes,
     Listing,
     Headervalue,
+    Commandvalue,
     Totals,
     Unknown,
 }
@@ -72,7 +73,7 @@ pub fn find(s: &[u8], b: u8) -> usize
 
 pub fn word_of(word: &[u8]) -> Word {
     let words: &[u8] =
-        b"rate\tcount\tbody\trecord\tframes\tframetable\tframetext\tcommandtext\theader\tcommand\tbits\tchecksum\trecordby\tframesby\tframetableby\ttidy\tcommandby\theadernodes\tlisting\theadervalue\tcommandnodes\ttotals";
+        b"rate\tcount\tbody\trecord\tframes\tframetable\tframetext\tcommandtext\theader\tcommand\tbits\tchecksum\trecordby\tframesby\tframetableby\ttidy\tcommandby\theadernodes\tlisting\theadervalue\tcommandnodes\tcommandvalue\ttotals";
     match find_field(words, word) {
         0 => Word::Rate,
         1 => Word::Count,
@@ -95,7 +96,8 @@ pub fn word_of(word: &[u8]) -> Word {
         18 => Word::Listing,
         19 => Word::Headervalue,
         20 => Word::Commandnodes,
-        21 => Word::Totals,
+        21 => Word::Commandvalue,
+        22 => Word::Totals,
         _ => Word::Unknown,
     }
 }

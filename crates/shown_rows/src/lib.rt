@@ -1,20 +1,8 @@
 // Values of rows of a table as people read them, on their way to standard output. A row that is not there, or a text that isn't accepted, has none.
 use buffer::Written;
-use command_rows::END;
-use command_rows::KIND;
-use command_rows::LACKING;
-use command_rows::LINE;
-use command_rows::NAMED;
-use command_rows::NUMBER;
-use command_rows::PARENT;
-use command_rows::ROW_WIDTH;
-use command_rows::START;
-use command_rows::VALUE;
-use command_rows::VALUED;
-use command_rules::Row;
+use command_rows::read_row;
 use command_text::check_command_text;
 use frame_text::check_frame_text;
-use readers::cells::cell;
 use text::Verdict;
 use writer::Buffer;
 use writer::put;
@@ -62,28 +50,15 @@ pub fn put_field(
     put_written(out, at, written, &value)
 }
 
-// Row i of a command.
-fn row_of(rows: &[u64], i: usize) -> Row {
-    Row {
-        kind: cell(rows, ROW_WIDTH, i, KIND),
-        line: cell(rows, ROW_WIDTH, i, LINE),
-        parent: cell(rows, ROW_WIDTH, i, PARENT),
-        start: cell(rows, ROW_WIDTH, i, START),
-        end: cell(rows, ROW_WIDTH, i, END),
-        valued: cell(rows, ROW_WIDTH, i, VALUED),
-        value: cell(rows, ROW_WIDTH, i, VALUE),
-        named: cell(rows, ROW_WIDTH, i, NAMED),
-        number: cell(rows, ROW_WIDTH, i, NUMBER),
-        lacking: cell(rows, ROW_WIDTH, i, LACKING),
-    }
-}
-
-fn show_param(text: &[u8], payload: &[u8], row: Row, value: &mut [u8]) -> Written {
+fn show_param(text: &[u8], payload: &[u8], rows: &[u64], i: usize, value: &mut [u8]) -> Written {
     if 2048 < payload.len() {
         return Written::Length(0);
     }
+    if rows.len() / command_rows::ROW_WIDTH <= i {
+        return Written::Length(0);
+    }
     match check_command_text(text) {
-        Verdict::Accepted => command_value::row_value(text, payload, row, value),
+        Verdict::Accepted => command_value::row_value(text, payload, read_row(rows, i), value),
         Verdict::Refused(refusal) => Written::Refused(refusal),
     }
 }
@@ -98,6 +73,6 @@ pub fn put_param(
     i: usize,
 ) -> usize {
     let mut value = [0u8; MOST];
-    let written = show_param(text, payload, row_of(rows, i), &mut value);
+    let written = show_param(text, payload, rows, i, &mut value);
     put_written(out, at, written, &value)
 }

@@ -6,11 +6,15 @@ use answer::table::BYTE;
 use answer::table::MOST_BYTES;
 use answer::table::put_touched_bytes;
 use libtap::TapAnswer;
+use libtap::values::tap_command_value;
 use libtap::values::tap_header_value;
+use node_requests::CommandAsked;
 use node_requests::Two;
 use node_requests::read_two;
 use request::Both;
+use request::Leading;
 use request::read_both;
+use request::read_leading;
 use writer::Buffer;
 use writer::put;
 ghost use Prim.Native.Nat.{_≤_};
@@ -104,4 +108,60 @@ pub fn headervalue(words: &[u8], bytes: &mut [u8], out: &mut Buffer, used: usize
     let room = cap as usize;
     let mut buffer = [BYTE; 196608];
     Answer::Put(answer_header(bytes, asked, &mut buffer[..room], out, used))
+}
+
+fn show_command(
+    text: &[u8],
+    payload: &[u8],
+    asked: CommandAsked,
+    buffer: &mut [u8],
+    out: &mut Buffer,
+    used: usize,
+) -> usize {
+    let written = tap_command_value(text, payload, asked.by_position, asked.row, buffer);
+    put_written(out, used, b"commandvalue ", written, buffer)
+}
+
+// The first bytes are the text, those behind them up to the end the payload.
+fn answer_command(
+    bytes: &[u8],
+    asked: CommandAsked,
+    buffer: &mut [u8],
+    out: &mut Buffer,
+    used: usize,
+) -> usize
+    requires { ⌜ (asked .n ≤ asked .end) × (asked .end ≤ length (now bytes)) ⌝ }
+{
+    let n = asked.n;
+    let end = asked.end;
+    show_command(&bytes[..n], &bytes[n..end], asked, buffer, out, used)
+}
+
+// `commandvalue MODE CAP ROW TEXT PAYLOAD`
+pub fn commandvalue(words: &[u8], bytes: &mut [u8], out: &mut Buffer, used: usize) -> Answer {
+    let Leading::Is(mode, at) = read_leading(words) else {
+        return Answer::Bad;
+    };
+    if 1 < mode {
+        return Answer::Bad;
+    }
+    let others = &words[at..];
+    let Two::Are(cap, row, from) = read_two(others) else {
+        return Answer::Bad;
+    };
+    if MOST_BYTES < cap {
+        return Answer::Bad;
+    }
+    let Both::Are(n, end) = read_both(&others[from..], bytes) else {
+        return Answer::Bad;
+    };
+    let asked = CommandAsked {
+        row: row as usize,
+        by_position: mode == 1,
+        n,
+        end,
+    };
+    let room = cap as usize;
+    let mut buffer = [BYTE; 196608];
+    Answer::Put(answer_command(bytes, asked, &mut buffer[..room], out, used))
 }

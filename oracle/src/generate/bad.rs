@@ -46,7 +46,7 @@ fn bad_number(random: &mut Random) -> Vec<u8> {
     const CAPS: &[&str] = &["16385", "16386", "65536", "4294967296", "18446744073709551615"];
     let number = random.pick(NUMBERS);
     const BUFFERS: &[&str] = &["196609", "4294967296", "18446744073709551615"];
-    match random.below(26) {
+    match random.below(30) {
         0 => format!("rate {number} 1"),
         1 => format!("rate 1 {number}"),
         2 => format!("body {number} 5b02005d00"),
@@ -76,6 +76,10 @@ fn bad_number(random: &mut Random) -> Vec<u8> {
         22 => format!("commandnodes 0 {number} 0 - 0000"),
         23 => format!("commandnodes 1 4 {number} - 0000"),
         24 => format!("commandnodes {} 4 0 - 0000", random.pick(&["2", "3", "18446744073709551615"])),
+        25 => format!("commandvalue {number} 4 0 - 0000"),
+        26 => format!("commandvalue 0 {number} 0 - 0000"),
+        27 => format!("commandvalue 1 4 {number} - 0000"),
+        28 => format!("commandvalue 0 {} 0 - 0000", random.pick(BUFFERS)),
         _ => format!("{} {} -", random.pick(&["frames", "frametable"]), random.pick(CAPS)),
     }
     .into_bytes()
@@ -122,8 +126,9 @@ fn bad_bytes(random: &mut Random) -> Vec<u8> {
         "listing 0 0 - 0000",
         "listing 0 0 -",
         "headervalue 4 0 0 0 -",
+        "commandvalue 1 4 0 -",
     ];
-    const WALKS: &[&str] = &["header 4 0 0", "command 4", "headernodes 4 0 0 0", "commandnodes 1 4 0", "headervalue 4 0 0 0"];
+    const WALKS: &[&str] = &["header 4 0 0", "command 4", "headernodes 4 0 0 0", "commandnodes 1 4 0", "headervalue 4 0 0 0", "commandvalue 0 4 0"];
     match random.below(8) {
         0 => format!("{} {} 0000", random.pick(WALKS), random.pick(BYTES)),
         _ => format!("{} {}", random.pick(WORDS), random.pick(BYTES)),

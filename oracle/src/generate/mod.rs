@@ -49,12 +49,13 @@ pub const KINDS: &[Kind] = &[
     Kind { name: "commandnodes", weight: 30, draw: nodes::commandnodes },
     Kind { name: "listing", weight: 30, draw: listing::listing },
     Kind { name: "headervalue", weight: 30, draw: values::headervalue },
+    Kind { name: "commandvalue", weight: 30, draw: values::commandvalue },
     Kind { name: "totals", weight: 30, draw: totals::totals },
     Kind { name: "bad", weight: 5, draw: bad::line },
 ];
 
 /// What `today` stands for: what the replay program answers so far.
-pub const TODAY: &str = "rate,count,body,record,frames,frametable,recordby,framesby,frametableby,frametext,commandtext,header,command,commandby,bits,checksum,tidy,headernodes,commandnodes,listing,headervalue,totals,bad";
+pub const TODAY: &str = "rate,count,body,record,frames,frametable,recordby,framesby,frametableby,frametext,commandtext,header,command,commandby,bits,checksum,tidy,headernodes,commandnodes,listing,headervalue,commandvalue,totals,bad";
 
 /// Draws requests of some kinds under a seed.
 #[derive(Clone)]

@@ -10,7 +10,7 @@ pub mod nodes;
 pub mod pti;
 pub mod values;
 
-use crate::answer::push_frame;
+use crate::answer::{push_frame, written};
 use crate::definition;
 use crate::reading::pti::By;
 use crate::refusal::Refusal;
@@ -18,7 +18,7 @@ use crate::request::Request;
 use crate::rows::within_table;
 use crate::totals::{Reader, Run};
 
-/// The answer to a request on frames, to `header`, `command`, `commandby` or `totals`; `None` to another.
+/// The answer to a request on frames, to `header`, `command`, `commandby` or `totals`, or on a value; `None` to another.
 pub fn answer(request: &Request) -> Option<String> {
     let answer = match request {
         Request::Header { cap, region, speed, text, mpdu } => {
@@ -38,6 +38,12 @@ pub fn answer(request: &Request) -> Option<String> {
             let run = Run { start: *start, by: *by, region: *region, text, payloads };
             Ok(run.answer(Reader::Reading).line)
         }
+        Request::Headervalue { cap, row, region, speed, text, mpdu } => definition::read(text)
+            .and_then(|definition| values::header_values(&definition, mpdu, *region, *speed))
+            .and_then(|values| written("headervalue", &values, *row, *cap)),
+        Request::Commandvalue { offsets, cap, row, text, payload } => definition::read(text)
+            .and_then(|definition| values::command_values(&definition, payload, *offsets))
+            .and_then(|values| written("commandvalue", &values, *row, *cap)),
         _ => return None,
     };
     Some(answer.unwrap_or_else(|refusal| refusal.to_string()))

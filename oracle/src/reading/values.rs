@@ -4,14 +4,37 @@
 use zniff_core::decoder::command_class::schema::ParamType as ParameterType;
 use zniff_core::decoder::frame_definition::schema::ParamType;
 
-use super::command::{first_a, first_r};
+use super::command::{Offsets, decode_params, first_a, first_r};
+use super::header::decode_header;
 use super::nodes::param_at;
 use crate::definition::command::{CmdItem, CommandDefinition, ItemKind, Param};
 use crate::definition::frame::FrameDefinition;
+use crate::refusal::Refusal;
 use crate::rows::{CommandRow, HeaderRow};
 
+/// VT1, VT9: every row of a header.
+pub fn header_values(
+    definition: &FrameDefinition,
+    mpdu: &[u8],
+    region: u64,
+    speed: u64,
+) -> Result<Vec<String>, Refusal> {
+    let header = decode_header(definition, mpdu, region, speed)?;
+    Ok(header.rows.iter().map(|row| header_value(definition, mpdu, row)).collect())
+}
+
+/// VT2, VT11: every row of a command.
+pub fn command_values(
+    definition: &CommandDefinition,
+    payload: &[u8],
+    offsets: Offsets,
+) -> Result<Vec<String>, Refusal> {
+    let command = decode_params(definition, payload, offsets)?;
+    Ok(command.rows.iter().map(|row| command_value(definition, payload, row)).collect())
+}
+
 /// VT1: a row of a header.
-pub fn header_value(definition: &FrameDefinition, mpdu: &[u8], row: &HeaderRow) -> String {
+fn header_value(definition: &FrameDefinition, mpdu: &[u8], row: &HeaderRow) -> String {
     let &[number, _, start, bits, valued, value, symbol] = row;
     let line = definition.param_lines()[number as usize];
     let param = param_at(definition, line).expect("a row has its P line");
@@ -42,7 +65,7 @@ pub fn header_value(definition: &FrameDefinition, mpdu: &[u8], row: &HeaderRow) 
 }
 
 /// VT2: a row of a command.
-pub fn command_value(definition: &CommandDefinition, payload: &[u8], row: &CommandRow) -> String {
+fn command_value(definition: &CommandDefinition, payload: &[u8], row: &CommandRow) -> String {
     let &[kind, line, _, start, end, _, value, named, ..] = row;
     let item = |line: u64| {
         let items = params(definition).flat_map(|param| &param.items);

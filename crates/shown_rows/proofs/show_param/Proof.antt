@@ -9,8 +9,10 @@ show-param-spec =
     tie.close
     (tie.spec
     (λ c. search (needs, laws))
+    (λ c. search (needs, laws))
     (λ c κs. search (needs, laws))
     (λ c. search (needs, laws))
+    (λ c κs. search (needs, laws))
     (λ c κs. search (needs, laws))
     (λ c. search (needs, laws))
     (λ c. search (needs, laws))

@@ -1,13 +1,8 @@
 -- `pti::payload::parse_payload` meets its contract, by the laws of the crate. Assumes nothing.
 use Rattle.pti.proofs.Laws.{laws}
 use borrow.Author.Needs.{needs}
-use Rattle.radio.proofs.SpeedLaws.{rates, rates-right}
 use Rattle.pti.proofs.payload.parse_payload.Statement.{statement}
 use Rattle.pti.proofs.payload.parse_payload.Tie as tie
-
-parse-bodies-requires : tie.Need-parse-bodies-requires
-unfolding rates
-parse-bodies-requires c κs = (rates-right, search (needs, laws))
 
 pub parse-payload-spec : {M : Type 1} → statement M
 parse-payload-spec =
@@ -20,6 +15,6 @@ parse-payload-spec =
     (λ c. search (needs, laws))
     (λ c. search (needs, laws))
     (λ c. search (needs, laws))
-    parse-bodies-requires
+    (λ c κs. (search (needs, laws), (search (needs, laws), search (needs, laws))))
     (λ c. search (needs, laws))
     (λ c. search (needs, laws)))

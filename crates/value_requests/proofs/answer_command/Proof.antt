@@ -1,0 +1,17 @@
+-- `value_requests::answer_command` meets its contract, by the laws of the crate. Assumes nothing.
+use Rattle.value_requests.proofs.Laws.{laws}
+use borrow.Author.Needs.{needs}
+use Rattle.value_requests.proofs.answer_command.Statement.{statement}
+use Rattle.value_requests.proofs.answer_command.Tie as tie
+
+pub answer-command-spec : {M : Type 1} → statement M
+answer-command-spec =
+    tie.close
+    (tie.spec
+    (λ c. search (needs, laws))
+    (λ c. search (needs, laws))
+    (λ c. search (needs, laws))
+    (λ c. search (needs, laws))
+    (λ c κs. search (needs, laws))
+    (λ c. search (needs, laws))
+    (λ c. search (needs, laws)))
