@@ -36,12 +36,14 @@ pub tells-unfit : (t d : List ℕ) (region speed k n : ℕ) (v : Verdict) (x : R
 unfolding headerValue answerOf
 tells-unfit t d region speed k n v x r e q is = rw (sym e ∙ q) is
 
-pub tells-row : (offsets : Offsets) (t p : List ℕ) (k : ℕ) (b : List ℕ) (x : Written) (b′ : List ℕ) (r n : ℕ) → CommandValue offsets t p k b x b′ → r ≡ told x
+pub tells-row : (offsets : Offsets) (t p : List ℕ) (k : ℕ) (b : List ℕ) (x : Written) (b′ : List ℕ) (r n : ℕ)
+    → CommandValue offsets t p k b x b′ → r ≡ told x
     → length b ≡ n → r ≡ told (commandValue offsets t p k n)
 unfolding commandValue
 tells-row offsets t p k b x b′ r n shows is size = rw (← size) (is ∙ ap told (shows .answer))
 
-pub tells-unfit-command : (offsets : Offsets) (t p : List ℕ) (k n : ℕ) (v : Verdict) (x : Refusal) (r : ℕ) → v ≡ commandVerdict t → v ≡ text.Refused x
+pub tells-unfit-command : (offsets : Offsets) (t p : List ℕ) (k n : ℕ) (v : Verdict) (x : Refusal) (r : ℕ) → v ≡ commandVerdict t
+    → v ≡ text.Refused x
     → r ≡ told (Refused x) → r ≡ told (commandValue offsets t p k n)
 unfolding commandValue rowOf
 tells-unfit-command offsets t p k n v x r e q is = rw (sym e ∙ q) is

@@ -204,7 +204,8 @@ value-stands t d region speed k b r b′ p same = rw (p .told-so, p .shows .answ
     by-answer (decoded.Refused x) = refused-stands b′ x
 
 -- ---- the text of a command's row
-pub command-value-stands : (offsets : Offsets) (t p : List ℕ) (k : ℕ) (b : List ℕ) (r : TapAnswer) (b′ : List ℕ) → ToldCommandValue offsets t p k b r b′
+pub command-value-stands : (offsets : Offsets) (t p : List ℕ) (k : ℕ) (b : List ℕ) (r : TapAnswer) (b′ : List ℕ)
+    → ToldCommandValue offsets t p k b r b′
     → length b′ ≡ length b → Stands b′ r
 command-value-stands offsets t p k b r b′ told same = rw (told .told-so, told .shows .answer) (by-found (rowOf offsets t p k))
   where

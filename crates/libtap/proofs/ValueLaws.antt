@@ -25,7 +25,8 @@ pub tells-header-value : (text mpdu : List ℕ) (region speed row : ℕ) (b : Li
     → HeaderValue text mpdu region speed row b x b′ → r ≡ toldWritten x → ToldHeaderValue text mpdu region speed row b r b′
 tells-header-value text mpdu region speed row b x r b′ so is-r = record { answer = x; shows = so; told-so = is-r }
 
-pub tells-command-value : (position : Bool) (offsets : Offsets) (text payload : List ℕ) (row : ℕ) (b : List ℕ) (x : Written) (r : TapAnswer) (b′ : List ℕ)
+pub tells-command-value : (position : Bool) (offsets : Offsets) (text payload : List ℕ) (row : ℕ) (b : List ℕ) (x : Written) (r : TapAnswer)
+    (b′ : List ℕ)
     → CommandValue offsets text payload row b x b′ → offsets ≡ offsetsBy position → r ≡ toldWritten x
     → ToldCommandValue (offsetsBy position) text payload row b r b′
 tells-command-value position offsets text payload row b x r b′ so e is-r = record { answer = x; shows = rw e at so; told-so = is-r }

@@ -7,4 +7,5 @@ use Rattle.libtap.proofs.values.tap_command_value.Tie as tie
 pub tap-command-value-spec : {M : Type 1} → statement M
 tap-command-value-spec =
     tie.close
-    (tie.spec (λ c κs. search (needs, value-laws)) (λ c κs. search (needs, value-laws)) (λ c κs. search (needs, value-laws)) (λ c. search (needs, value-laws)) (λ c. search (needs, value-laws)))
+    (tie.spec (λ c κs. search (needs, value-laws)) (λ c κs. search (needs, value-laws)) (λ c κs. search (needs, value-laws))
+    (λ c. search (needs, value-laws)) (λ c. search (needs, value-laws)))
