@@ -211,8 +211,16 @@ module _ (t : List ℕ) (p : Place) (readable : Readable rules t p) (inside : p 
           says = s;
         }
 
-    pub numbered-const : kind ≡ 75 → Numbers t p (record { kind = kind; level = 0; typed = Byte; offset = 0; mask = 0; shift = 0; value = n;
-        ascii = false })
+    pub numbered-const : kind ≡ 75 → Numbers t p (record {
+      kind = kind;
+      level = 0;
+      typed = Byte;
+      offset = 0;
+      mask = 0;
+      shift = 0;
+      value = n;
+      ascii = false;
+    })
     numbered-const is =
         let s = const-said fs formed (is-const is) in
         says-as (item (const (worth 0 (field 1 fs)) (field 2 fs))) _ (s .1) is refl

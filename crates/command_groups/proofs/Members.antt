@@ -133,7 +133,7 @@ module _ (t l body : List ℕ) (count i n parent s : ℕ) (loaded : IsLoaded t l
             let b = w .count in
             let r : written s d next (paramRows body (fieldOf p) (o .0) (w .size) (n + next) parent
             ++ members body (membersOf (drop (j + 1) (headsOf t))) (e .0) (g .es ++ (paramEntry body (o .0) (w .size .taken) ∷ []))
-                (n + (next + c)) parent .rows)
+            (n + (next + c)) parent .rows)
             ≡ written s d₀ 0 (members body (membersOf (drop i (headsOf t))) start [] n parent .rows) = rw one-more at (g .rows) in
             let z : next + c ≡ next + length (paramRows body (fieldOf p) (o .0) (w .size) (n + next) parent) = omega arith in
             record {

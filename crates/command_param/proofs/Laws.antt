@@ -61,7 +61,7 @@ pub no-bits : (t : List ℕ) (q : Loaded) (bs d : List ℕ) (start parent s : �
 no-bits t q bs d start parent s stands none h =
     let e : length (bitRows (getD bs 0 0) parent start (under (from t (after q)))) ≡ 0 = sym (total-is t q (getD bs 0 0) parent start s stands) ∙ none in
     rw (eq-eqb (length bs) 1 h, none-of (bitRows (getD bs 0 0) parent start (under (from t (after q)))) e)
-        (record { rows = sym (written-none s d 1); count = refl })
+    (record { rows = sym (written-none s d 1); count = refl })
 
 pub left-out-children : (t : List ℕ) (q : Loaded) (bs d : List ℕ) (start parent s : ℕ) (b : Bool) → Stands t q
     → b ≡ leftOut s (q .bits + 1) (length d) → b ≡ true

@@ -113,7 +113,7 @@ module _ (offsets : Offsets) (t l body : List ℕ) (count : ℕ) (loaded : IsLoa
       unfolding outer
       absent e d′ ed kept′ have′ ek eh =
           passed d′ ed kept′ have′ (g .es ++ unvalued offsets 0) (rw (ek, eh) (kept-unvalued offsets kept (g .es) have 0 (g .entries-are)))
-              (rw (rest, e) refl)
+          (rw (rest, e) refl)
 
       module _ (d′ : List ℕ) (e : BodyOffset) (y c : ℕ) (w : IsRead body (fieldOf p) (g .es) (o .0) next 0 s d next d′ e y c) where
         one-more : outer offsets body (entriesOf (drop j (headsOf t))) (o .0) (g .es) next

@@ -94,7 +94,7 @@ bit false = 0
 abbrev pub valuesIn : Decoded → List ℕ
 valuesIn (Header h) =
     h .number ∷ h .key ∷ bit (h .flags .ack) ∷ bit (h .flags .routed) ∷ bit (h .flags .multicast) ∷ bit (h .flags .error) ∷ h .payload
-        ∷ bit (h .right)
+    ∷ bit (h .right)
     ∷ h .rows ∷ []
 valuesIn (Refused x) = carriedBy x ∷ []
 

@@ -50,7 +50,7 @@ Shows t fields scratch c read ok table r table′ = Gives t ok (fitted (length t
 abbrev pub Picks : List ℕ → List ℕ → ℕ → ℕ → List Numbered → List ℕ → Decoded → List ℕ → Type 0
 Picks t d speed key bs table r table′ =
     Gives t (right d speed) (ofAnswer (definition t .sets) d (length table / rowWidth)
-        (answer 7 d (trees bs) (candidatesOf key (definition t)))) table r table′
+    (answer 7 d (trees bs) (candidatesOf key (definition t)))) table r table′
 
 abbrev pub Reads : List ℕ → List ℕ → ℕ → ℕ → List ℕ → Decoded → List ℕ → Type 0
 Reads t d speed key table r table′ = Gives t (right d speed) (told (definition t) d (length table / rowWidth) key) table r table′

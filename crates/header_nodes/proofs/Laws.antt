@@ -107,7 +107,7 @@ module _ (t d : List ℕ) (region speed : ℕ) (x : Decoded) (rows : List ℕ) (
       pub row-inside : k < h .rows → length rows ≡ 896 → k * rowWidth + rowWidth ≤ length rows
       row-inside inside long =
           let s : h .rows * rowWidth ≤ 896 = rw (is, length-replicate {A = ℕ} 896 0) at
-              (header-stands t d region speed (replicate {A = ℕ} 896 0) x rows dec) in
+          (header-stands t d region speed (replicate {A = ℕ} 896 0) x rows dec) in
           omega arith
 
 -- ---- header_nodes

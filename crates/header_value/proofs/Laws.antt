@@ -117,7 +117,7 @@ module _ (t d : List ℕ) (region speed : ℕ) (x : Decoded) (rows : List ℕ) (
   pub row-stands : (k : ℕ) (h : DecodedHeader) → x ≡ Header h → k < h .rows → length rows ≡ 896 → Stands d rows k
   row-stands k h is inside long =
       let s : h .rows * rowWidth ≤ 896 = rw (is, length-replicate {A = ℕ} 896 0) at
-          (header-stands t d region speed (replicate {A = ℕ} 896 0) x rows dec) in
+      (header-stands t d region speed (replicate {A = ℕ} 896 0) x rows dec) in
       record { short = mpdu-short h is; row = omega arith }
 
   module _ (k : ℕ) (b : List ℕ) where

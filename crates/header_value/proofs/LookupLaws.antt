@@ -64,7 +64,7 @@ this-number t p fs rs k (base key) v h e r f so = absurd (omega (arith, v .kind)
 this-number t p fs rs k (header x) v h e r f so = absurd (omega (arith, v .kind))
 this-number t p fs rs k (param x) v h e (At field q) f so =
     let a : record { number = k; says = x } ∷ params (suc k) (below rs)
-        ≡ record { number = k; says = meant t field } ∷ params (suc k) (below (from t q)) =
+    ≡ record { number = k; says = meant t field } ∷ params (suc k) (below (from t q)) =
     sym (ap (λ (l : List Record). params k (below l)) e) ∙ f .first in
     let b : x ≡ meant t field = ap (firstSays x) a in
     sym so ∙ ap (λ (l : List Record). among k (params k l)) e ∙ rw (eq-eqb k k refl, b)

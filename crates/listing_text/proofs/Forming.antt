@@ -164,7 +164,7 @@ module _ (listing : List ℕ) (p : Place) (w : Forming listing p) (e : ℕ)
         ∙ ap (λ (z : List ℕ). take e text ∷ lines z)
         (ap (drop (e + 1)) text-is ∙ drop-drop (e + 1) (p .at) listing ∙ ap (λ (k : ℕ). drop k listing) d) in
         w .so ∙ ap (formOf (p .line)) s ∙ (form-line (p .line) (take e text) (lines (drop (p .at + e + 1) listing))
-            (split-some 10 (drop (p .at + e + 1) listing)))
+        (split-some 10 (drop (p .at + e + 1) listing)))
 
     pub forming-last : (r : Form) → p .at + e + 1 ≡ length listing → r ≡ lastOf (p .line) (take e text) → r ≡ formOf 1 (lines listing)
     forming-last r n q = q ∙ sym (here ∙ rw (done listing (p .at + e + 1) (omega arith)) refl)

@@ -28,7 +28,7 @@ module _ (n stop : ℕ) (line : List ℕ) (at : ℕ) (r : Digits) (shows : Shows
   number-put line₁ e =
       let is : line₁ ≡ sets line at (shown n) =
       e ∙ ap (put line at) (ap (λ (k : ℕ). take (k - r .start) (drop (r .start) (r .bytes))) (sym (shows .size)) ∙ tail (r .bytes) (r .start)
-          ∙ shows .says)
+      ∙ shows .says)
       ∙ (put-room line (shown n) at (omega (arith, long))) in
       record {
         says = rw (is, ← long) (sym (sets-append line at (shown n) (stop ∷ [])));

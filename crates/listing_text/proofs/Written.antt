@@ -159,5 +159,5 @@ differs-same n (r ∷ rs) s h e = go (begins (lineOf r) s) refl e (differs-same 
     go true q z ih =
         let f : take (length (lineOf r)) s ≡ lineOf r = same-is (take (length (lineOf r)) s) (lineOf r) q in
         sym (take-append-drop (length (lineOf r)) s) ∙ ap (λ (l : List ℕ). l ++ drop (length (lineOf r)) s) f
-            ∙ ap (λ (l : List ℕ). lineOf r ++ l) (ih z)
+        ∙ ap (λ (l : List ℕ). lineOf r ++ l) (ih z)
     go false q z ih = absurd (omega arith)

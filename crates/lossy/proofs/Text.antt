@@ -97,7 +97,7 @@ passing-length (x ∷ xs) (suc k) = omega (arith, passing-length xs k)
 passing-length (x ∷ xs) zero =
     let h : Sized (x ∷ xs) = cut-sized x xs in
     let w : length (first (x ∷ xs)) ≤ 3 * cut (x ∷ xs) .size =
-        rw (first-length x xs) (width-le (cut (x ∷ xs) .well) (cut (x ∷ xs) .size) (h .some-size)) in
+    rw (first-length x xs) (width-le (cut (x ∷ xs) .well) (cut (x ∷ xs) .size) (h .some-size)) in
     let i : length (passing xs (cut (x ∷ xs) .size - 1)) ≤ 3 * (length xs - (cut (x ∷ xs) .size - 1)) = passing-length xs (cut (x ∷ xs) .size - 1) in
     let a : length (first (x ∷ xs) ++ passing xs (cut (x ∷ xs) .size - 1)) ≡ length (first (x ∷ xs)) + length (passing xs (cut (x ∷ xs) .size - 1)) =
     length-append (first (x ∷ xs)) (passing xs (cut (x ∷ xs) .size - 1)) in

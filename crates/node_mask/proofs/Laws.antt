@@ -32,11 +32,11 @@ module _ (l : List ℕ) (at a b c d : ℕ) (first : a ≡ getD l at 0 % 256) (se
       let s3 : suc (at + 3) ≡ at + 4 = omega arith in
       let d0 : drop at l ≡ getD l at 0 ∷ drop (at + 1) l = rw add-one (drop-cons l at 0 (omega arith)) in
       let d1 : drop (at + 1) l ≡ getD l (at + 1) 0 ∷ drop (at + 2) l = drop-cons l (at + 1) 0 (omega arith)
-          ∙ ap (λ (x : ℕ). getD l (at + 1) 0 ∷ drop x l) s1 in
+      ∙ ap (λ (x : ℕ). getD l (at + 1) 0 ∷ drop x l) s1 in
       let d2 : drop (at + 2) l ≡ getD l (at + 2) 0 ∷ drop (at + 3) l = drop-cons l (at + 2) 0 (omega arith)
-          ∙ ap (λ (x : ℕ). getD l (at + 2) 0 ∷ drop x l) s2 in
+      ∙ ap (λ (x : ℕ). getD l (at + 2) 0 ∷ drop x l) s2 in
       let d3 : drop (at + 3) l ≡ getD l (at + 3) 0 ∷ drop (at + 4) l = drop-cons l (at + 3) 0 (omega arith)
-          ∙ ap (λ (x : ℕ). getD l (at + 3) 0 ∷ drop x l) s3 in
+      ∙ ap (λ (x : ℕ). getD l (at + 3) 0 ∷ drop x l) s3 in
       rw (d0, d1, d2, d3) (omega arith)
 
   pub half-lt : a + b * 256 + (c + d * 256) * 65536 < 2 ^ 32
@@ -255,8 +255,12 @@ put-all m t n t′ is e short room =
 
 pub too-short : (m t : List ℕ) (n : ℕ) → n ≡ length (nodesOf m) → length m ≤ 8191 → length t < n → Lists m t (Refused (MoreRows n)) t
 too-short m t n e short h =
-    record { answer = rw (le-ltb 8191 (length m) short, lt-ltb (length t) (length (nodesOf m)) (omega arith), e); leaves = refl; lists = nodes-address m;
-        most = most m }
+    record {
+      answer = rw (le-ltb 8191 (length m) short, lt-ltb (length t) (length (nodesOf m)) (omega arith), e);
+      leaves = refl;
+      lists = nodes-address m;
+      most = most m;
+    }
 
 pub too-long : (m t : List ℕ) → 8191 < length m → Lists m t (Refused (TooLong (length m))) t
 too-long m t h = record { answer = rw (lt-ltb 8191 (length m) h); leaves = refl; lists = nodes-address m; most = most m }

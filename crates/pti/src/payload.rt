@@ -193,7 +193,13 @@ fn write_frame(
         return n;
     };
     let reading = rules.reading;
-    write_row(frame_of(bytes, reading, parts), number, body.start, table, n)
+    write_row(
+        frame_of(bytes, reading, parts),
+        number,
+        body.start,
+        table,
+        n,
+    )
 }
 
 // Writes the rows of all frames, one after the other; the first body is at hand. Returns how many there are.

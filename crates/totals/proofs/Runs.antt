@@ -249,7 +249,7 @@ module _ (firmware : ℕ) (reading : Reading) (t : List ℕ) (region : ℕ) wher
           rw (raised-swap (grows s) (grows r) 0 totals) (rw here at fits) in
           let low : within (raised (grows r) 0 totals) ≡ true =
           within-under (raised (grows r) 0 totals) (raised (grows s) 0 (raised (grows r) 0 totals))
-              (under-raised (grows s) 0 (raised (grows r) 0 totals)) both in
+          (under-raised (grows s) 0 (raised (grows r) 0 totals)) both in
           let at-r : answer r totals ≡ Counted = k .0 totals ∙ rw low refl in
           let there : next r totals ≡ raised (grows r) 0 totals = ap (totalsAfter (rulesOf firmware reading) t region r totals) at-r in
           counted-ok s (next r totals) (w .0 (next r totals)) (rw there both)

@@ -11,7 +11,7 @@ use Rattle.command_groups.proofs.read_group.Tie as tie
 abbrev Inv-loop : tie.InvT-loop
 Inv-loop text loaded group most body spot rows₀ kept₀ at₀ next₀ times₀ rows kept at next times =
     Turns body (membersOf (drop (group .first) (headsOf text))) (group .line) most (at₀ .0) (spot .row) (spot .skip) rows₀ rows (at .0) next times
-        × (length kept ≡ 256)
+    × (length kept ≡ 256)
 
 abbrev μ-loop : tie.MeasureT-loop
 μ-loop text loaded group most body spot rows₀ kept₀ at₀ next₀ times₀ rows kept at next times = most - times

@@ -5,9 +5,13 @@ use Rattle.header_named.proofs.read_rows.Statement.{statement}
 use Rattle.header_named.proofs.read_rows.Tie as tie
 
 read-behind-requires : tie.Need-read-behind-requires
-read-behind-requires c κs =
-    ((search (needs, laws), search (needs, laws)), ((search (needs, laws), search (needs, laws), search (needs, laws)),
-    (search (needs, laws), search (needs, laws))))
+read-behind-requires c κs = (
+  (search (needs, laws), search (needs, laws)),
+  (
+    (search (needs, laws), search (needs, laws), search (needs, laws)),
+    (search (needs, laws), search (needs, laws)),
+  ),
+)
 
 pub read-rows-spec : {M : Type 1} → statement M
 read-rows-spec =

@@ -7,4 +7,4 @@ use Rattle.header_nodes.proofs.is_mask.Tie as tie
 pub is-mask-spec : {M : Type 1} → statement M
 is-mask-spec =
     tie.close (tie.spec (λ c. search (needs, laws)) (λ c. search (needs, laws)) (λ c κs. search (needs, laws)) (λ c κs. search (needs, laws))
-        (λ c. search (needs, laws)))
+    (λ c. search (needs, laws)))
