@@ -39,14 +39,7 @@ pub extern "C" fn tap_add_payload(
     ensures { λ r.
         ⌜ ToldAdded firmware (readingBy family) (now (text .entry)) region (now (payload .entry)) (now (totals .entry)) r (now (totals .exit)) ⌝ }
 {
-    let added = add_payload(
-        text,
-        region,
-        firmware,
-        reading_by(family),
-        payload,
-        totals,
-    );
+    let added = add_payload(text, region, firmware, reading_by(family), payload, totals);
     tell_added(added)
 }
 

@@ -181,7 +181,10 @@ output is for the first of them. It takes --definitions, --firmware and --beams 
 
 // The page of a word.
 fn help_word(word: &[u8]) {
-    match find_field(b"frames\tshow\tcheck\ttidy\tlist\tjudge\ttotals\thelp", word) {
+    match find_field(
+        b"frames\tshow\tcheck\ttidy\tlist\tjudge\ttotals\thelp",
+        word,
+    ) {
         0 => help_frames(),
         1 => help_show(),
         2 => help_check(),

@@ -17,7 +17,10 @@ use totals_word::totals_file::show_totals;
 
 // Does what a word asks for.
 fn obey(word: &[u8]) {
-    match find_field(b"frames\tshow\tcheck\ttidy\tlist\tjudge\ttotals\thelp", word) {
+    match find_field(
+        b"frames\tshow\tcheck\ttidy\tlist\tjudge\ttotals\thelp",
+        word,
+    ) {
         0 => show_frames(),
         1 => show_frame(),
         2 => check_definition(),

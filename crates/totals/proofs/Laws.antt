@@ -47,8 +47,8 @@ use Rattle.totals.proofs.Sums.{adds-none, adds-both, adds-within, grown
 use Rattle.totals.proofs.Keys.{key-low}
 
 -- ---- a header
-pub heading-counted : (h : DecodedHeader) (rate n : ℕ) (a b c : List ℕ) → Tallies 1 ((h .key * 4 + rate, 1) ∷ []) a b → Tallies 1 ((1024, n) ∷ []) b c
-    → n ≡ cond (h .right) 0 1 → Tallies 2 (headerCounts rate (header.Header h)) a c
+pub heading-counted : (h : DecodedHeader) (rate n : ℕ) (a b c : List ℕ) → Tallies 1 ((h .key * 4 + rate, 1) ∷ []) a b
+    → Tallies 1 ((1024, n) ∷ []) b c → n ≡ cond (h .right) 0 1 → Tallies 2 (headerCounts rate (header.Header h)) a c
 heading-counted h rate n a b c p q e =
     rw e at (adds-both 1 1 ((h .key * 4 + rate, 1) ∷ []) ((1024, n) ∷ []) a b c p q)
 
@@ -177,7 +177,8 @@ room-zeros i = go (ltb i size) refl
 pub counting-starts : (w : Rules) (t : List ℕ) (region : ℕ) (s sums : List ℕ) → sums ≡ zeros → Counting w t region s sums 1
 counting-starts w t region s sums e = rw e (record { number = 0; rest = refl; room = room-zeros; some = omega arith })
 
-module _ (w : Rules) (t : List ℕ) (region : ℕ) (s sums : List ℕ) (at : ℕ) (inv : Counting w t region s sums at) (r : Next) (follows : Follows s at r) where
+module _ (w : Rules) (t : List ℕ) (region : ℕ) (s sums : List ℕ) (at : ℕ) (inv : Counting w t region s sums at) (r : Next)
+    (follows : Follows s at r) where
   pub counting-done : r ≡ NoMore
       → sums ≡ tallyRows (frameCounts t region s) zeros (rowsOf w s)
   unfolding rowsIn tallyRows

@@ -120,8 +120,8 @@ module _ (firmware : ℕ) (reading : Reading) (t : List ℕ) (region : ℕ) wher
   unfolding gain
   kind s = go (eqb (regionBits firmware) 0) refl (verdict t) refl (leb (length s) 65535) refl
     where
-      go : (unknown : Bool) → eqb (regionBits firmware) 0 ≡ unknown → (v : Verdict) → verdict t ≡ v → (short : Bool) → leb (length s) 65535 ≡ short
-          → Kind s (cond (not unknown && (accepts v && short)) (grows s) (λ (j : ℕ). 0))
+      go : (unknown : Bool) → eqb (regionBits firmware) 0 ≡ unknown → (v : Verdict) → verdict t ≡ v → (short : Bool)
+          → leb (length s) 65535 ≡ short → Kind s (cond (not unknown && (accepts v && short)) (grows s) (λ (j : ℕ). 0))
       go true a v b short c = inl (Firmware firmware, λ totals. rw a refl, refl)
       go false a (text.Refused x) b short c = inl (x, λ totals. rw (a, b) refl, refl)
       go false a text.Accepted b false c = inl (TooLong (length s), λ totals. rw (a, b, c) refl, refl)
@@ -223,7 +223,8 @@ module _ (firmware : ℕ) (reading : Reading) (t : List ℕ) (region : ℕ) wher
       omega (arith, a, b, c, gains-both ss rs i)
 
   -- ---- the order
-  swapped : (s r totals : List ℕ) → Ok s totals → Ok r (next s totals) → Ok r totals × Ok s (next r totals) × (next s (next r totals) ≡ next r (next s totals))
+  swapped : (s r totals : List ℕ) → Ok s totals → Ok r (next s totals)
+      → Ok r totals × Ok s (next r totals) × (next s (next r totals) ≡ next r (next s totals))
   swapped s r totals ok-s ok-r =
       let x : next s totals ≡ raised (gain s) 0 totals = ok-next s totals ok-s in
       let u : Under totals (next s totals) = rw x (under-raised (gain s) 0 totals) in
@@ -246,7 +247,8 @@ module _ (firmware : ℕ) (reading : Reading) (t : List ℕ) (region : ℕ) wher
           let both : within (raised (grows s) 0 (raised (grows r) 0 totals)) ≡ true =
           rw (raised-swap (grows s) (grows r) 0 totals) (rw here at fits) in
           let low : within (raised (grows r) 0 totals) ≡ true =
-          within-under (raised (grows r) 0 totals) (raised (grows s) 0 (raised (grows r) 0 totals)) (under-raised (grows s) 0 (raised (grows r) 0 totals)) both in
+          within-under (raised (grows r) 0 totals) (raised (grows s) 0 (raised (grows r) 0 totals))
+          (under-raised (grows s) 0 (raised (grows r) 0 totals)) both in
           let at-r : answer r totals ≡ Counted = k .0 totals ∙ rw low refl in
           let there : next r totals ≡ raised (grows r) 0 totals = ap (totalsAfter (rulesOf firmware reading) t region r totals) at-r in
           counted-ok s (next r totals) (w .0 (next r totals)) (rw there both)

@@ -67,15 +67,7 @@ fn add_opened(text: &[u8], options: Options, fd: i32, totals: &mut [u64; TOTALS]
         return day.failed();
     };
     let mut payload = io::large_buffer();
-    add_capture(
-        text,
-        options,
-        source,
-        &mut block,
-        &mut payload,
-        totals,
-        day,
-    )
+    add_capture(text, options, source, &mut block, &mut payload, totals, day)
 }
 
 // The capture that argument k names.
@@ -121,9 +113,9 @@ fn show_by(text: &[u8], options: Options)
 
 // `tap totals FILE ..`.
 pub fn show_totals() {
-    let Asked::Options(options) =
-        files::options::read_some(b"tap: totals takes one FILE or more, or - for standard input\n")
-    else {
+    let Asked::Options(options) = files::options::read_some(
+        b"tap: totals takes one FILE or more, or - for standard input\n",
+    ) else {
         return;
     };
     let mut text = io::large_buffer();

@@ -132,7 +132,13 @@ fn put_kind(
     let mut place = put_left(out, at, name_of(text, key), NAMES);
     let mut rate: usize = 0;
     while rate < RATE_COUNT {
-        place = put_marked(out, place, b"", total(totals, wrapping_add_usize(from, rate)), NUMBERS);
+        place = put_marked(
+            out,
+            place,
+            b"",
+            total(totals, wrapping_add_usize(from, rate)),
+            NUMBERS,
+        );
         rate += 1;
     }
     put_all(out, place, heard, all)
