@@ -48,8 +48,7 @@ use Rattle.totals.proofs.Keys.{key-low}
 
 -- ---- a header
 pub heading-counted : (h : DecodedHeader) (rate n : ℕ) (a b c : List ℕ) → Tallies 1 ((h .key * 4 + rate, 1) ∷ []) a b
-    → Tallies 1 ((1024, n) ∷ []) b c
-    → n ≡ cond (h .right) 0 1 → Tallies 2 (headerCounts rate (header.Header h)) a c
+    → Tallies 1 ((1024, n) ∷ []) b c → n ≡ cond (h .right) 0 1 → Tallies 2 (headerCounts rate (header.Header h)) a c
 heading-counted h rate n a b c p q e =
     rw e at (adds-both 1 1 ((h .key * 4 + rate, 1) ∷ []) ((1024, n) ∷ []) a b c p q)
 

@@ -121,8 +121,7 @@ module _ (firmware : ℕ) (reading : Reading) (t : List ℕ) (region : ℕ) wher
   kind s = go (eqb (regionBits firmware) 0) refl (verdict t) refl (leb (length s) 65535) refl
     where
       go : (unknown : Bool) → eqb (regionBits firmware) 0 ≡ unknown → (v : Verdict) → verdict t ≡ v → (short : Bool)
-          → leb (length s) 65535 ≡ short
-          → Kind s (cond (not unknown && (accepts v && short)) (grows s) (λ (j : ℕ). 0))
+          → leb (length s) 65535 ≡ short → Kind s (cond (not unknown && (accepts v && short)) (grows s) (λ (j : ℕ). 0))
       go true a v b short c = inl (Firmware firmware, λ totals. rw a refl, refl)
       go false a (text.Refused x) b short c = inl (x, λ totals. rw (a, b) refl, refl)
       go false a text.Accepted b false c = inl (TooLong (length s), λ totals. rw (a, b, c) refl, refl)
@@ -224,8 +223,8 @@ module _ (firmware : ℕ) (reading : Reading) (t : List ℕ) (region : ℕ) wher
       omega (arith, a, b, c, gains-both ss rs i)
 
   -- ---- the order
-  swapped : (s r totals : List ℕ) → Ok s totals → Ok r (next s totals) → Ok r totals × Ok s (next r totals)
-      × (next s (next r totals) ≡ next r (next s totals))
+  swapped : (s r totals : List ℕ) → Ok s totals → Ok r (next s totals)
+      → Ok r totals × Ok s (next r totals) × (next s (next r totals) ≡ next r (next s totals))
   swapped s r totals ok-s ok-r =
       let x : next s totals ≡ raised (gain s) 0 totals = ok-next s totals ok-s in
       let u : Under totals (next s totals) = rw x (under-raised (gain s) 0 totals) in

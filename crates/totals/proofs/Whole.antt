@@ -26,9 +26,8 @@ use Rattle.header.specs.declared.Decoded.the-variants as header
 use Rattle.header.specs.Decode.{decoded}
 use Rattle.totals.specs.declared.Added.{Added}
 use Rattle.totals.specs.declared.Added.the-variants.{Counted, Refused}
-use Rattle.totals.specs.Totals.{size, bytesAt, refusedCounts, headerCounts, beamCounts, rateIn, beamsIn, mpduIn, room, kindCounts, frameCounts}
-use Rattle.totals.specs.Totals.{amountAt, grownAt}
-use Rattle.totals.specs.Totals.{growth, judged, addedOf, totalsAfter}
+use Rattle.totals.specs.Totals.{size, bytesAt, refusedCounts, headerCounts, beamCounts, rateIn, beamsIn, mpduIn, room, kindCounts}
+use Rattle.totals.specs.Totals.{frameCounts, amountAt, grownAt, growth, judged, addedOf, totalsAfter}
 use Rattle.totals.specs.Steps.{zeros}
 use Rattle.totals.specs.Runs.{sumBelow, counted, after, afterRun, onto, taken, growthOf, framesOf}
 use Rattle.totals.proofs.Keys.{key-low, OnlyThree, only-three}

@@ -71,8 +71,7 @@ module _ (n at₀ : ℕ) (out : List ℕ) (spells : Spells 2 (decimal n) at₀ o
   number-written stop at r q b b₁ b₂ x y = appends-both 22 22 (decimal n) (stop ∷ []) b b₁ b₂ at r q (rw digits-are at x) y
 
 pub item-written : (word : List ℕ) (n stop at r q : ℕ) (b b₁ b₂ : List ℕ) → Appends 22 word b at r b₁
-    → Appends 44 (item [] n stop) b₁ r q b₂
-    → Appends 66 (item word n stop) b at q b₂
+    → Appends 44 (item [] n stop) b₁ r q b₂ → Appends 66 (item word n stop) b at q b₂
 item-written word n stop at r q b b₁ b₂ x y = appends-both 22 44 word (item [] n stop) b b₁ b₂ at r q x y
 
 -- ---- the line of a count
@@ -142,8 +141,7 @@ sums-written totals b b₁ b₂ b₃ b₄ at p q r z u v x y =
     (appends-both 66 132 beams (repeats ++ bytes) b₁ b₂ b₄ p q z v (appends-both 66 66 repeats bytes b₂ b₃ b₄ q r z x y))
 
 pub refusal-written : (k n at r q : ℕ) (b b₁ b₂ : List ℕ) → Appends 66 (item refusedWord k space) b at r b₁
-    → Appends 44 (item [] n ended) b₁ r q b₂
-    → Appends 110 (refusedLine k n) b at q b₂
+    → Appends 44 (item [] n ended) b₁ r q b₂ → Appends 110 (refusedLine k n) b at q b₂
 refusal-written k n at r q b b₁ b₂ x y = appends-both 66 44 (item refusedWord k space) (item [] n ended) b b₁ b₂ at r q x y
 
 pub refused-written : (totals b b₁ b₂ b₃ : List ℕ) (at p q r : ℕ) → Appends 110 (refusedLine 5 (getD totals 1028 0)) b at p b₁

@@ -12,39 +12,30 @@ Inv-loop rates text payload region rules sums₀ at₀ sums at = Counting rules 
 abbrev μ-loop : tie.MeasureT-loop
 μ-loop rates text payload region rules sums₀ at₀ sums at = length payload - at
 
--- src/lib.rt:184:5
 loop-holds : tie.Need-loop-holds Inv-loop μ-loop
 loop-holds c = search (needs, laws)
 
--- src/lib.rt:185:32
 next-body-requires : tie.Need-next-body-requires Inv-loop μ-loop
 next-body-requires c κs = search (needs, laws)
 
--- src/lib.rt:185:24
 enum-known-span : tie.Need-enum-known-span Inv-loop μ-loop
 enum-known-span c = search (needs, laws)
 
--- src/lib.rt:186:13
 enum-told : tie.Need-enum-told Inv-loop μ-loop
 enum-told c = search (needs, laws)
 
--- src/lib.rt:186:13
 returns : tie.Need-returns Inv-loop μ-loop
 returns c = search (needs, laws)
 
--- src/lib.rt:188:9
 count-body-requires : tie.Need-count-body-requires Inv-loop μ-loop
 count-body-requires c κs = (search (needs, laws), (search (needs, laws), (search (needs, laws), search (needs, laws))))
 
--- src/lib.rt:189:14
 add-at : tie.Need-add-at Inv-loop μ-loop
 add-at c = search (needs, laws)
 
--- src/lib.rt:184:5
 loop-less : tie.Need-loop-less Inv-loop μ-loop
 loop-less c = search (needs, laws)
 
--- src/lib.rt:184:5
 loop-again : tie.Need-loop-again Inv-loop μ-loop
 loop-again c = search (needs, laws)
 

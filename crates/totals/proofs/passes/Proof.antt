@@ -13,59 +13,45 @@ Inv-loop totals sums i₀ i = Passing totals sums i
 abbrev μ-loop : tie.MeasureT-loop
 μ-loop totals sums i₀ i = length totals - i
 
--- src/lib.rt:207:5
 loop-holds : tie.Need-loop-holds Inv-loop μ-loop
 loop-holds c = search (needs, laws)
 
--- src/lib.rt:208:19
 mul-if1 : tie.Need-mul-if1 Inv-loop μ-loop
 mul-if1 c = search (needs, laws)
 
--- src/lib.rt:208:19
 shared-slice-read-if1 : tie.Need-shared-slice-read-if1 Inv-loop μ-loop
 shared-slice-read-if1 c = search (needs, laws)
 
--- src/lib.rt:209:13
 returns : tie.Need-returns Inv-loop μ-loop
 returns c = search (needs, laws)
 
--- src/lib.rt:211:19
 mul-if2 : tie.Need-mul-if2 Inv-loop μ-loop
 mul-if2 c = search (needs, laws)
 
--- src/lib.rt:211:19
 shared-slice-read-if2 : tie.Need-shared-slice-read-if2 Inv-loop μ-loop
 shared-slice-read-if2 c = search (needs, laws)
 
--- src/lib.rt:211:12
 sub-if2 : tie.Need-sub-if2 Inv-loop μ-loop
 sub-if2 c = search (needs, laws)
 
--- src/lib.rt:211:31
 mul-if2-2 : tie.Need-mul-if2-2 Inv-loop μ-loop
 mul-if2-2 c = search (needs, laws)
 
--- src/lib.rt:211:31
 shared-slice-read-if2-2 : tie.Need-shared-slice-read-if2-2 Inv-loop μ-loop
 shared-slice-read-if2-2 c = search (needs, laws)
 
--- src/lib.rt:212:13
 returns-2 : tie.Need-returns-2 Inv-loop μ-loop
 returns-2 c = search (needs, laws)
 
--- src/lib.rt:214:9
 add-i : tie.Need-add-i Inv-loop μ-loop
 add-i c = search (needs, laws)
 
--- src/lib.rt:207:5
 loop-less : tie.Need-loop-less Inv-loop μ-loop
 loop-less c = search (needs, laws)
 
--- src/lib.rt:207:5
 loop-again : tie.Need-loop-again Inv-loop μ-loop
 loop-again c = search (needs, laws)
 
--- src/lib.rt:202:1
 returns-3 : tie.Need-returns-3 Inv-loop μ-loop
 returns-3 c = search (needs, laws)
 

@@ -13,51 +13,39 @@ Inv-loop totals₀ sums i₀ totals i = Raising totals₀ totals sums i
 abbrev μ-loop : tie.MeasureT-loop
 μ-loop totals₀ sums i₀ totals i = length sums - i
 
--- src/lib.rt:225:5
 loop-holds : tie.Need-loop-holds Inv-loop μ-loop
 loop-holds c = search (needs, laws)
 
--- src/lib.rt:226:22
 mul-totals : tie.Need-mul-totals Inv-loop μ-loop
 mul-totals c = search (needs, laws)
 
--- src/lib.rt:226:22
 shared-slice-read-totals : tie.Need-shared-slice-read-totals Inv-loop μ-loop
 shared-slice-read-totals c = search (needs, laws)
 
--- src/lib.rt:226:9
 mul-totals-2 : tie.Need-mul-totals-2 Inv-loop μ-loop
 mul-totals-2 c = search (needs, laws)
 
--- src/lib.rt:226:9
 slice-read-totals : tie.Need-slice-read-totals Inv-loop μ-loop
 slice-read-totals c = search (needs, laws)
 
--- src/lib.rt:226:9
 add-totals : tie.Need-add-totals Inv-loop μ-loop
 add-totals c = search (needs, laws)
 
--- src/lib.rt:226:9
 slice-write-totals : tie.Need-slice-write-totals Inv-loop μ-loop
 slice-write-totals c = search (needs, laws)
 
--- src/lib.rt:227:9
 add-i : tie.Need-add-i Inv-loop μ-loop
 add-i c = search (needs, laws)
 
--- src/lib.rt:225:5
 loop-less : tie.Need-loop-less Inv-loop μ-loop
 loop-less c = search (needs, laws)
 
--- src/lib.rt:225:5
 loop-again : tie.Need-loop-again Inv-loop μ-loop
 loop-again c = search (needs, laws)
 
--- src/lib.rt:220:1
 same-length : tie.Need-same-length Inv-loop μ-loop
 same-length c = search (needs, laws)
 
--- src/lib.rt:220:1
 returns : tie.Need-returns Inv-loop μ-loop
 returns c = search (needs, laws)
 

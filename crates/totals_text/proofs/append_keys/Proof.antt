@@ -12,39 +12,30 @@ Inv-loop totals buffer₀ at₀ i₀ buffer at i = Keying totals buffer₀ buffe
 abbrev μ-loop : tie.MeasureT-loop
 μ-loop totals buffer₀ at₀ i₀ buffer at i = wrongAt - i
 
--- src/lib.rt:84:5
 loop-holds : tie.Need-loop-holds Inv-loop μ-loop
 loop-holds c = search (needs, laws)
 
--- src/lib.rt:85:40
 mul-append-key : tie.Need-mul-append-key Inv-loop μ-loop
 mul-append-key c = search (needs, laws)
 
--- src/lib.rt:85:40
 shared-slice-read-append-key : tie.Need-shared-slice-read-append-key Inv-loop μ-loop
 shared-slice-read-append-key c = search (needs, laws)
 
--- src/lib.rt:85:9
 append-key-requires : tie.Need-append-key-requires Inv-loop μ-loop
 append-key-requires c κs = search (needs, laws)
 
--- src/lib.rt:86:9
 add-i : tie.Need-add-i Inv-loop μ-loop
 add-i c = search (needs, laws)
 
--- src/lib.rt:84:5
 loop-less : tie.Need-loop-less Inv-loop μ-loop
 loop-less c = search (needs, laws)
 
--- src/lib.rt:84:5
 loop-again : tie.Need-loop-again Inv-loop μ-loop
 loop-again c = search (needs, laws)
 
--- src/lib.rt:78:1
 same-length : tie.Need-same-length Inv-loop μ-loop
 same-length c = search (needs, laws)
 
--- src/lib.rt:78:1
 returns : tie.Need-returns Inv-loop μ-loop
 returns c = search (needs, laws)
 
