@@ -5,7 +5,7 @@ use zniff_core::pti::{Direction, PtiFrame};
 use crate::frames;
 
 /// The numbers of a frame's row.
-const WIDTH: usize = 10;
+const WIDTH: usize = 13;
 
 /// More rows than a payload can need: a record with a frame has 22 bytes or more.
 const ROWS: usize = 3_000;
@@ -34,6 +34,7 @@ unsafe extern "C" {
         payload: *const u8,
         payload_length: usize,
         firmware: usize,
+        family: bool,
         table: *mut u16,
         table_length: usize,
     ) -> TapAnswer;
@@ -351,13 +352,12 @@ pub fn table() -> Vec<u16> {
     vec![0; ROWS * WIDTH]
 }
 
-/// Every frame of a payload into the table.
+/// Every frame of a payload into the table, with beams as a family of their own or, as zniff-rs has them, not.
 #[inline]
-pub fn parse_payload(payload: &[u8], table: &mut [u16]) -> TapAnswer {
+pub fn parse_payload(payload: &[u8], family: bool, table: &mut [u16]) -> TapAnswer {
+    let (at, length) = (payload.as_ptr(), payload.len());
     // SAFETY: both slices are valid for the call, which writes inside the table alone.
-    unsafe {
-        tap_parse_payload(payload.as_ptr(), payload.len(), FIRMWARE, table.as_mut_ptr(), table.len())
-    }
+    unsafe { tap_parse_payload(at, length, FIRMWARE, family, table.as_mut_ptr(), table.len()) }
 }
 
 /// Adds a payload to totals, by the text of `frames`.
@@ -372,7 +372,7 @@ pub fn add_payload(payload: &[u8], totals: &mut [u64; TOTALS]) {
 /// Every frame of a payload, as zniff-rs has it.
 pub fn frames(payload: &[u8]) -> Vec<PtiFrame> {
     let mut table = table();
-    let answer = parse_payload(payload, &mut table);
+    let answer = parse_payload(payload, false, &mut table);
     assert_eq!(0, answer.refusal, "refused, carrying {}", answer.value);
     let (rows, _) = table.as_chunks();
     rows[..answer.value as usize].iter().map(|row| frame(payload, *row)).collect()

@@ -15,6 +15,7 @@ pub fn run() {
     let payloads = payloads::compared();
     check(&payloads);
     compare(&payloads);
+    compare_readings(&payloads);
     grow();
     measure_stack(&payloads);
 }
@@ -33,17 +34,27 @@ fn compare(payloads: &[(&str, Vec<u8>)]) {
     println!("\n{unit} of a call             bytes  frames        Rust        ours  ours / Rust");
     for (name, payload) in payloads {
         let frames = pti::parse_payload(payload).len();
-        let [rust, ours] = clock::time([rust(payload), ours(payload)]);
+        let [rust, ours] = clock::time([rust(payload), ours(payload, false)]);
         let (length, ratio) = (payload.len(), ours.ratio_to(&rust));
         let (rust, ours) = (rust.median(), ours.median());
         println!("{name:26} {length:6}  {frames:6}  {rust:10.1}  {ours:10.1}  {ratio:11.2}");
     }
 }
 
+/// What it costs that beams are a family of their own, against all that starts with their marker.
+fn compare_readings(payloads: &[(&str, Vec<u8>)]) {
+    println!("\n{} of a call               marker      family  family / marker", clock::unit());
+    for (name, payload) in payloads {
+        let [marker, family] = clock::time([ours(payload, false), ours(payload, true)]);
+        let ratio = family.ratio_to(&marker);
+        println!("{name:26} {:10.1}  {:10.1}  {ratio:15.2}", marker.median(), family.median());
+    }
+}
+
 /// How our time grows with the payload. 64 KiB are a byte more than is taken: 65,535 it is.
 fn grow() {
     let payloads = [1, 4, 16, 64].map(|kib| payloads::frames(limits::PAYLOAD.min(kib << 10)));
-    let times = clock::time(payloads.each_ref().map(|payload| ours(payload)));
+    let times = clock::time(payloads.each_ref().map(|payload| ours(payload, false)));
     println!("\nfull of frames: bytes  ours {}  per KiB, against the first", clock::unit());
     for (payload, time) in payloads.iter().zip(&times) {
         let (length, first) = (payload.len(), payloads[0].len());
@@ -64,7 +75,7 @@ fn stack_taken(payload: &[u8]) -> usize {
     let (at, length) = (payload.as_ptr() as usize, payload.len());
     // SAFETY: as in `ours::parse_payload`.
     unsafe {
-        stack::taken(call, &[at, length, ours::FIRMWARE, table.as_mut_ptr() as usize, table.len()])
+        stack::taken(call, &[at, length, ours::FIRMWARE, 1, table.as_mut_ptr() as usize, table.len()])
     }
 }
 
@@ -72,9 +83,9 @@ fn rust(payload: &[u8]) -> Side<'_> {
     clock::side(|| drop(black_box(pti::parse_payload(black_box(payload)))))
 }
 
-fn ours(payload: &[u8]) -> Side<'_> {
+fn ours(payload: &[u8], family: bool) -> Side<'_> {
     let mut table = ours::table();
     clock::side(move || {
-        black_box(ours::parse_payload(black_box(payload), &mut table));
+        black_box(ours::parse_payload(black_box(payload), family, &mut table));
     })
 }

@@ -9,6 +9,9 @@
 /* The capture firmware that wrote the payload. */
 enum { FIRMWARE = 2 };
 
+/* Beams are a family of their own: an ordinary frame may start with their marker. */
+enum { FAMILY = true };
+
 enum { LONGEST_TEXT = 60000, LONGEST_PAYLOAD = 65535, FRAMES = 2978, HEADER_ROWS = 128, COMMAND_ROWS = 4096, NODES = 256, LONGEST_VALUE = 4096 };
 
 static uint8_t frame_text[LONGEST_TEXT + 1];
@@ -113,6 +116,18 @@ static void show_command(const uint8_t *bytes, size_t length, size_t text_length
     }
 }
 
+/* Whom a beam wakes: the columns of BF2, each one more than its number, or 0. */
+static void show_beam(const uint16_t *frame) {
+    static const char *const names[3] = {"node", "hash", "power"};
+    printf("  beam, heard %u times", frame[5]);
+    for (int i = 0; i < 3; i++) {
+        if (frame[10 + i]) {
+            printf(", %s %u", names[i], frame[10 + i] - 1);
+        }
+    }
+    printf("\n");
+}
+
 static void show_frame(const uint16_t *frame, size_t frame_text_length, size_t command_text_length) {
     const uint8_t *mpdu = payload + frame[6];
     size_t length = frame[7];
@@ -122,6 +137,10 @@ static void show_frame(const uint16_t *frame, size_t frame_text_length, size_t c
         printf(" %u", frame[i]);
     }
     printf("\n");
+    if (frame[5]) {
+        show_beam(frame);
+        return;
+    }
     TapHeader header = tap_decode_header(frame_text, frame_text_length, mpdu, length, code_of(frame[1]), rate, header_rows,
                                          sizeof header_rows / sizeof *header_rows);
     if (header.refusal) {
@@ -177,7 +196,7 @@ int main(int count, char **words) {
         verdict = tap_tidy_command_text(given_text, given_length, command_text, sizeof command_text);
     }
     size_t command_text_length = verdict.value;
-    TapAnswer parsed = verdict.refusal ? verdict : tap_parse_payload(payload, payload_length, FIRMWARE, frames, sizeof frames / sizeof *frames);
+    TapAnswer parsed = verdict.refusal ? verdict : tap_parse_payload(payload, payload_length, FIRMWARE, FAMILY, frames, sizeof frames / sizeof *frames);
     if (parsed.refusal) {
         print_refusal(parsed.refusal, parsed.value);
         return 1;

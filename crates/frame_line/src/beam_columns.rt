@@ -13,6 +13,7 @@ use writer::put_left;
 use writer::put_marked;
 use writer::put_number_left;
 use writer::put_right;
+use writer::put_spaces;
 
 // How many bytes the column of the count has.
 const COUNTS: usize = 20;
@@ -33,8 +34,9 @@ fn put_hash(out: &mut Buffer, at: usize, hash: u16) -> usize {
     if hash == 0 {
         return put_left(out, at, b"  -", 10);
     }
-    let place = put(out, at, b"  hash ");
-    put_digits(out, place, number_of(hash), 2)
+    let mut place = put(out, at, b"  hash ");
+    place = put_digits(out, place, number_of(hash), 2);
+    put_spaces(out, place, 1)
 }
 
 // The node, in the column of the destination.
