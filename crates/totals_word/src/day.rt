@@ -8,7 +8,6 @@ use frame::Reading;
 use frame::parse_record;
 use frame::reading_by;
 use libc::STDERR_FILENO;
-use output::refusals::put_reason;
 use readers::region::frame_code;
 use records::Next;
 use records::next_body;
@@ -84,14 +83,12 @@ fn tell_progress(options: Options, day: Day) {
 
 // Says on standard error that the payload at hand is not counted.
 fn say_refused(refusal: Refusal, day: Day) {
-    let mut out = io::buffer();
-    let n = put_reason(&mut out, 0, refusal);
     io::write_all(STDERR_FILENO, b"tap: payload ");
     io::print_decimal(STDERR_FILENO, day.payloads);
-    io::write_all(STDERR_FILENO, b" is not counted, as it is refused by ");
-    if n <= 4096 {
-        io::write_all(STDERR_FILENO, &out[..n]);
-    }
+    io::write_all(STDERR_FILENO, b" is not counted: refused ");
+    io::print_decimal(STDERR_FILENO, refusal.number() as u64);
+    io::write_all(STDERR_FILENO, b" ");
+    io::print_decimal(STDERR_FILENO, refusal.carried() as u64);
     io::write_all(STDERR_FILENO, b"\n");
 }
 

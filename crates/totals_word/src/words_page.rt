@@ -112,6 +112,18 @@ fn name_of(text: &[u8], key: usize) -> &[u8] {
     &text[..0]
 }
 
+// The counts of a key at each rate.
+fn put_rates(totals: &[u64; TOTALS], from: usize, out: &mut Buffer, at: usize) -> usize {
+    let mut place = at;
+    let mut rate: usize = 0;
+    while rate < RATE_COUNT {
+        let n = total(totals, wrapping_add_usize(from, rate));
+        place = put_marked(out, place, b"", n, NUMBERS);
+        rate += 1;
+    }
+    place
+}
+
 // The line of a kind of frame, if it was heard.
 fn put_kind(
     text: &[u8],
@@ -129,18 +141,8 @@ fn put_kind(
     if heard == 0 {
         return at;
     }
-    let mut place = put_left(out, at, name_of(text, key), NAMES);
-    let mut rate: usize = 0;
-    while rate < RATE_COUNT {
-        place = put_marked(
-            out,
-            place,
-            b"",
-            total(totals, wrapping_add_usize(from, rate)),
-            NUMBERS,
-        );
-        rate += 1;
-    }
+    let named = put_left(out, at, name_of(text, key), NAMES);
+    let place = put_rates(totals, from, out, named);
     put_all(out, place, heard, all)
 }
 
