@@ -13,7 +13,7 @@ const DRAWN: usize = 2_000;
 const DRAWN_LENGTH: usize = 300;
 /// The same of each walk, whose requests have a text.
 const WALKS: &[(&str, usize, usize)] =
-    &[("header", 300, 1_600), ("command", 300, 800), ("commandby", 200, 800), ("headernodes", 200, 900), ("commandnodes", 200, 900), ("listing", 200, 1_600), ("headervalue", 300, 1_200), ("commandvalue", 300, 900), ("totals", 120, 1_100)];
+    &[("header", 300, 1_600), ("command", 300, 800), ("commandby", 200, 800), ("headernodes", 200, 900), ("commandnodes", 200, 900), ("listing", 200, 1_600), ("headervalue", 300, 1_200), ("commandvalue", 300, 900), ("totals", 30, 1_100)];
 
 /// The sample of a seed, line by line: requests of those kinds, and lines that are no request.
 pub fn sample(seed: u64, kinds: &str) -> Result<Vec<Vec<u8>>, String> {
