@@ -75,6 +75,11 @@ impl Command {
         oracle::source::command::classes(&self.definition, self.payload[0], self.payload[1])
     }
 
+    /// The same with the names of the K lines, which zniff-rs shows.
+    pub fn named(&self) -> schema::ZwClasses {
+        oracle::source::command::named_classes(&self.definition, self.payload[0], self.payload[1])
+    }
+
     pub fn rows(&self) -> usize {
         decode_params(&self.definition, &self.payload, Offsets::Answered).expect("an answer").rows.len()
     }

@@ -23,7 +23,7 @@ pub fn displays(
     definition: &CommandDefinition,
     payload: &[u8],
 ) -> Result<Vec<String>, Refusal> {
-    let command = decoded(definition, payload, |_, name| name.to_string())?;
+    let command = decoded(definition, payload, own)?;
     let mut values = Vec::new();
     push_displays(&command.params, &mut values);
     Ok(values)
@@ -42,6 +42,10 @@ type Naming = fn(usize, &str) -> String;
 /// Its line and a zero byte, with which nothing else ends that the Rust displays: it trims ascii of them.
 fn marked(line: usize, _: &str) -> String {
     format!("{line}\0")
+}
+
+fn own(_: usize, name: &str) -> String {
+    name.to_string()
 }
 
 fn decoded(
@@ -64,6 +68,11 @@ fn byte_at(payload: &[u8], place: usize) -> u8 {
 /// is its line.
 pub fn classes(definition: &CommandDefinition, class: u8, command: u8) -> schema::ZwClasses {
     named(definition, class, command, marked)
+}
+
+/// The same, with the name of each K its own.
+pub fn named_classes(definition: &CommandDefinition, class: u8, command: u8) -> schema::ZwClasses {
+    named(definition, class, command, own)
 }
 
 fn named(
