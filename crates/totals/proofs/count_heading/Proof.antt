@@ -7,4 +7,5 @@ use Rattle.totals.proofs.count_heading.Tie as tie
 pub count-heading-spec : {M : Type 1} → statement M
 count-heading-spec =
     tie.close
-    (tie.spec (λ c. search (needs, laws)) (λ c. search (needs, laws)) (λ c. search (needs, laws)) (λ c κs. search (needs, laws)) (λ c κs. search (needs, laws)) (λ c κs. search (needs, laws)) (λ c. search (needs, laws)))
+    (tie.spec (λ c. search (needs, laws)) (λ c. search (needs, laws)) (λ c. search (needs, laws)) (λ c κs. search (needs, laws))
+    (λ c κs. search (needs, laws)) (λ c κs. search (needs, laws)) (λ c. search (needs, laws)))

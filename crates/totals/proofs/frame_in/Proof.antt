@@ -7,4 +7,5 @@ use Rattle.totals.proofs.frame_in.Tie as tie
 pub frame-in-spec : {M : Type 1} → statement M
 frame-in-spec =
     tie.close
-    (tie.spec (λ c κs. search (needs, laws)) (λ c. search (needs, laws)) (λ c. search (needs, laws)) (λ c. search (needs, laws)) (λ c κs. search (needs, laws)) (λ c. search (needs, laws)))
+    (tie.spec (λ c κs. search (needs, laws)) (λ c. search (needs, laws)) (λ c. search (needs, laws)) (λ c. search (needs, laws))
+    (λ c κs. search (needs, laws)) (λ c. search (needs, laws)))

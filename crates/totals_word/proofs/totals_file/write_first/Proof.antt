@@ -7,4 +7,5 @@ use Rattle.totals_word.proofs.totals_file.write_first.Tie as tie
 pub write-first-spec : {M : Type 1} → statement M
 write-first-spec =
     tie.close
-    (tie.spec (λ c. search (needs, laws)) (λ c κs. search (needs, laws)) (λ c. search (needs, laws)) (λ c κs. search (needs, laws)) (λ c. search (needs, laws)))
+    (tie.spec (λ c. search (needs, laws)) (λ c κs. search (needs, laws)) (λ c. search (needs, laws)) (λ c κs. search (needs, laws))
+    (λ c. search (needs, laws)))
