@@ -18,6 +18,7 @@ use writer::put_byte;
 use writer::put_left;
 use writer::put_marked;
 use writer::put_number;
+use writer::put_spaces;
 
 // The widths of the column of names and of one of numbers.
 const NAMES: usize = 28;
@@ -76,13 +77,30 @@ fn share(n: u64, all: u64) -> u64 {
     n / (all / 1000)
 }
 
-// A share at the right of its column, with one digit behind the point.
-fn put_share(out: &mut Buffer, at: usize, n: u64, all: u64) -> usize {
-    let thousandths = share(n, all);
-    let mut place = put_marked(out, at, b"", thousandths / 10, NUMBERS - 3);
+// Thousandths as per cent, with one digit behind the point.
+fn put_percent(out: &mut Buffer, at: usize, thousandths: u64) -> usize {
+    let mut place = put_number(out, at, thousandths / 10);
     place = put_byte(out, place, b'.');
     place = put_number(out, place, thousandths % 10);
     put_byte(out, place, b'%')
+}
+
+// How many spaces bring a share to the right of its column.
+fn blanks_before(thousandths: u64) -> usize {
+    if thousandths < 100 {
+        return NUMBERS - 4;
+    }
+    if thousandths < 1000 {
+        return NUMBERS - 5;
+    }
+    NUMBERS - 6
+}
+
+// A share at the right of its column.
+fn put_share(out: &mut Buffer, at: usize, n: u64, all: u64) -> usize {
+    let thousandths = share(n, all);
+    let place = put_spaces(out, at, blanks_before(thousandths));
+    put_percent(out, place, thousandths)
 }
 
 // A count and its share, and the end of the line.
@@ -198,9 +216,9 @@ fn put_said(out: &mut Buffer, at: usize, what: &[u8], n: u64) -> usize {
 fn put_wrong(totals: &[u64; TOTALS], out: &mut Buffer, at: usize) -> usize {
     let mut place = put(out, at, b"checksum wrong: ");
     place = put_number(out, place, total(totals, WRONG));
-    place = put(out, place, b" of the frames with a name,");
-    place = put_share(out, place, total(totals, WRONG), answered(totals));
-    put_byte(out, place, b'\n')
+    place = put(out, place, b" of the frames with a name (");
+    place = put_percent(out, place, share(total(totals, WRONG), answered(totals)));
+    put(out, place, b")\n")
 }
 
 // The table.
@@ -209,7 +227,7 @@ pub fn put_page(text: &[u8], totals: &[u64; TOTALS], out: &mut Buffer) -> usize 
     let mut at = put(
         out,
         0,
-        b"                              9.6 kbit  40 kbit 100 kbit    Long R       all     share\n",
+        b"                              9.6 kbit   40 kbit  100 kbit    Long R       all     share\n",
     );
     at = put_kinds(text, totals, all, out, at);
     at = put_line(out, at, b"beams", total(totals, BEAMS), all);
