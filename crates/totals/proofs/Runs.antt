@@ -208,7 +208,7 @@ module _ (firmware : ℕ) (reading : Reading) (t : List ℕ) (region : ℕ) wher
       let both = no-ten-front ss rs (next s totals) (none .1) in
       ((none .0, both .0), both .1)
 
-  -- TO7: two captures joined add up, unless 10 comes
+  -- TO7: of one capture behind another the totals are the sums of both, where no payload is refused by 10
   pub joined : (ss rs : List (List ℕ)) (i : ℕ) → NoTen firmware reading t region (ss ++ rs) zeros → i < size
       → getD (run (ss ++ rs) zeros) i 0 ≡ getD (run ss zeros) i 0 + getD (run rs zeros) i 0
   joined ss rs i none h =
