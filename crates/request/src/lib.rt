@@ -71,9 +71,29 @@ pub fn find(s: &[u8], b: u8) -> usize
     i
 }
 
+// The words of the requests that came after the base.
+fn later_word_of(word: &[u8]) -> Word {
+    let words: &[u8] =
+        b"recordby\tframesby\tframetableby\ttidy\tcommandby\theadernodes\tlisting\theadervalue\tcommandnodes\tcommandvalue\ttotals";
+    match find_field(words, word) {
+        0 => Word::Recordby,
+        1 => Word::Framesby,
+        2 => Word::Frametableby,
+        3 => Word::Tidy,
+        4 => Word::Commandby,
+        5 => Word::Headernodes,
+        6 => Word::Listing,
+        7 => Word::Headervalue,
+        8 => Word::Commandnodes,
+        9 => Word::Commandvalue,
+        10 => Word::Totals,
+        _ => Word::Unknown,
+    }
+}
+
 pub fn word_of(word: &[u8]) -> Word {
     let words: &[u8] =
-        b"rate\tcount\tbody\trecord\tframes\tframetable\tframetext\tcommandtext\theader\tcommand\tbits\tchecksum\trecordby\tframesby\tframetableby\ttidy\tcommandby\theadernodes\tlisting\theadervalue\tcommandnodes\tcommandvalue\ttotals";
+        b"rate\tcount\tbody\trecord\tframes\tframetable\tframetext\tcommandtext\theader\tcommand\tbits\tchecksum";
     match find_field(words, word) {
         0 => Word::Rate,
         1 => Word::Count,
@@ -87,18 +107,7 @@ pub fn word_of(word: &[u8]) -> Word {
         9 => Word::Command,
         10 => Word::Bits,
         11 => Word::Checksum,
-        12 => Word::Recordby,
-        13 => Word::Framesby,
-        14 => Word::Frametableby,
-        15 => Word::Tidy,
-        16 => Word::Commandby,
-        17 => Word::Headernodes,
-        18 => Word::Listing,
-        19 => Word::Headervalue,
-        20 => Word::Commandnodes,
-        21 => Word::Commandvalue,
-        22 => Word::Totals,
-        _ => Word::Unknown,
+        _ => later_word_of(word),
     }
 }
 
