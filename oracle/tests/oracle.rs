@@ -144,7 +144,9 @@ fn the_sample_is_small_and_has_every_kind() {
     assert!(lines.iter().map(|line| line.len() + 1).sum::<usize>() < 2_200_000);
     for name in TODAY.split(',').filter(|&name| name != "bad") {
         let word = [name.as_bytes(), b" "].concat();
-        assert!(lines.iter().filter(|line| line.starts_with(&word)).count() > 100, "{name}");
+        // A page of totals can have a thousand lines.
+        let few = if name == "totals" { 20 } else { 100 };
+        assert!(lines.iter().filter(|line| line.starts_with(&word)).count() > few, "{name}");
     }
     for answered in ["bad request", "refused 4 ", "refused 8 ", "refused 9 0", "refused 13 "] {
         let count = lines.iter().filter(|line| answer(line).starts_with(answered)).count();
