@@ -4,28 +4,21 @@ use answer::put_named;
 use answer::put_refusal;
 use answer::put_value;
 use answer::table::MOST_ROWS;
+use answer::table::SHORT;
+use answer::table::put_touched_short;
 use libtap::TapAnswer;
 use libtap::nodes::tap_command_nodes;
 use libtap::nodes::tap_header_nodes;
 use request::Both;
 use request::Leading;
+use request::Two;
 use request::read_both;
 use request::read_leading;
+use request::read_two;
 use writer::Buffer;
-use writer::put;
 ghost use Prim.Native.Nat.{_≤_};
 ghost use lib.ListN.{length};
 ghost use Rattle.libtap.specs.Answers.{Stands};
-ghost use Rattle.node_requests.specs.Nodes.{Leads};
-
-// What every entry of a table is before a call.
-const FRESH: u16 = 0xA5A5;
-
-// Two numbers, and where the other words start.
-pub enum Two {
-    Are(u64, u64, usize),
-    Not,
-}
 
 // A request for a row of a header: its number, the region and the speed, where the MPDU starts behind the text, and where it ends.
 struct Asked {
@@ -42,38 +35,6 @@ pub struct CommandAsked {
     pub by_position: bool,
     pub n: usize,
     pub end: usize,
-}
-
-pub fn read_two(words: &[u8]) -> Two
-    ensures { λ r. ⌜ Leads (now (words .entry)) r ⌝ }
-{
-    let Leading::Is(first, at) = read_leading(words) else {
-        return Two::Not;
-    };
-    let Leading::Is(second, from) = read_leading(&words[at..]) else {
-        return Two::Not;
-    };
-    Two::Are(first, second, at + from)
-}
-
-// Whether nothing has been written to a part of a table.
-fn is_fresh(nodes: &[u16]) -> bool {
-    let mut i = 0;
-    while i < nodes.len() {
-        if nodes[i] != FRESH {
-            return false;
-        }
-        i += 1;
-    }
-    true
-}
-
-// Says so if something has been written to a part of a table that nothing may write to.
-fn put_touched(out: &mut Buffer, used: usize, nodes: &[u16]) -> usize {
-    if is_fresh(nodes) {
-        return used;
-    }
-    put(out, used, b" TOUCHED")
 }
 
 fn wide(node: u16) -> u64 {
@@ -97,12 +58,12 @@ fn put_listed(out: &mut Buffer, used: usize, word: &[u8], listed: TapAnswer, nod
 {
     if listed.refusal != 0 {
         let m = put_refusal(out, used, listed.refusal, listed.value);
-        return put_touched(out, m, nodes);
+        return put_touched_short(out, m, nodes);
     }
     let n = listed.value as usize;
     let m = put_named(out, used, word, listed.value);
     let e = put_nodes(out, m, &nodes[..n]);
-    put_touched(out, e, &nodes[n..])
+    put_touched_short(out, e, &nodes[n..])
 }
 
 fn list_header(
@@ -155,7 +116,7 @@ pub fn headernodes(words: &[u8], bytes: &mut [u8], out: &mut Buffer, used: usize
         end,
     };
     let room = cap as usize;
-    let mut nodes = [FRESH; 16384];
+    let mut nodes = [SHORT; 16384];
     Answer::Put(answer_header(bytes, asked, &mut nodes[..room], out, used))
 }
 
@@ -211,6 +172,6 @@ pub fn commandnodes(words: &[u8], bytes: &mut [u8], out: &mut Buffer, used: usiz
         end,
     };
     let room = cap as usize;
-    let mut nodes = [FRESH; 16384];
+    let mut nodes = [SHORT; 16384];
     Answer::Put(answer_command(bytes, asked, &mut nodes[..room], out, used))
 }

@@ -1,10 +1,8 @@
 // The requests on definition texts.
 use answer::Answer;
-use answer::put_bytes;
 use answer::put_refusal;
 use answer::table::BYTE;
 use answer::table::MOST_BYTES;
-use answer::table::put_touched_bytes;
 use libtap::TapAnswer;
 use libtap::texts::tap_check_command_text;
 use libtap::texts::tap_check_frame_text;
@@ -13,11 +11,9 @@ use request::Bytes;
 use request::Leading;
 use request::read_bytes;
 use request::read_leading;
+use value_requests::put_written;
 use writer::Buffer;
 use writer::put;
-ghost use Prim.Native.Nat.{_≤_};
-ghost use lib.ListN.{length};
-ghost use Rattle.libtap.specs.Answers.{Stands};
 
 fn put_verdict(out: &mut Buffer, used: usize, verdict: TapAnswer) -> usize {
     if verdict.refusal != 0 {
@@ -44,29 +40,10 @@ pub fn commandtext(words: &[u8], bytes: &mut [u8], out: &mut Buffer, used: usize
     Answer::Put(put_verdict(out, used, verdict))
 }
 
-// The tidied text, the first n bytes of a buffer, and whether the buffer is untouched past it.
-fn put_text(out: &mut Buffer, used: usize, buffer: &[u8], n: usize) -> usize
-    requires { ⌜ n ≤ length (now buffer) ⌝ }
-{
-    let m = put(out, used, b"tidy ");
-    let e = put_bytes(out, m, &buffer[..n]);
-    put_touched_bytes(out, e, &buffer[n..])
-}
-
 // The tidied text, or a refusal, after which nothing may have been written to the buffer.
-fn put_tidied(out: &mut Buffer, used: usize, tidied: TapAnswer, buffer: &[u8]) -> usize
-    requires { ⌜ Stands (now buffer) tidied ⌝ }
-{
-    if tidied.refusal != 0 {
-        let m = put_refusal(out, used, tidied.refusal, tidied.value);
-        return put_touched_bytes(out, m, buffer);
-    }
-    put_text(out, used, buffer, tidied.value as usize)
-}
-
 fn answer_tidy(text: &[u8], buffer: &mut [u8], out: &mut Buffer, used: usize) -> usize {
     let tidied = tap_tidy_command_text(text, buffer);
-    put_tidied(out, used, tidied, buffer)
+    put_written(out, used, b"tidy ", tidied, buffer)
 }
 
 // `tidy CAP TEXT`

@@ -16,12 +16,14 @@ use Rattle.request.specs.declared.Number.{Number}
 use Rattle.request.specs.declared.Number.the-variants.{Is, Not}
 use Rattle.request.specs.declared.Leading.{Leading}
 use Rattle.request.specs.declared.Leading.the-variants.{Is as Leads, Not as NoLeading}
+use Rattle.request.specs.declared.Two.{Two}
+use Rattle.request.specs.declared.Two.the-variants.{Are as TwoAre}
 use Rattle.request.specs.declared.Bytes.{Bytes}
 use Rattle.request.specs.declared.Bytes.the-variants.{Are, Not as NoBytes}
 use Rattle.request.specs.declared.Both.{Both}
 use Rattle.request.specs.declared.Both.the-variants.{Are as BothAre, Not as NotBoth}
 use Rattle.request.specs.Request.{cut, worth, digitsOf, numberOf, led, leadingOf, digitOf, Decoded, bytes, none, onto, pairsOf, isDash, bytesOf}
-use Rattle.request.specs.Request.{fitting, Decodes, firstOf, secondOf, fittingBoth, InBoth, DecodesBoth}
+use Rattle.request.specs.Request.{LeadTwo, fitting, Decodes, firstOf, secondOf, fittingBoth, InBoth, DecodesBoth}
 
 -- ---- where a byte stands
 module _ (b : ℕ) (s : List ℕ) (i : ℕ) (inv : cut b s ≡ i + cut b (drop i s)) where
@@ -348,6 +350,26 @@ module _ (a b : Decoded) (held : List ℕ) (r : Both) (n e : ℕ) (told : Decode
   pub both-starts : n ≤ length held
   both-starts = omega (arith, both .ordered, both .inside)
 
+-- ---- two words of bytes, of which the first n to e are lent too
+pub taken-before : (s : List ℕ) (n e : ℕ) → n ≤ e → e ≤ length s → n ≡ length (take n s)
+taken-before s n e l h = taken s n (omega arith)
+
+-- ---- two numbers, and where the words start behind them
+pub two-words : (words : List ℕ) (r : Two) (first second at : ℕ) → LeadTwo words r → r ≡ TwoAre first second at → at ≤ length words
+two-words words r first second at told is = rw is at told
+
+module _ (words : List ℕ) (at from : ℕ) (first : at ≤ length words) (second : from ≤ length (take (length words - at) (drop at words))) where
+  behind : at + from ≤ length words
+  behind = omega (arith, first, rw (tail words at, length-drop) at second)
+
+  pub two-fits : length words * 1 < 2 ^ 63 → Fits w64 (at + from)
+  two-fits room = omega (arith, behind)
+
+  pub two-inside : at + from ≤ length words
+  two-inside = behind
+
+pub ruleset two-laws = (taken-before, two-words, two-fits, two-inside)
+
 pub ruleset request-laws = (
   cut-hit,
   cut-more,
@@ -397,4 +419,4 @@ pub ruleset request-laws = (
 )
 
 -- The laws that the proofs of this crate's functions go by.
-pub ruleset laws = (request-laws)
+pub ruleset laws = (request-laws, two-laws)

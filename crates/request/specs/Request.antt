@@ -9,6 +9,8 @@ use Rattle.request.specs.declared.Number.{Number}
 use Rattle.request.specs.declared.Number.the-variants.{Is, Not}
 use Rattle.request.specs.declared.Leading.{Leading}
 use Rattle.request.specs.declared.Leading.the-variants.{Is as Leads, Not as NoLeading}
+use Rattle.request.specs.declared.Two.{Two}
+use Rattle.request.specs.declared.Two.the-variants.{Are as TwoAre, Not as NotTwo}
 use Rattle.request.specs.declared.Bytes.{Bytes}
 use Rattle.request.specs.declared.Bytes.the-variants.{Are, Not as NoBytes}
 use Rattle.request.specs.declared.Both.{Both}
@@ -112,3 +114,8 @@ pub record InBoth (a b : Decoded) (held : List ℕ) (n e : ℕ) : Type 0 where
 abbrev pub DecodesBoth : Decoded → Decoded → List ℕ → Both → Type 0
 DecodesBoth a b held (BothAre n e) = InBoth a b held n e
 DecodesBoth a b held NotBoth = fittingBoth (length held) a b ≡ false
+
+-- two numbers lead: the other words start inside
+abbrev pub LeadTwo : List ℕ → Two → Type 0
+LeadTwo words (TwoAre first second at) = at ≤ length words
+LeadTwo words NotTwo = Unit

@@ -4,6 +4,7 @@ ghost use mathlib.Core.Path.{_≡_};
 ghost use Prim.Native.Nat.{_≤_};
 ghost use lib.ListN.{length};
 ghost use Rattle.request.specs.Request.{cut, numberOf, digitsOf, leadingOf, digitOf, pairsOf, isDash, bytesOf, Decodes, firstOf, secondOf, DecodesBoth};
+ghost use Rattle.request.specs.Request.{LeadTwo};
 
 // The words that a request starts with.
 pub enum Word {
@@ -42,6 +43,12 @@ pub enum Number {
 // What words say of which the first is a number and others follow it: the number, and where the others start.
 pub enum Leading {
     Is(u64, usize),
+    Not,
+}
+
+// What words say of which the first two are numbers and others follow them: the numbers, and where the others start.
+pub enum Two {
+    Are(u64, u64, usize),
     Not,
 }
 
@@ -163,6 +170,18 @@ pub fn read_leading(words: &[u8]) -> Leading
         return Leading::Not;
     };
     Leading::Is(n, e + 1)
+}
+
+pub fn read_two(words: &[u8]) -> Two
+    ensures { λ r. ⌜ LeadTwo (now (words .entry)) r ⌝ }
+{
+    let Leading::Is(first, at) = read_leading(words) else {
+        return Two::Not;
+    };
+    let Leading::Is(second, from) = read_leading(&words[at..]) else {
+        return Two::Not;
+    };
+    Two::Are(first, second, at + from)
 }
 
 // What a hex digit says, in lower case; 16 for what is none.

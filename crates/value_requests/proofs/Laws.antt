@@ -1,6 +1,5 @@
 -- The laws that the proofs of this crate's functions go by. Assumes nothing.
-use Rattle.request.proofs.Laws.{request-laws}
+use Rattle.request.proofs.Laws.{two-laws, request-laws}
 use Rattle.libtap.proofs.Standing.{value-standing}
-use Rattle.node_requests.proofs.Laws.{taken-before, two-words}
 
-pub ruleset laws = (request-laws, taken-before, two-words, value-standing)
+pub ruleset laws = (request-laws, two-laws, value-standing)

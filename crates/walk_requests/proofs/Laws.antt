@@ -7,26 +7,19 @@ use native.Mathlib.Omega.{arith}
 use lib.ListN.{length, take, drop, length-drop}
 use mir.Syntax.{w64}
 use mir.Val.{Fits}
-use Rattle.laws.proofs.Lists.{tail}
 use Rattle.header_rules.specs.Table as header
 use Rattle.command_rules.specs.Rows as command
-use Rattle.request.proofs.Laws.{taken, request-laws}
+use Rattle.request.proofs.Laws.{two-laws, request-laws}
 use Rattle.answer.specs.Table.{Ample}
 use Rattle.libtap.proofs.Standing.{standing-laws}
 use Rattle.walk_requests.specs.declared.Table.{Table}
 use Rattle.walk_requests.specs.declared.Table.the-variants.{Of}
-use Rattle.walk_requests.specs.declared.Radio.{Radio}
-use Rattle.walk_requests.specs.declared.Radio.the-variants.{Is}
 use Rattle.walk_requests.specs.declared.Request.{Request}
 use Rattle.walk_requests.specs.declared.Asked.{Asked}
 use Rattle.walk_requests.specs.declared.Asked.the-variants as asked
-use Rattle.walk_requests.specs.Walks.{Tables, Tunes, Inside, Asks}
+use Rattle.walk_requests.specs.Walks.{Tables, Inside, Asks}
 
 -- ---- a request
--- the first n of a list, of which the first n to e are lent too, are n
-pub taken-before : (s : List ℕ) (n e : ℕ) → n ≤ e → e ≤ length s → n ≡ length (take n s)
-taken-before s n e l h = taken s n (omega arith)
-
 -- the numbers of a table
 module _ (cap width : ℕ) (few : cap ≤ 16384) (narrow : width ≤ 10) where
   most : cap * width ≤ 163840
@@ -51,20 +44,6 @@ module _ (words : List ℕ) (r : Table) (numbers at : ℕ) (told : Tables words 
   pub table-words : at ≤ length words
   table-words = table .1
 
-pub radio-words : (words : List ℕ) (r : Radio) (region speed at : ℕ) → Tunes words r → r ≡ Is region speed at → at ≤ length words
-radio-words words r region speed at told is = rw is at told
-
--- where the words start behind two numbers
-module _ (words : List ℕ) (at from : ℕ) (first : at ≤ length words) (second : from ≤ length (take (length words - at) (drop at words))) where
-  behind : at + from ≤ length words
-  behind = omega (arith, first, rw (tail words at, length-drop) at second)
-
-  pub radio-fits : length words * 1 < 2 ^ 63 → Fits w64 (at + from)
-  radio-fits room = omega (arith, behind)
-
-  pub radio-inside : at + from ≤ length words
-  radio-inside = behind
-
 module _ (held : List ℕ) (r : Asked) (q : Request) (told : Asks held r) (is : r ≡ asked.Header q) where
   inside : Inside held (q .numbers) (q .n) (q .end)
   inside = rw is at told
@@ -87,15 +66,11 @@ module _ (t : List ℕ) (room : length t * 8 < 2 ^ 63) (n : ℕ) where
   params-fits few = omega (arith, room)
 
 pub ruleset walk-laws = (
-  taken-before,
   table-fits,
   table-few,
   table-most,
   table-room,
   table-words,
-  radio-words,
-  radio-fits,
-  radio-inside,
   asked-room,
   asked-ordered,
   asked-within,
@@ -104,4 +79,4 @@ pub ruleset walk-laws = (
 )
 
 -- The laws that the proofs of this crate's functions go by.
-pub ruleset laws = (request-laws, walk-laws, standing-laws)
+pub ruleset laws = (request-laws, two-laws, walk-laws, standing-laws)

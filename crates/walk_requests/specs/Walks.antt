@@ -4,8 +4,6 @@ use mathlib.Core.List.{List}
 use lib.ListN.{length}
 use Rattle.walk_requests.specs.declared.Table.{Table}
 use Rattle.walk_requests.specs.declared.Table.the-variants.{Of, Not as NoTable}
-use Rattle.walk_requests.specs.declared.Radio.{Radio}
-use Rattle.walk_requests.specs.declared.Radio.the-variants.{Is, Not as NoRadio}
 use Rattle.walk_requests.specs.declared.Asked.{Asked}
 use Rattle.walk_requests.specs.declared.Asked.the-variants as asked
 
@@ -13,10 +11,6 @@ use Rattle.walk_requests.specs.declared.Asked.the-variants as asked
 abbrev pub Tables : List ℕ → Table → Type 0
 Tables words (Of numbers at) = (numbers ≤ 163840) × (at ≤ length words)
 Tables words NoTable = Unit
-
-abbrev pub Tunes : List ℕ → Radio → Type 0
-Tunes words (Is region speed at) = at ≤ length words
-Tunes words NoRadio = Unit
 
 -- such a table, and bytes that the buffer holds
 pub record Inside (held : List ℕ) (numbers n end : ℕ) : Type 0 where

@@ -13,8 +13,10 @@ use libtap::headers::TapHeader;
 use libtap::headers::tap_decode_header;
 use request::Both;
 use request::Leading;
+use request::Two;
 use request::read_both;
 use request::read_leading;
+use request::read_two;
 use writer::Buffer;
 use writer::put_number;
 ghost use Prim.Native.Nat.{_≤_, _*_};
@@ -22,17 +24,11 @@ ghost use lib.ListN.{length};
 ghost use Rattle.answer.specs.Table.{Ample};
 ghost use Rattle.header_rules.specs.Table.{rowWidth as headerWidth};
 ghost use Rattle.command_rules.specs.Rows.{rowWidth as commandWidth};
-ghost use Rattle.walk_requests.specs.Walks.{Tables, Tunes, Asks};
+ghost use Rattle.walk_requests.specs.Walks.{Tables, Asks};
 
 // How many numbers a table has, and where the other words start.
 enum Table {
     Of(usize, usize),
-    Not,
-}
-
-// A region and a speed, and where the other words start.
-enum Radio {
-    Is(u64, u64, usize),
     Not,
 }
 
@@ -72,19 +68,6 @@ fn read_table(words: &[u8], width: usize) -> Table
     Table::Of(cap as usize * width, at)
 }
 
-// `REGION SPEED`
-fn read_radio(words: &[u8]) -> Radio
-    ensures { λ r. ⌜ Tunes (now (words .entry)) r ⌝ }
-{
-    let Leading::Is(region, at) = read_leading(words) else {
-        return Radio::Not;
-    };
-    let Leading::Is(speed, from) = read_leading(&words[at..]) else {
-        return Radio::Not;
-    };
-    Radio::Is(region, speed, at + from)
-}
-
 // `CAP REGION SPEED TEXT MPDU`
 fn read_asked(words: &[u8], bytes: &mut [u8]) -> Asked
     ensures { λ r. ⌜ Asks (now (bytes .exit)) r ⌝ }
@@ -93,7 +76,7 @@ fn read_asked(words: &[u8], bytes: &mut [u8]) -> Asked
         return Asked::Not;
     };
     let others = &words[at..];
-    let Radio::Is(region, speed, from) = read_radio(others) else {
+    let Two::Are(region, speed, from) = read_two(others) else {
         return Asked::Not;
     };
     let Both::Are(n, end) = read_both(&others[from..], bytes) else {

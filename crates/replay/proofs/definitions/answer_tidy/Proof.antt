@@ -9,6 +9,7 @@ answer-tidy-spec =
     tie.close
     (tie.spec
     (λ c κs. search (needs, laws))
+    (λ c. search (needs, laws))
     (λ c κs. search (needs, laws))
     (λ c. search (needs, laws))
     (λ c. search (needs, laws)))

@@ -1,8 +1,8 @@
--- `node_requests::read_two` meets its contract, by the laws of the crate. Assumes nothing.
-use Rattle.node_requests.proofs.Laws.{laws}
+-- `request::read_two` meets its contract, by the laws of the crate. Assumes nothing.
+use Rattle.request.proofs.Laws.{laws}
 use borrow.Author.Needs.{needs}
-use Rattle.node_requests.proofs.read_two.Statement.{statement}
-use Rattle.node_requests.proofs.read_two.Tie as tie
+use Rattle.request.proofs.read_two.Statement.{statement}
+use Rattle.request.proofs.read_two.Tie as tie
 
 pub read-two-spec : {M : Type 1} → statement M
 read-two-spec =
