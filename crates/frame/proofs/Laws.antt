@@ -235,12 +235,10 @@ module _ (b : List ℕ) (m e : BodyOffset) (lies : layoutOf b ≡ Between m e) w
           beam = the-beam k;
         }
 
-module _ (b : List ℕ) (l : Layout) (m e : BodyOffset) (is-l : l ≡ layoutOf b) (lies : l ≡ Between m e) (w : Rules) (p : Parts) (h : Bool)
-    (is-p : p ≡ partsOf w b) (is-h : h ≡ holds (p .direction) (p .beam) (p .trailer)) where
+module _ (b : List ℕ) (m e : BodyOffset) (lies : layoutOf b ≡ Between m e) (w : Rules) (p : Parts) (h : Bool) (is-p : p ≡ partsOf w b)
+    (is-h : h ≡ holds (p .direction) (p .beam) (p .trailer)) where
   the-h : h ≡ isFrame w b
-  the-h =
-      let laid = known b m e (sym is-l ∙ lies) in
-      rw (laid .0) (is-h ∙ ap (λ (x : Parts). holds (x .direction) (x .beam) (x .trailer)) is-p)
+  the-h = let laid = known b m e lies in rw (laid .0) (is-h ∙ ap (λ (x : Parts). holds (x .direction) (x .beam) (x .trailer)) is-p)
 
   pub split-not : h ≡ false → NoSplit ≡ splitOf w b
   split-not none = rw (← the-h, none) refl

@@ -321,6 +321,26 @@ fn read_parts(
     }
 }
 
+// The parts of a body whose middle bytes stand from `middle` up to `end`, if it holds a frame by these rules.
+fn split_between(
+    rates: &[u8; 512],
+    body: &[u8],
+    rules: Rules,
+    middle: BodyOffset,
+    end: BodyOffset,
+) -> Split
+    requires { ⌜ RateTable (now rates) ⌝ }
+    requires { ⌜ rules .width ≤ 5 ⌝ }
+    requires { ⌜ layoutOf (now body) ≡ Between middle end ⌝ }
+    ensures { λ r. ⌜ r ≡ splitOf rules (now (body .entry)) ⌝ }
+{
+    let parts = read_parts(rates, body, rules, middle, end);
+    if is_whole(parts) {
+        return Split::Into(parts);
+    }
+    Split::Nothing
+}
+
 // The parts of a body, if it holds a frame by these rules.
 pub fn split_body(rates: &[u8; 512], body: &[u8], rules: Rules) -> Split
     requires { ⌜ RateTable (now rates) ⌝ }
@@ -330,11 +350,7 @@ pub fn split_body(rates: &[u8; 512], body: &[u8], rules: Rules) -> Split
     let Layout::Between(middle, end) = lay_out(body) else {
         return Split::Nothing;
     };
-    let parts = read_parts(rates, body, rules, middle, end);
-    if is_whole(parts) {
-        return Split::Into(parts);
-    }
-    Split::Nothing
+    split_between(rates, body, rules, middle, end)
 }
 
 // The MPDU's length: what its header declares, where that is there and fits; else all middle bytes, and so for a beam.

@@ -13,6 +13,4 @@ split-body-spec =
     (λ c. search (needs, laws))
     (λ c. search (needs, laws))
     (λ c κs. search (needs, laws))
-    (λ c κs. search (needs, laws))
-    (λ c. search (needs, laws))
     (λ c. search (needs, laws)))
