@@ -1,11 +1,11 @@
 -- Laws of the header of an MPDU. Assumes nothing.
 use mathlib.Core.Path.{_≡_, refl, sym, ap, _∙_}
-use mathlib.Core.Bool.{Bool}
+use mathlib.Core.Bool.{Bool, true, false, cond, _&&_}
 use mathlib.Core.List.{List, map}
 use mathlib.Core.Option.{none}
 use Prim.Native.Nat.{ℕ, _*_, _/_, _≤_, _<_}
 use native.Mathlib.Omega.{arith}
-use lib.ListN.{length, length-map}
+use lib.ListN.{length, length-map, replicate, length-replicate}
 use borrow.Author.Tests.{le-leb, lt-leb, lt-ltb, le-ltb}
 use Rattle.refusal.specs.declared.Refusal.{Refusal}
 use Rattle.refusal.specs.declared.Refusal.the-variants.{TooLong, TooShort, NoBase, NoCandidate, MoreRows}
@@ -31,7 +31,7 @@ use Rattle.header_rules.specs.Table.{rowWidth, tableOf}
 use Rattle.header_rules.specs.Trees.{trees}
 use Rattle.header_rules.specs.Loaded.{shown}
 use Rattle.header_rules.proofs.Walked.{flat-rows, flat-bit}
-use Rattle.header_rules.specs.Told.{more-rows, header, offsetOf, fitted, candidatesOf, told}
+use Rattle.header_rules.specs.Told.{Heading, more-rows, header, offsetOf, fitted, candidatesOf, told}
 use Rattle.header_paths.specs.Scratch.{rowsIn}
 use Rattle.header_paths.proofs.Scratch.{length-rowsIn}
 use Rattle.header_candidates.specs.Read.{Roomy, baseOf, HoldsBase, ReadsBase}
@@ -39,35 +39,74 @@ use Rattle.header_candidates.specs.Choose.{linesAt, IsChosen, Chooses}
 use Rattle.header_candidates.specs.declared.Read.{Read}
 use Rattle.header_candidates.specs.declared.Choice.{Choice}
 use Rattle.header_candidates.specs.declared.Choice.the-variants as choice
+use Rattle.header.specs.declared.DecodedHeader.{DecodedHeader}
 use Rattle.header.specs.declared.Decoded.{Decoded}
 use Rattle.header.specs.declared.Decoded.the-variants.{Header, Refused}
-use Rattle.header.specs.Decode.{keyOf, Decodes}
-use Rattle.header.specs.Steps.{Ready, headingRead, Shows, Picks, Reads}
+use Rattle.header.specs.Decode.{keyOf, decoded, Decodes}
+use Rattle.header.specs.Steps.{Gives, Ready, headed, rowsRead, fits, Shows, Picks, Reads, Answers}
 use Rattle.header.proofs.Says.{decodes}
 
+cond-same : (b : Bool) (x : List ℕ) → cond b x x ≡ x
+cond-same true x = refl
+cond-same false x = refl
+
 -- ---- the answer for a candidate that was read
-module _ (t fields scratch : List ℕ) (c : Candidate) (read : Read) (ok : Bool) (table : List ℕ) where
-  rows-read : length (headingRead t fields scratch c read .rows) ≡ read .rows
-  rows-read = length-map (rowsIn scratch (read .rows)) (shown (fieldsIn t fields (read .count)) (definition t .sets)) ∙ length-rowsIn scratch (read .rows)
+module _ (t fields scratch : List ℕ) (read : Read) (h : DecodedHeader) (table : List ℕ) where
+  pub show-more : (wanted : Bool) → length table / rowWidth < read .rows
+      → Shows t fields scratch read h wanted table (Refused (MoreRows (read .rows))) table
+  show-more wanted more = let no = lt-leb (read .rows) (length table / rowWidth) more in record { answer = rw no refl; rows = rw no refl }
 
-  pub show-more : length table / rowWidth < read .rows → Shows t fields scratch c read ok table (Refused (MoreRows (read .rows))) table
-  show-more h =
-      let e : fitted (length table / rowWidth) (headingRead t fields scratch c read) ≡ more-rows (read .rows) =
-      rw (rows-read, lt-leb (read .rows) (length table / rowWidth) h) refl in
-      rw e (record { answer = refl; rows = refl })
+  pub show-all : (wanted : Bool) (table′ : List ℕ) → read .rows ≤ length table / rowWidth → table′ ≡ laid table (rowsRead t fields scratch read)
+      → wanted ≡ true → Shows t fields scratch read h wanted table (Header h) table′
+  show-all wanted table′ few is-table e =
+      let yes = le-leb (read .rows) (length table / rowWidth) few in record { answer = rw yes refl; rows = rw (yes, e) is-table }
 
-  pub show-all : (offset : ℕ) (table′ : List ℕ) → read .rows ≤ length table / rowWidth → offset ≡ offsetOf (read .bit .0)
-      → c .name ≡ headerName t (c .number)
-      → table′ ≡ laid table (map (shown (fieldsIn t fields (read .count)) (definition t .sets)) (rowsIn scratch (read .rows)))
-      → Shows t fields scratch c read ok table (Header
-      (record { number = c .number; key = c .key; flags = c .flags; name = c .name; payload = offset; right = ok; rows = read .rows })) table′
-  show-all offset table′ h is-offset is-name is-table =
-      let e : fitted (length table / rowWidth) (headingRead t fields scratch c read) ≡ header (headingRead t fields scratch c read) =
-      rw (rows-read, le-leb (read .rows) (length table / rowWidth) h) refl in
-      rw e (record { answer = rw (is-offset, is-name, rows-read) refl; rows = is-table })
+  pub show-none : (wanted : Bool) → read .rows ≤ length table / rowWidth → wanted ≡ false
+      → Shows t fields scratch read h wanted table (Header h) table
+  show-none wanted few e = let yes = le-leb (read .rows) (length table / rowWidth) few in record { answer = rw yes refl; rows = rw (yes, e) refl }
 
   pub rows-fit : read .rows ≤ length table / rowWidth → read .rows * rowWidth ≤ length table
-  rows-fit h = omega arith
+  rows-fit few = omega arith
+
+pub headed-is : (c : Candidate) (read : Read) (ok : Bool) (offset : ℕ) → offset ≡ offsetOf (read .bit .0)
+    → record { number = c .number; key = c .key; flags = c .flags; name = c .name; payload = offset; right = ok; rows = read .rows } ≡ headed c read ok
+headed-is c read ok offset e = rw e refl
+
+-- what is told of it
+abbrev headingRead : List ℕ → List ℕ → List ℕ → Candidate → Read → Heading
+headingRead t fields scratch c read =
+    record {
+      number = c .number;
+      key = c .key;
+      ack = c .flags .ack;
+      routed = c .flags .routed;
+      multicast = c .flags .multicast;
+      error = c .flags .error;
+      offset = offsetOf (read .bit .0);
+      rows = rowsRead t fields scratch read;
+    }
+
+module _ (t fields scratch : List ℕ) (c : Candidate) (read : Read) (ok wanted : Bool) (table : List ℕ) (r : Decoded) (table′ : List ℕ)
+    (is-name : c .name ≡ headerName t (c .number)) where
+  rows-read : length (rowsRead t fields scratch read) ≡ read .rows
+  rows-read = length-map (rowsIn scratch (read .rows)) (shown (fieldsIn t fields (read .count)) (definition t .sets)) ∙ length-rowsIn scratch (read .rows)
+
+  abbrev heading : Heading
+  heading = headingRead t fields scratch c read
+
+  gives-shown : Shows t fields scratch read (headed c read ok) wanted table r table′
+      → Gives t ok (fitted (length table / rowWidth) heading) wanted table r table′
+  gives-shown s = go (fits read table) refl (s .answer) (s .rows)
+    where
+      go : (b : Bool) → fits read table ≡ b → r ≡ cond b (Header (headed c read ok)) (Refused (MoreRows (read .rows)))
+          → table′ ≡ cond (b && wanted) (laid table (rowsRead t fields scratch read)) table
+          → Gives t ok (fitted (length table / rowWidth) heading) wanted table r table′
+      go true e is-r is-table =
+          let f : fitted (length table / rowWidth) heading ≡ header heading = rw (rows-read, e) refl in
+          rw (f, is-r) (record { answer = rw (is-name, rows-read) refl; rows = is-table })
+      go false e is-r is-table =
+          let f : fitted (length table / rowWidth) heading ≡ more-rows (read .rows) = rw (rows-read, e) refl in
+          rw (f, is-r) (record { answer = refl; rows = is-table ∙ sym (cond-same wanted table) })
 
 -- ---- the base
 pub base-readable : (t : List ℕ) (key : ℕ) (p : Place) (n : ℕ) → FindsBase t key (found.At p n) → Readable rules t p
@@ -99,9 +138,6 @@ module _ (t d : List ℕ) (key : ℕ) (bs : List Numbered) (fields scratch : Lis
         bit-in = omega (arith, chosen .own .within, roomy .short);
       }
 
-  pub chosen-named : c .name ≡ headerName t (c .number)
-  chosen-named = chosen .named
-
   abbrev own : List Numbered
   own = linesAt t (c .place) (c .params)
 
@@ -112,47 +148,67 @@ module _ (t d : List ℕ) (key : ℕ) (bs : List Numbered) (fields scratch : Lis
       ≡ tableOf 7 d (definition t .sets) (reading 7 d (trees bs) (trees own))
   the-rows = rw (chosen .own .lines, chosen .own .rows) (flat-rows bs own d (definition t .sets))
 
-  pub picks-one : (speed : ℕ) (ok : Bool) (table : List ℕ) (x : Decoded) (table′ : List ℕ) → ok ≡ right d speed
-      → Shows t fields scratch c read ok table x table′ → Picks t d speed key bs table x table′
-  picks-one speed ok table x table′ is-ok shows = rw (chosen .answer-is, ← the-bit, ← the-rows, ← is-ok) shows
+  pub picks-one : (speed : ℕ) (ok wanted : Bool) (h : DecodedHeader) (table : List ℕ) (x : Decoded) (table′ : List ℕ) → ok ≡ right d speed
+      → h ≡ headed c read ok → Shows t fields scratch read h wanted table x table′ → Picks t d speed key bs wanted table x table′
+  picks-one speed ok wanted h table x table′ is-ok is-h shows =
+      let given = gives-shown t fields scratch c read ok wanted table x table′ (chosen .named) (rw is-h at shows) in
+      rw (chosen .answer-is, ← the-bit, ← the-rows, ← is-ok) given
 
-pub picks-none : (t d : List ℕ) (speed key : ℕ) (bs : List Numbered) (fields scratch : List ℕ) (r : Choice) (table : List ℕ)
-    → Chooses t d key bs fields scratch r → r ≡ choice.Nothing
-    → Picks t d speed key bs table (Refused NoCandidate) table
-picks-none t d speed key bs fields scratch r table chooses e =
+  pub chosen-bit : (fields₀ scratch₀ : List ℕ) → Roomy d fields₀ scratch₀ → read .bit .0 ≤ 16384
+  chosen-bit fields₀ scratch₀ roomy = omega (arith, chosen .own .within, roomy .short)
+
+pub picks-none : (t d : List ℕ) (speed key : ℕ) (bs : List Numbered) (fields scratch : List ℕ) (r : Choice) (wanted : Bool)
+    (table : List ℕ) → Chooses t d key bs fields scratch r → r ≡ choice.Nothing
+    → Picks t d speed key bs wanted table (Refused NoCandidate) table
+picks-none t d speed key bs fields scratch r wanted table chooses e =
     let none-is : answer 7 d (trees bs) (candidatesOf key (definition t)) ≡ refused 7 = rw e at chooses in
-    rw none-is (record { answer = refl; rows = refl })
+    rw none-is (record { answer = refl; rows = sym (cond-same wanted table) })
 
 -- ---- what is told by it
-pub reads-picked : (t d : List ℕ) (speed key : ℕ) (p : Place) (n : ℕ) (fields scratch : List ℕ) (base : Read) (table : List ℕ) (x : Decoded)
-    (table′ : List ℕ)
-    → ReadsBase t d (linesAt t p n) fields scratch base → FindsBase t key (found.At p n) → Picks t d speed key (baseOf t fields base) table x table′
-    → Reads t d speed key table x table′
+pub reads-picked : (t d : List ℕ) (speed key : ℕ) (p : Place) (n : ℕ) (fields scratch : List ℕ) (base : Read) (wanted : Bool)
+    (table : List ℕ) (x : Decoded) (table′ : List ℕ)
+    → ReadsBase t d (linesAt t p n) fields scratch base → FindsBase t key (found.At p n)
+    → Picks t d speed key (baseOf t fields base) wanted table x table′
+    → Reads t d speed key wanted table x table′
 unfolding told
-reads-picked t d speed key p n fields scratch base table x table′ r f picks = rw (f .0, ← r .lines) picks
+reads-picked t d speed key p n fields scratch base wanted table x table′ r f picks = rw (f .0, ← r .lines) picks
 
 -- ---- an accepted text
-module _ (t d : List ℕ) (region speed : ℕ) (table : List ℕ) (accepted : verdict t ≡ text.Accepted) where
-  pub decodes-long : 2048 < length d → Decodes t d region speed table (Refused (TooLong (length d))) table
-  decodes-long h = decodes t d region speed table _ _ (rw (accepted, lt-ltb 2048 (length d) h) refl) refl
+module _ (t d : List ℕ) (region speed : ℕ) (wanted : Bool) (table : List ℕ) (accepted : verdict t ≡ text.Accepted) where
+  -- a refusal writes nothing
+  answers-refused : (x : Refusal) → Refused x ≡ decoded t d region speed (length table) → Answers t d region speed wanted table (Refused x) table
+  answers-refused x is = record { answer = is; rows = sym (cond-same wanted table) }
 
-  pub decodes-short : length d ≤ 2048 → length d < 2 → Decodes t d region speed table (Refused (TooShort (length d))) table
-  decodes-short s h = decodes t d region speed table _ _ (rw (accepted, le-ltb 2048 (length d) s, lt-ltb (length d) 2 h) refl) refl
+  pub answers-long : 2048 < length d → Answers t d region speed wanted table (Refused (TooLong (length d))) table
+  answers-long h = answers-refused _ (rw (accepted, lt-ltb 2048 (length d) h) refl)
+
+  pub answers-short : length d ≤ 2048 → length d < 2 → Answers t d region speed wanted table (Refused (TooShort (length d))) table
+  answers-short s h = answers-refused _ (rw (accepted, le-ltb 2048 (length d) s, lt-ltb (length d) 2 h) refl)
 
   module _ (s : length d ≤ 2048) (l : 2 ≤ length d) (key : ℕ) (is-key : key ≡ keyOf t region speed) where
-    pub decodes-no-base : (r : Found) → FindsBase t key r → r ≡ found.Nothing → Decodes t d region speed table (Refused (NoBase key)) table
+    pub answers-no-base : (r : Found) → FindsBase t key r → r ≡ found.Nothing → Answers t d region speed wanted table (Refused (NoBase key)) table
     unfolding told
-    decodes-no-base r finds e =
+    answers-no-base r finds e =
         let none-is : firstBase (keyOf t region speed) (definition t .bases) ≡ none = rw (e, is-key) at finds in
-        decodes t d region speed table _ _ (rw (accepted, le-ltb 2048 (length d) s, le-ltb (length d) 2 l, none-is, is-key) refl) refl
+        answers-refused _ (rw (accepted, le-ltb 2048 (length d) s, le-ltb (length d) 2 l, none-is, is-key) refl)
 
-    pub decodes-read : (r : Decoded) (table′ : List ℕ) → Reads t d speed key table r table′ → Decodes t d region speed table r table′
-    decodes-read r table′ reads =
-        decodes t d region speed table r table′ (rw (accepted, le-ltb 2048 (length d) s, le-ltb (length d) 2 l, ← is-key) (reads .answer))
-        (rw (← is-key) (reads .rows))
+    pub answers-read : (r : Decoded) (table′ : List ℕ) → Reads t d speed key wanted table r table′ → Answers t d region speed wanted table r table′
+    answers-read r table′ reads =
+        record {
+          answer = rw (accepted, le-ltb 2048 (length d) s, le-ltb (length d) 2 l, ← is-key) (reads .answer);
+          rows = rw (← is-key) (reads .rows);
+        }
 
     pub base-at : (r : Found) (p : Place) (n : ℕ) → FindsBase t key r → r ≡ found.At p n → FindsBase t key (found.At p n)
     base-at r p n finds e = rw e at finds
+
+pub decodes-all : (t d : List ℕ) (region speed : ℕ) (table : List ℕ) (r : Decoded) (table′ : List ℕ)
+    → Answers t d region speed true table r table′ → Decodes t d region speed table r table′
+decodes-all t d region speed table r table′ a = decodes t d region speed table r table′ (a .answer) (a .rows)
+
+pub identified : (t d : List ℕ) (region speed : ℕ) (r : Decoded) (table′ : List ℕ)
+    → Answers t d region speed false (replicate {A = ℕ} 896 0) r table′ → r ≡ decoded t d region speed (128 * rowWidth)
+identified t d region speed r table′ a = a .answer ∙ ap (decoded t d region speed) (length-replicate {A = ℕ} 896 0)
 
 -- ---- any text
 pub accepted-text : (t : List ℕ) (v : Verdict) → v ≡ verdict t → v ≡ text.Accepted → verdict t ≡ text.Accepted
@@ -165,21 +221,25 @@ decodes-refused t d region speed table v x e q = decodes t d region speed table 
 pub ruleset laws = (
   show-more,
   show-all,
+  show-none,
   rows-fit,
+  headed-is,
   base-readable,
   base-number,
   base-few,
   base-holds,
   chosen-ready,
-  chosen-named,
+  chosen-bit,
   picks-one,
   picks-none,
   reads-picked,
-  decodes-long,
-  decodes-short,
-  decodes-no-base,
-  decodes-read,
+  answers-long,
+  answers-short,
+  answers-no-base,
+  answers-read,
   base-at,
+  decodes-all,
+  identified,
   accepted-text,
   decodes-refused,
 )

@@ -20,16 +20,16 @@ use text::Part;
 use text::Place;
 use text::Verdict;
 ghost use mathlib.Core.Path.{_≡_};
-ghost use Prim.Native.Nat.{_≤_};
+ghost use Prim.Native.Nat.{_*_, _≤_};
 ghost use lib.ListN.{length};
 ghost use Rattle.text.specs.declared.Verdict.the-variants.{Accepted};
 ghost use Rattle.frame_text.specs.Rules.{verdict};
-ghost use Rattle.frame_definition.specs.Names.{headerName};
 ghost use Rattle.frame_definition.specs.Find.{FindsBase};
 ghost use Rattle.frame_definition.specs.declared.Found.the-variants.{At};
 ghost use Rattle.header_rules.specs.Told.{offsetOf};
-ghost use Rattle.header.specs.Decode.{Decodes};
-ghost use Rattle.header.specs.Steps.{Ready, Shows, Picks, Reads};
+ghost use Rattle.header_rules.specs.Table.{rowWidth};
+ghost use Rattle.header.specs.Decode.{decoded, Decodes};
+ghost use Rattle.header.specs.Steps.{Ready, headed, Shows, Picks, Reads, Answers};
 ghost use Rattle.header_candidates.specs.Read.{Roomy, baseOf, HoldsBase};
 
 // The numbers of a table that has room for every header: 128 rows are enough (`enough` of `ByReadings`).
@@ -60,44 +60,54 @@ fn payload_offset(bit: BitOffset) -> u64
     (bit.0 + 7) / 8
 }
 
-// The answer for a candidate that was read, its rows in the table; or refusal 8. `right`: is the checksum or CRC right?
-fn show(
-    text: &[u8],
-    fields: &[u64],
-    scratch: &[u64],
-    candidate: Candidate,
-    read: Read,
-    right: bool,
-    rows: &mut [u64],
-) -> Decoded
-    requires { ⌜ verdict (now text) ≡ Accepted ⌝ }
-    requires { ⌜ (Ready (now fields) (now scratch) read) × (candidate .name ≡ headerName (now text) (candidate .number)) ⌝ }
-    ensures { λ r.
-        ⌜ Shows (now (text .entry)) (now (fields .entry)) (now (scratch .entry)) candidate read right (now (rows .entry)) r (now (rows .exit)) ⌝ }
+// The answer for a candidate that was read, but for its rows. `right`: is the checksum or CRC right?
+fn heading_of(candidate: Candidate, read: Read, right: bool) -> DecodedHeader
+    requires { ⌜ read .bit .0 ≤ 16384 ⌝ }
+    ensures { λ r. ⌜ r ≡ headed candidate read right ⌝ }
 {
-    let n = read.rows;
-    if rows.len() / ROW_WIDTH < n {
-        return Decoded::Refused(Refusal::MoreRows(n));
-    }
-    write_rows(text, fields, read.count, scratch, n, rows);
     let flags = candidate.flags;
     let name = candidate.name;
     let bit = read.bit;
-    Decoded::Header(DecodedHeader {
+    DecodedHeader {
         number: candidate.number,
         key: candidate.key,
         flags,
         name,
         payload: payload_offset(bit),
         right,
-        rows: n,
-    })
+        rows: read.rows,
+    }
 }
 
-// What is sought: the base key, at a speed.
+// The answer, if the table has room for the rows of what was read, which are written if they are wanted; or refusal 8.
+fn show(
+    text: &[u8],
+    fields: &[u64],
+    scratch: &[u64],
+    read: Read,
+    header: DecodedHeader,
+    wanted: bool,
+    rows: &mut [u64],
+) -> Decoded
+    requires { ⌜ (verdict (now text) ≡ Accepted) × (Ready (now fields) (now scratch) read) ⌝ }
+    ensures { λ r.
+        ⌜ Shows (now (text .entry)) (now (fields .entry)) (now (scratch .entry)) read header wanted (now (rows .entry)) r (now (rows .exit)) ⌝ }
+{
+    let n = read.rows;
+    if rows.len() / ROW_WIDTH < n {
+        return Decoded::Refused(Refusal::MoreRows(n));
+    }
+    if wanted {
+        write_rows(text, fields, read.count, scratch, n, rows);
+    }
+    Decoded::Header(header)
+}
+
+// What is sought: the base key, at a speed, and whether the rows are to be written.
 struct Sought {
     key: u64,
     speed: u64,
+    wanted: bool,
 }
 
 // The answer for the first candidate that holds; or refusal 7 or 8.
@@ -114,20 +124,21 @@ fn pick(
     requires { ⌜ (Roomy (now mpdu) (now fields) (now scratch)) × (HoldsBase (now text) (now mpdu) (now fields) (now scratch) base) ⌝ }
     ensures { λ r.
         ⌜ Picks (now (text .entry)) (now (mpdu .entry)) (sought .speed) (sought .key) (baseOf (now (text .entry)) (now (fields .entry)) base)
-        (now (rows .entry)) r (now (rows .exit)) ⌝ }
+        (sought .wanted) (now (rows .entry)) r (now (rows .exit)) ⌝ }
 {
     let Choice::At { candidate, read } = choose(text, mpdu, sought.key, fields, scratch, base)
     else {
         return Decoded::Refused(Refusal::NoCandidate);
     };
     let right = check_crc(mpdu, sought.speed);
+    let header = heading_of(candidate, read, right);
     show(
         text,
         &fields[..],
         &scratch[..],
-        candidate,
         read,
-        right,
+        header,
+        sought.wanted,
         rows,
     )
 }
@@ -143,7 +154,8 @@ fn read_header(
 ) -> Decoded
     requires { ⌜ (verdict (now text) ≡ Accepted) × (length (now mpdu) ≤ 2048) ⌝ }
     requires { ⌜ FindsBase (now text) (sought .key) (At start n) ⌝ }
-    ensures { λ r. ⌜ Reads (now (text .entry)) (now (mpdu .entry)) (sought .speed) (sought .key) (now (rows .entry)) r (now (rows .exit)) ⌝ }
+    ensures { λ r. ⌜ Reads (now (text .entry)) (now (mpdu .entry)) (sought .speed) (sought .key) (sought .wanted) (now (rows .entry)) r
+        (now (rows .exit)) ⌝ }
 {
     let mut fields = [0u64; 128 * LINE_WIDTH];
     let mut scratch = [0u64; 128 * SCRATCH_WIDTH];
@@ -151,16 +163,17 @@ fn read_header(
     pick(text, mpdu, sought, &mut fields, &mut scratch, base, rows)
 }
 
-// The header of an MPDU, its rows in the table, by a text that is accepted; or refusal 4 to 8. For many MPDUs and one text.
-pub fn decode_accepted(
+// The header of an MPDU by a text that is accepted, its rows in the table if they are wanted; or refusal 4 to 8.
+fn decode_by(
     text: &[u8],
     mpdu: &[u8],
     region: u64,
     speed: u64,
+    wanted: bool,
     rows: &mut [u64],
 ) -> Decoded
     requires { ⌜ verdict (now text) ≡ Accepted ⌝ }
-    ensures { λ r. ⌜ Decodes (now (text .entry)) (now (mpdu .entry)) region speed (now (rows .entry)) r (now (rows .exit)) ⌝ }
+    ensures { λ r. ⌜ Answers (now (text .entry)) (now (mpdu .entry)) region speed wanted (now (rows .entry)) r (now (rows .exit)) ⌝ }
 {
     if 2048 < mpdu.len() {
         return Decoded::Refused(Refusal::TooLong(mpdu.len()));
@@ -175,8 +188,32 @@ pub fn decode_accepted(
     let sought = Sought {
         key: key as u64,
         speed,
+        wanted,
     };
     read_header(text, mpdu, sought, place, params, rows)
+}
+
+// The header of an MPDU, its rows in the table, by a text that is accepted; or refusal 4 to 8. For many MPDUs and one text.
+pub fn decode_accepted(
+    text: &[u8],
+    mpdu: &[u8],
+    region: u64,
+    speed: u64,
+    rows: &mut [u64],
+) -> Decoded
+    requires { ⌜ verdict (now text) ≡ Accepted ⌝ }
+    ensures { λ r. ⌜ Decodes (now (text .entry)) (now (mpdu .entry)) region speed (now (rows .entry)) r (now (rows .exit)) ⌝ }
+{
+    decode_by(text, mpdu, region, speed, true, rows)
+}
+
+// What `decode_accepted` answers for a table that has room for every header. No row is written, nor its symbol looked up.
+pub fn identify_accepted(text: &[u8], mpdu: &[u8], region: u64, speed: u64) -> Decoded
+    requires { ⌜ verdict (now text) ≡ Accepted ⌝ }
+    ensures { λ r. ⌜ r ≡ decoded (now (text .entry)) (now (mpdu .entry)) region speed (128 * rowWidth) ⌝ }
+{
+    let mut rows = [0u64; MOST_NUMBERS];
+    decode_by(text, mpdu, region, speed, false, &mut rows)
 }
 
 // The header of an MPDU, its rows in the table; or refusal 1 to 8. A refusal writes nothing, an answer nothing past its last row.

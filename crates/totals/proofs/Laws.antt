@@ -36,7 +36,7 @@ use Rattle.pti.specs.Payload.{rowOf, rowsIn, rowsOf}
 use Rattle.header.specs.declared.DecodedHeader.{DecodedHeader}
 use Rattle.header.specs.declared.Decoded.{Decoded}
 use Rattle.header.specs.declared.Decoded.the-variants as header
-use Rattle.header.specs.Decode.{decoded, Decodes}
+use Rattle.header.specs.Decode.{decoded}
 use Rattle.totals.specs.declared.Framed.{Framed}
 use Rattle.totals.specs.declared.Framed.the-variants.{Is, Nothing}
 use Rattle.totals.specs.declared.Added.{Added}
@@ -65,10 +65,7 @@ module _ (x : Refusal) (n : ℕ) (is : n ≡ numberOf x) where
   pub refused-one : (a b : List ℕ) → Tallies 1 ((1023 + n, 1) ∷ []) a b → 5 ≤ n → n ≤ 7 → Tallies 1 (refusedCounts (numberOf x)) a b
   refused-one a b p l h = rw (← is, le-leb 5 n l, le-leb n 7 h) p
 
-module _ (t d : List ℕ) (region speed : ℕ) (r : Decoded) (rows : List ℕ) (dec : Decodes t d region speed (replicate {A = ℕ} 896 0) r rows) where
-  answer-is : r ≡ decoded t d region speed room
-  answer-is = dec .answer ∙ ap (decoded t d region speed) (length-replicate {A = ℕ} 896 0)
-
+module _ (t d : List ℕ) (region speed : ℕ) (r : Decoded) (answer-is : r ≡ decoded t d region speed room) where
   pub header-key : (h : DecodedHeader) → r ≡ header.Header h → h .key < 256
   header-key h e = key-low t d region speed room h (sym answer-is ∙ e)
 

@@ -9,8 +9,7 @@ use frame::split_body;
 use frame_text::check_frame_text;
 use header::Decoded;
 use header::DecodedHeader;
-use header::MOST_NUMBERS;
-use header::decode_accepted;
+use header::identify_accepted;
 use pti::payload::beams_number;
 use radio::speed::RATES;
 use records::Next;
@@ -111,8 +110,7 @@ fn count_header(text: &[u8], mpdu: &[u8], region: u64, rate: u8, sums: &mut [u64
     ensures { λ _.
         ⌜ Tallies 2 (headerCounts rate (decoded (now (text .entry)) (now (mpdu .entry)) region rate room)) (now (sums .entry)) (now (sums .exit)) ⌝ }
 {
-    let mut rows = [0u64; MOST_NUMBERS];
-    match decode_accepted(text, mpdu, region, rate as u64, &mut rows) {
+    match identify_accepted(text, mpdu, region, rate as u64) {
         Decoded::Header(header) => count_heading(header, rate, sums),
         Decoded::Refused(refusal) => count_refused(refusal, sums),
     }

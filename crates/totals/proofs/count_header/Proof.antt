@@ -8,7 +8,6 @@ pub count-header-spec : {M : Type 1} → statement M
 count-header-spec =
     tie.close
     (tie.spec
-    (λ c. search (needs, laws))
     (λ c κs. search (needs, laws))
     (λ c. search (needs, laws))
     (λ c κs. search (needs, laws))
