@@ -1,9 +1,10 @@
-"""The notation of definition-texts.txt and tidied-texts.txt, read.
+"""The notation of definition-texts.txt, tidied-texts.txt and shown-values.txt, read.
 
-A line of the first is `WORD | TEXT | ANSWER | WHY`, one of the second `CAP | TEXT | TIDIED | WHY`; an
-empty line or one that starts with # is none. In TEXT and TIDIED, \\t, \\n, \\\\ and \\xHH are single
-bytes, {N*...} is what stands in it N times over (it may hold others), and every other sign is the
-byte that it is. TIDIED may be a refusal instead.
+A line of the first is `WORD | TEXT | ANSWER | WHY`, one of the second `CAP | TEXT | TIDIED | WHY`, one
+of the third `WORD | BYTES | SHOWN | WHY`; an empty line or one that starts with # is none. In TEXT,
+TIDIED, BYTES and SHOWN, \\t, \\n, \\\\ and \\xHH are single bytes, {N*...} is what stands in it N times
+over (it may hold others), and every other sign is the byte that it is. TIDIED may be a refusal
+instead.
 """
 
 import pathlib
@@ -11,20 +12,20 @@ from typing import NamedTuple
 
 FILE = pathlib.Path(__file__).parent / "definition-texts.txt"
 TIDIED = pathlib.Path(__file__).parent / "tidied-texts.txt"
+SHOWN = pathlib.Path(__file__).parent / "shown-values.txt"
 
 
 class Vector(NamedTuple):
     file: pathlib.Path
     line: int
     word: str
-    numbers: str
-    text: bytes
+    asked: str
     answer: str
     why: str
 
     @property
     def request(self):
-        return f"{self.word} {self.numbers}{hexed(self.text)}"
+        return f"{self.word} {self.asked}"
 
 
 def hexed(text):
@@ -67,12 +68,28 @@ def parted(file):
             yield number, line.split(" | ")
 
 
+# The texts by which shown-values.txt asks: an ascii parameter of all bytes, and behind a byte a field
+# of nine, which is shown in digits.
+ASCII = b"Q\t0\tARRAY\ta\t-\t-\nA\t255\t1\n"
+NINE_BYTES = b"B\t0\nP\t0\t0\t8\tHEX\tn\t-\t-\t-\nP\t0\t1\t72\tHEX\tx\t-\t-\t-\nH\t0\t0\t0000\th\nV\tn\t0\n"
+
+
+def asked_of_value(word, given):
+    """What stands behind the word of a request: mode or none, CAP, ROW, region and speed or none, the text, and the bytes."""
+    if word == "commandvalue":
+        return f"0 64 0 {hexed(ASCII)} {hexed(bytes([0x20, 0x01]) + given)}"
+    return f"64 1 0 0 {hexed(NINE_BYTES)} {hexed(bytes([0]) + given)}"
+
+
 def vectors(words=None):
-    """The vectors of both files; of these request words, where words are given."""
+    """The vectors of all files; of these request words, where words are given."""
     for number, (word, notation, answer, why) in parted(FILE):
         if words is None or word in words:
-            yield Vector(FILE, number, word, "", read(notation), answer, why)
+            yield Vector(FILE, number, word, hexed(read(notation)), answer, why)
     if words is None or "tidy" in words:
         for number, (cap, notation, tidied, why) in parted(TIDIED):
             answer = tidied if tidied.startswith("refused ") else f"tidy {hexed(read(tidied))}"
-            yield Vector(TIDIED, number, "tidy", f"{cap} ", read(notation), answer, why)
+            yield Vector(TIDIED, number, "tidy", f"{cap} {hexed(read(notation))}", answer, why)
+    for number, (word, notation, shown, why) in parted(SHOWN):
+        if words is None or word in words:
+            yield Vector(SHOWN, number, word, asked_of_value(word, read(notation)), f"{word} {hexed(read(shown))}", why)

@@ -36,7 +36,6 @@ pub fn sample(seed: u64, kinds: &str) -> Result<Vec<Vec<u8>>, String> {
     requests.extend(about_nodes());
     requests.extend(about_command_nodes());
     requests.extend(about_listings());
-    requests.extend(about_text());
     lines.extend(requests.iter().map(Request::line));
 
     let generator = Generator::new(seed, kinds)?;
@@ -620,56 +619,6 @@ fn about_listings() -> Vec<Request> {
     let mpdu = [&[9, 0x12][..], &[0xA5; 12]].concat();
     let refused = [vec![], vec![9], vec![7, 0x12, 0], vec![0; 2_049]].map(|mpdu| listing(Vec::new(), mpdu));
     listings.into_iter().map(|l| listing(l, mpdu.clone())).chain(refused).collect()
-}
-
-/// The rows of Table 3-7 of the Unicode Standard: how many bytes a sequence has behind its first, and the bounds of the first two.
-const SEQUENCES: &[(usize, (u8, u8), (u8, u8))] = &[
-    (0, (0x00, 0x7F), (0x80, 0xBF)),
-    (1, (0xC2, 0xDF), (0x80, 0xBF)),
-    (2, (0xE0, 0xE0), (0xA0, 0xBF)),
-    (2, (0xE1, 0xEC), (0x80, 0xBF)),
-    (2, (0xED, 0xED), (0x80, 0x9F)),
-    (2, (0xEE, 0xEF), (0x80, 0xBF)),
-    (3, (0xF0, 0xF0), (0x90, 0xBF)),
-    (3, (0xF1, 0xF3), (0x80, 0xBF)),
-    (3, (0xF4, 0xF4), (0x80, 0x8F)),
-];
-
-/// Ascii of each row of the table, from its first sequence and from its last: whole, cut short at every byte, and with a byte one below and one above
-/// its bounds at each place. The same bytes as a field of a header, which has no ascii.
-fn about_text() -> Vec<Request> {
-    let mut texts: Vec<Vec<u8>> = Vec::new();
-    for &(more, first, second) in SEQUENCES {
-        let bounds: Vec<(u8, u8)> = [first, second, (0x80, 0xBF), (0x80, 0xBF)][..=more].to_vec();
-        let low: Vec<u8> = bounds.iter().map(|bound| bound.0).collect();
-        let high: Vec<u8> = bounds.iter().map(|bound| bound.1).collect();
-        for whole in [low, high] {
-            texts.extend((1..=whole.len()).map(|length| whole[..length].to_vec()));
-            for (place, bound) in bounds.iter().enumerate() {
-                for byte in [bound.0.wrapping_sub(1), bound.1.wrapping_add(1)] {
-                    let mut other = whole.clone();
-                    other[place] = byte;
-                    texts.push(other);
-                }
-            }
-        }
-    }
-    let command = |text: &[u8]| Request::Commandvalue {
-        offsets: Offsets::Answered,
-        cap: 64,
-        row: 0,
-        text: b"Q\t0\tARRAY\ta\t-\t-\nA\t255\t1\n".to_vec(),
-        payload: [&[0x20, 0x01, b'<'][..], text, b">\0"].concat(),
-    };
-    let header = |text: &[u8]| Request::Headervalue {
-        cap: 64,
-        row: 1,
-        region: 0,
-        speed: 0,
-        text: b"B\t0\nP\t0\t0\t8\tHEX\tn\t-\t-\t-\nP\t0\t1\t72\tHEX\tx\t-\t-\t-\nH\t0\t0\t0000\th\nV\tn\t0\n".to_vec(),
-        mpdu: [&[0][..], text, &[0x41; 9]].concat(),
-    };
-    texts.iter().flat_map(|text| [command(text), header(text)]).collect()
 }
 
 /// A count of 253 and as many repetitions: then b is entry 254, by which c has its length, and c is
