@@ -1,12 +1,9 @@
 -- Laws of lines that are written. Assumes nothing.
 use mathlib.Core.Path.{_≡_, refl, sym, ap, _∙_}
-use mathlib.Core.Bool.{Bool, true, false, cond}
 use mathlib.Core.List.{List, [], _∷_, _++_, append-nil, append-assoc}
-use Prim.Native.Nat.{ℕ, zero, suc, _+_, _-_, _*_, _≤_, _<_}
-use native.Mathlib.Nat.{add-zero}
+use Prim.Native.Nat.{ℕ, suc, _+_, _-_, _*_, _^_, _≤_, _<_}
 use native.Mathlib.Omega.{arith}
-use lib.Dec.{eqb}
-use lib.ListN.{length, getD, set, take, drop, replicate, length-append, length-drop, length-set}
+use lib.ListN.{length, getD, set, take, drop, length-append, length-drop}
 use lib.Seq.{sets, sets-eq, length-sets, take-at, drop-drop, length-take-le}
 use borrow.Author.Tests.{eq-eqb, ne-eqb}
 use Rattle.laws.proofs.Lists.{next, done, tail}
@@ -14,38 +11,41 @@ use Rattle.rows.specs.Rows.{put}
 use Rattle.rows.proofs.Laws.{sets-append, put-room}
 use Rattle.rows.proofs.Parts.{length-put}
 use Rattle.text.specs.Print.{Every, shown}
-use Rattle.listing_text.specs.Listing.{rowWidth, most, stopOf, lineOf, textOf, closed}
-use Rattle.listing_text.specs.Steps.{Shows, Small, PutsNumber, Writes, stopBefore, rowsIn, puts, Puts, PutsAll}
-use Rattle.listing_text.specs.declared.numbers.Digits.{Digits}
+use Rattle.numerals.specs.Numerals.{decimal, Spells}
+use Rattle.numerals.proofs.Shown.{decimal-shown}
+use Rattle.listing_text.specs.Listing.{rowWidth, stopOf, lineOf, textOf, closed}
+use Rattle.listing_text.specs.Steps.{Small, PutsNumber, Writes, stopBefore, rowsIn, puts, Puts, PutsAll}
 
 -- ---- a number and the byte behind it
-module _ (n stop : ℕ) (line : List ℕ) (at : ℕ) (r : Digits) (shows : Shows n r) (room : at + 21 ≤ length line) where
-  long : length (shown n) ≡ 20 - r .start
-  long = ap length (sym (shows .says)) ∙ length-drop (r .start) (r .bytes) ∙ rw (shows .size) refl
+module _ (n stop : ℕ) (line : List ℕ) (at start : ℕ) (bytes : List ℕ) (spells : Spells 2 (decimal n) start bytes) (room : at + 21 ≤ length line)
+    (small : n < 2 ^ 64) where
+  said : drop start bytes ≡ shown n
+  said = spells .text ∙ decimal-shown n small
 
-  pub number-put : (line₁ : List ℕ) → line₁ ≡ put line at (take (20 - r .start) (drop (r .start) (r .bytes)))
-      → PutsNumber n stop line at (at + (20 - r .start) + 1) (set line₁ (at + (20 - r .start)) stop)
+  long : length (shown n) ≡ 22 - start
+  long = ap length (sym said) ∙ length-drop start bytes ∙ rw (spells .all) refl
+
+  pub number-put : (line₁ : List ℕ) → line₁ ≡ put line at (take (22 - start) (drop start bytes))
+      → PutsNumber n stop line at (at + (22 - start) + 1) (set line₁ (at + (22 - start)) stop)
   number-put line₁ e =
       let is : line₁ ≡ sets line at (shown n) =
-      e ∙ ap (put line at) (ap (λ (k : ℕ). take (k - r .start) (drop (r .start) (r .bytes))) (sym (shows .size)) ∙ tail (r .bytes) (r .start)
-      ∙ shows .says)
-      ∙ (put-room line (shown n) at (omega (arith, long))) in
+      e ∙ ap (put line at) (ap (λ (k : ℕ). take (k - start) (drop start bytes)) (sym (spells .all)) ∙ tail bytes start ∙ said)
+      ∙ (put-room line (shown n) at (omega (arith, long, spells .before))) in
       record {
         says = rw (is, ← long) (sym (sets-append line at (shown n) (stop ∷ [])));
         count = omega (arith, length-append (shown n) (stop ∷ []), long);
-        few = omega (arith, shows .inside);
-        fits = shows .fits;
+        few = omega (arith, spells .before);
+        fits = omega arith;
       }
 
-  pub number-room : (line₁ : List ℕ) → line₁ ≡ put line at (take (20 - r .start) (drop (r .start) (r .bytes)))
-      → at + (20 - r .start) < length line₁
-  number-room line₁ e = omega (arith, ap length e ∙ length-put line at (take (20 - r .start) (drop (r .start) (r .bytes))))
+  pub number-room : (line₁ : List ℕ) → line₁ ≡ put line at (take (22 - start) (drop start bytes)) → at + (22 - start) < length line₁
+  number-room line₁ e = omega (arith, ap length e ∙ length-put line at (take (22 - start) (drop start bytes)), spells .before)
 
-pub digits-start : (n : ℕ) (r : Digits) → Shows n r → r .start ≤ length (r .bytes)
-digits-start n r s = omega (arith, s .inside, s .size)
+pub digits-start : (n start : ℕ) (bytes : List ℕ) → Spells 2 (decimal n) start bytes → start ≤ length bytes
+digits-start n start bytes s = s .within
 
-pub digits-inside : (n : ℕ) (r : Digits) → Shows n r → r .start < 20
-digits-inside n r s = s .inside
+pub digits-inside : (n start : ℕ) (bytes : List ℕ) → Spells 2 (decimal n) start bytes → start ≤ 22
+digits-inside n start bytes s = omega (arith, s .within, s .all)
 
 -- ---- the byte behind a number
 pub stop-last : (n : ℕ) → n ≡ 0 → 10 ≡ stopBefore n

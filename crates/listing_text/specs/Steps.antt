@@ -1,6 +1,6 @@
 -- What the steps of reading, writing and comparing a listing answer.
-use Prim.Native.Nat.{ℕ, zero, suc, _+_, _≤_, _<_, _*_}
-use mathlib.Core.Bool.{Bool, cond, _&&_}
+use Prim.Native.Nat.{ℕ, zero, suc, _+_, _≤_, _*_}
+use mathlib.Core.Bool.{cond, _&&_}
 use mathlib.Core.Path.{_≡_}
 use mathlib.Core.List.{List, [], _∷_, _++_}
 use lib.Dec.{leb, eqb}
@@ -9,7 +9,6 @@ use lib.Seq.{sets}
 use Rattle.rows.specs.Rows.{put}
 use Rattle.text.specs.Text.{within, upTo, worth}
 use Rattle.text.specs.Print.{Every, shown}
-use Rattle.listing_text.specs.declared.numbers.Digits.{Digits}
 use Rattle.listing_text.specs.declared.numbers.Value.{Value}
 use Rattle.listing_text.specs.declared.numbers.Value.the-variants.{Is, Not}
 use Rattle.listing_text.specs.Listing.{rowWidth, most, lineOf, textOf, begins}
@@ -21,13 +20,6 @@ valueOf l = cond (upTo most l) (Is (worth 0 l)) Not
 -- the number that digits say after digits that are worth v
 abbrev pub digitsFrom : ℕ → List ℕ → Value
 digitsFrom v l = cond (within 48 57 l && leb (worth v l) most) (Is (worth v l)) Not
-
--- the digits of n
-pub record Shows (n : ℕ) (r : Digits) : Type 0 where
-  pub says : drop (r .start) (r .bytes) ≡ shown n
-  pub inside : r .start < 20
-  pub size : length (r .bytes) ≡ 20
-  pub fits : n ≤ most
 
 -- numbers that a listing can say
 abbrev pub Small : List ℕ → Type 0

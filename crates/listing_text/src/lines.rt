@@ -1,5 +1,6 @@
 // Lines of a listing, written.
-use crate::numbers::digits_of;
+use numerals::ROOM;
+use numerals::decimal;
 ghost use mathlib.Core.Path.{_≡_};
 ghost use Prim.Native.Nat.{_+_, _*_, _≤_, _<_};
 ghost use lib.ListN.{length};
@@ -35,11 +36,10 @@ fn put_number(n: u64, stop: u8, line: &mut [u8], at: usize) -> usize
     requires { ⌜ at + 21 ≤ length (now line) ⌝ }
     ensures { λ r. ⌜ PutsNumber n stop (now (line .entry)) at r (now (line .exit)) ⌝ }
 {
-    let digits = digits_of(n);
-    let bytes = digits.bytes;
-    let start = digits.start;
-    put_bytes(line, at, &bytes[start..]);
-    let end = at + (20 - start);
+    let mut digits = [0u8; ROOM];
+    let start = decimal(n, &mut digits);
+    put_bytes(line, at, &digits[start..]);
+    let end = at + (ROOM - start);
     line[end] = stop;
     end + 1
 }

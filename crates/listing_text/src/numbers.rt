@@ -1,17 +1,11 @@
-// Numbers up to 2^64 - 1 in decimal, read and written.
+// Numbers up to 2^64 - 1 in decimal, read.
 ghost use mathlib.Core.Path.{_≡_};
-ghost use Rattle.listing_text.specs.Steps.{valueOf, digitsFrom, Shows};
+ghost use Rattle.listing_text.specs.Steps.{valueOf, digitsFrom};
 
 // What bytes say as a number.
 pub enum Value {
     Is(u64),
     Not,
-}
-
-// The digits of a number: these bytes, from the start on.
-pub struct Digits {
-    pub bytes: [u8; 20],
-    pub start: usize,
 }
 
 // The number that s says.
@@ -55,20 +49,4 @@ fn read_digits(s: &[u8]) -> Value
         i += 1;
     }
     Value::Is(v)
-}
-
-// The digits of n.
-pub fn digits_of(n: u64) -> Digits
-    ensures { λ r. ⌜ Shows n r ⌝ }
-{
-    let mut bytes = [0u8; 20];
-    let mut v = n;
-    let mut start: usize = 19;
-    while 10 <= v {
-        bytes[start] = b'0' + (v % 10) as u8;
-        start -= 1;
-        v = v / 10;
-    }
-    bytes[start] = b'0' + v as u8;
-    Digits { bytes, start }
 }
