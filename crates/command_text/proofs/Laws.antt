@@ -1,65 +1,84 @@
 -- Laws of the command text: how a line is read. Assumes nothing.
 use mathlib.Core.Path.{_≡_, refl, sym, ap, _∙_}
-use mathlib.Core.Bool.{Bool, true, false, cond, _&&_}
-use mathlib.Core.List.{List, [], _∷_}
+use mathlib.Core.Bool.{Bool, true, false, _&&_}
+use mathlib.Core.List.{List}
 use mathlib.Core.Option.{Option, some}
-use Prim.Native.Nat.{ℕ, zero, suc, _≤_, _<_}
+use Prim.Native.Nat.{ℕ}
 use native.Mathlib.Omega.{arith}
 use lib.Dec.{eqb}
-use lib.ListN.{length, getD}
+use lib.ListN.{length}
 use borrow.Author.Tests.{ne-eqb}
 use Rattle.text.specs.Text.{field, same, upTo, optionalUpTo, optionalValue, name}
 use Rattle.text.specs.Text as text
-use Rattle.text.specs.Scan.{wordIn}
 use Rattle.text.specs.Place.{kindOf, cells}
 use Rattle.text.specs.declared.Line.{Line}
 use Rattle.text.proofs.Laws.{cells-length}
 use Rattle.text.proofs.Tests.{and-left, and-right, count-of, value-of, optional-value-of}
 use Rattle.command_kept.specs.declared.Form.{Form}
 use Rattle.command_kept.specs.declared.Form.the-variants.{Param, Group, Item, Bad}
-use Rattle.command_text.specs.Form.{Record, group, item, variant, bitField, typeName, types, typeAmong, typeOf, known, paramWords, paramCondition}
-use Rattle.command_text.specs.Form.{paramFields}
+use Rattle.command_text.specs.Form.{Record, group, item, variant, bitField, typeName, lastTypes, lateTypes, typeAmong, typeOf, known}
+use Rattle.command_text.specs.Form.{paramWords, paramCondition, paramFields}
 use Rattle.command_text.specs.Form.{groupFields, groupForm, variantFields, variantForm, arrayForm, namedForm, bitsFields, bitsForm, bitmaskForm}
 use Rattle.command_text.specs.Form.{groupOf, sizeOf, bitsOf, ofType, said, paramSaid, form}
 use Rattle.command_text.specs.Shape.{tagged, shape}
 use Rattle.command_text.specs.declared.ParamType.{ParamType}
-use Rattle.command_text.specs.declared.ParamType.the-variants.{Byte}
+use Rattle.command_text.specs.declared.ParamType.the-variants as kind
 use Rattle.command_text.specs.declared.Typed.{Typed}
 use Rattle.command_text.specs.declared.Typed.the-variants.{Is, Not}
 
 -- ---- the names of types
-abbrev words : List ParamType → List (List ℕ)
-words [] = []
-words (type ∷ others) = typeName type ∷ words others
+module _ (s : List ℕ) (a : Bool) (is-a : a ≡ same s (typeName kind.Variant)) where
+  pub type-variant : a ≡ true → Is kind.Variant ≡ typeAmong lastTypes s
+  type-variant e = rw (sym is-a ∙ e)
 
-module _ (s : List ℕ) (d : ParamType) where
-  found : (these : List ParamType) (k : ℕ) → k ≡ wordIn (words these) s → k < length these → Is (getD these k d) ≡ typeAmong these s
-  found [] k is h = absurd (omega arith)
-  found (type ∷ others) k is h = go (same s (typeName type)) k is h (found others)
-    where
-      go : (b : Bool) (k : ℕ) → k ≡ cond b 0 (suc (wordIn (words others) s)) → k < suc (length others)
-          → ((k : ℕ) → k ≡ wordIn (words others) s → k < length others → Is (getD others k d) ≡ typeAmong others s)
-          → Is (getD (type ∷ others) k d) ≡ cond b (Is type) (typeAmong others s)
-      go true k e h ih = rw e
-      go false zero e h ih = absurd (omega arith)
-      go false (suc k) e h ih = ih k (omega arith) (omega arith)
+  module _ (b : Bool) (is-b : b ≡ same s (typeName kind.Bitmask)) where
+    pub type-bitmask : a ≡ false → b ≡ true → Is kind.Bitmask ≡ typeAmong lastTypes s
+    type-bitmask ea e = rw (sym is-a ∙ ea, sym is-b ∙ e)
 
-  unfound : (these : List ParamType) → length these ≤ wordIn (words these) s → Not ≡ typeAmong these s
-  unfound [] h = refl
-  unfound (type ∷ others) h = go (same s (typeName type)) h (unfound others)
-    where
-      go : (b : Bool) → suc (length others) ≤ cond b 0 (suc (wordIn (words others) s))
-          → (length others ≤ wordIn (words others) s → Not ≡ typeAmong others s)
-          → Not ≡ cond b (Is type) (typeAmong others s)
-      go true h ih = absurd (omega arith)
-      go false h ih = ih (omega arith)
+    module _ (c : Bool) (is-c : c ≡ same s (typeName kind.MultiArray)) where
+      pub type-multi-array : a ≡ false → b ≡ false → c ≡ true → Is kind.MultiArray ≡ typeAmong lastTypes s
+      type-multi-array ea eb e = rw (sym is-a ∙ ea, sym is-b ∙ eb, sym is-c ∙ e)
 
-module _ (s : List ℕ) (k : ℕ) (is : k ≡ wordIn (words types) s) where
-  pub type-is : (d : ParamType) → k < 11 → Is (getD types k d) ≡ typeOf s
-  type-is d h = found s d types k is h
+      pub type-none : a ≡ false → b ≡ false → c ≡ false → Not ≡ typeAmong lastTypes s
+      type-none ea eb ec = rw (sym is-a ∙ ea, sym is-b ∙ eb, sym is-c ∙ ec)
 
-  pub type-none : 11 ≤ k → Not ≡ typeOf s
-  type-none h = unfound s Byte types (rw is at h)
+module _ (s : List ℕ) (a : Bool) (is-a : a ≡ same s (typeName kind.Word)) where
+  pub type-word : a ≡ true → Is kind.Word ≡ typeAmong lateTypes s
+  type-word e = rw (sym is-a ∙ e)
+
+  module _ (b : Bool) (is-b : b ≡ same s (typeName kind.Bit24)) where
+    pub type-bit24 : a ≡ false → b ≡ true → Is kind.Bit24 ≡ typeAmong lateTypes s
+    type-bit24 ea e = rw (sym is-a ∙ ea, sym is-b ∙ e)
+
+    module _ (c : Bool) (is-c : c ≡ same s (typeName kind.Dword)) where
+      pub type-dword : a ≡ false → b ≡ false → c ≡ true → Is kind.Dword ≡ typeAmong lateTypes s
+      type-dword ea eb e = rw (sym is-a ∙ ea, sym is-b ∙ eb, sym is-c ∙ e)
+
+      module _ (d : Bool) (is-d : d ≡ same s (typeName kind.Array)) where
+        pub type-array : a ≡ false → b ≡ false → c ≡ false → d ≡ true → Is kind.Array ≡ typeAmong lateTypes s
+        type-array ea eb ec e = rw (sym is-a ∙ ea, sym is-b ∙ eb, sym is-c ∙ ec, sym is-d ∙ e)
+
+        pub type-last : (r : Typed) → r ≡ typeAmong lastTypes s → a ≡ false → b ≡ false → c ≡ false → d ≡ false → r ≡ typeAmong lateTypes s
+        type-last r is ea eb ec ed = is ∙ rw (sym is-a ∙ ea, sym is-b ∙ eb, sym is-c ∙ ec, sym is-d ∙ ed)
+
+module _ (s : List ℕ) (a : Bool) (is-a : a ≡ same s (typeName kind.Byte)) where
+  pub type-byte : a ≡ true → Is kind.Byte ≡ typeOf s
+  type-byte e = rw (sym is-a ∙ e)
+
+  module _ (b : Bool) (is-b : b ≡ same s (typeName kind.StructByte)) where
+    pub type-struct-byte : a ≡ false → b ≡ true → Is kind.StructByte ≡ typeOf s
+    type-struct-byte ea e = rw (sym is-a ∙ ea, sym is-b ∙ e)
+
+    module _ (c : Bool) (is-c : c ≡ same s (typeName kind.Const)) where
+      pub type-const : a ≡ false → b ≡ false → c ≡ true → Is kind.Const ≡ typeOf s
+      type-const ea eb e = rw (sym is-a ∙ ea, sym is-b ∙ eb, sym is-c ∙ e)
+
+      module _ (d : Bool) (is-d : d ≡ same s (typeName kind.Marker)) where
+        pub type-marker : a ≡ false → b ≡ false → c ≡ false → d ≡ true → Is kind.Marker ≡ typeOf s
+        type-marker ea eb ec e = rw (sym is-a ∙ ea, sym is-b ∙ eb, sym is-c ∙ ec, sym is-d ∙ e)
+
+        pub type-late : (r : Typed) → r ≡ typeAmong lateTypes s → a ≡ false → b ≡ false → c ≡ false → d ≡ false → r ≡ typeOf s
+        type-late r is ea eb ec ed = is ∙ rw (sym is-a ∙ ea, sym is-b ∙ eb, sym is-c ∙ ec, sym is-d ∙ ed)
 
 module _ (r a : Typed) (says : r ≡ a) where
   pub known-is : (type : ParamType) → r ≡ Is type → true ≡ known a
@@ -71,7 +90,24 @@ module _ (r a : Typed) (says : r ≡ a) where
 pub of-type : (s f : List ℕ) (r : Bool) → s ≡ f → r ≡ known (typeOf s) → r ≡ known (typeOf f)
 of-type s f r part e = rw part at e
 
-pub ruleset type-laws = (type-is, type-none, known-is, known-not)
+pub ruleset type-laws = (
+  type-variant,
+  type-bitmask,
+  type-multi-array,
+  type-none,
+  type-word,
+  type-bit24,
+  type-dword,
+  type-array,
+  type-last,
+  type-byte,
+  type-struct-byte,
+  type-const,
+  type-marker,
+  type-late,
+  known-is,
+  known-not,
+)
 
 -- ---- a line of n fields that has a form, or not
 module _ (t : List ℕ) (l : Line) (n : ℕ) (fields : Bool) (x : Option Record) where

@@ -6,11 +6,12 @@ use refusal::Refusal;
 use text::Line;
 use text::Place;
 use text::Verdict;
+use text::is_same;
 ghost use mathlib.Core.Path.{_≡_};
 ghost use Rattle.text.specs.Text.{field};
 ghost use Rattle.text.specs.Judge.{Checks};
 ghost use Rattle.text.specs.Place.{kindOf, cells, Marked, Has};
-ghost use Rattle.command_text.specs.Form.{typeOf, known, paramWords, paramCondition, paramFields, groupFields};
+ghost use Rattle.command_text.specs.Form.{typeAmong, lateTypes, lastTypes, typeOf, known, paramWords, paramCondition, paramFields, groupFields};
 ghost use Rattle.command_text.specs.Form.{variantFields, bitsFields, groupForm, variantForm, arrayForm, namedForm, bitsForm, bitmaskForm, paramSaid};
 ghost use Rattle.command_text.specs.Form.{said, form, group, item, variant, groupOf, sizeOf, bitField, bitsOf};
 ghost use Rattle.command_text.specs.Rules.{rules};
@@ -38,31 +39,58 @@ pub enum Typed {
     Not,
 }
 
+// The type that s names, of the last three.
+fn read_last_type(s: &[u8]) -> Typed
+    ensures { λ r. ⌜ r ≡ typeAmong lastTypes (now (s .entry)) ⌝ }
+{
+    if is_same(s, b"VARIANT") {
+        return Typed::Is(ParamType::Variant);
+    }
+    if is_same(s, b"BITMASK") {
+        return Typed::Is(ParamType::Bitmask);
+    }
+    if is_same(s, b"MULTI_ARRAY") {
+        return Typed::Is(ParamType::MultiArray);
+    }
+    Typed::Not
+}
+
+// The type that s names, of those behind the first four.
+fn read_late_type(s: &[u8]) -> Typed
+    ensures { λ r. ⌜ r ≡ typeAmong lateTypes (now (s .entry)) ⌝ }
+{
+    if is_same(s, b"WORD") {
+        return Typed::Is(ParamType::Word);
+    }
+    if is_same(s, b"BIT_24") {
+        return Typed::Is(ParamType::Bit24);
+    }
+    if is_same(s, b"DWORD") {
+        return Typed::Is(ParamType::Dword);
+    }
+    if is_same(s, b"ARRAY") {
+        return Typed::Is(ParamType::Array);
+    }
+    read_last_type(s)
+}
+
 // The type that s names.
 pub fn read_type(s: &[u8]) -> Typed
     ensures { λ r. ⌜ r ≡ typeOf (now (s .entry)) ⌝ }
 {
-    let types = [
-        ParamType::Byte,
-        ParamType::StructByte,
-        ParamType::Const,
-        ParamType::Marker,
-        ParamType::Word,
-        ParamType::Bit24,
-        ParamType::Dword,
-        ParamType::Array,
-        ParamType::Variant,
-        ParamType::Bitmask,
-        ParamType::MultiArray,
-    ];
-    let k = text::find_word(
-        b"BYTE STRUCT_BYTE CONST MARKER WORD BIT_24 DWORD ARRAY VARIANT BITMASK MULTI_ARRAY",
-        s,
-    );
-    if k < 11 {
-        return Typed::Is(types[k]);
+    if is_same(s, b"BYTE") {
+        return Typed::Is(ParamType::Byte);
     }
-    Typed::Not
+    if is_same(s, b"STRUCT_BYTE") {
+        return Typed::Is(ParamType::StructByte);
+    }
+    if is_same(s, b"CONST") {
+        return Typed::Is(ParamType::Const);
+    }
+    if is_same(s, b"MARKER") {
+        return Typed::Is(ParamType::Marker);
+    }
+    read_late_type(s)
 }
 
 pub fn is_type(s: &[u8]) -> bool

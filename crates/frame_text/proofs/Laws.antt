@@ -1,17 +1,15 @@
 -- Laws of the frame text: how a line is read. Assumes nothing.
 use mathlib.Core.Path.{_≡_, refl, sym, ap, _∙_}
 use mathlib.Core.Bool.{Bool, true, false, cond, not, _&&_}
-use mathlib.Core.List.{List, [], _∷_}
+use mathlib.Core.List.{List}
 use mathlib.Core.Option.{none, some}
-use Prim.Native.Nat.{ℕ, zero, suc, _≤_, _<_}
+use Prim.Native.Nat.{ℕ}
 use native.Mathlib.Omega.{arith}
 use lib.Dec.{leb}
-use lib.ListN.{length, getD}
 use mir.Syntax.{w8}
 use mir.Val.{Fits}
 use borrow.Author.Tests.{ne-eqb}
 use Rattle.text.specs.Text.{field, same, worth, decimal, number, missing}
-use Rattle.text.specs.Scan.{wordIn}
 use Rattle.text.specs.Place.{kindOf, cells}
 use Rattle.text.specs.declared.Line.{Line}
 use Rattle.text.specs.declared.Number.{Number}
@@ -20,49 +18,46 @@ use Rattle.text.proofs.Laws.{cells-length, number-most}
 use Rattle.text.proofs.Tests.{and-left, and-right, count-of}
 use Rattle.frame_kept.specs.declared.Form.{Form}
 use Rattle.frame_kept.specs.declared.Form.the-variants.{Frequency, Base, Header, Param, Validation, Set, Entry, Bad}
-use Rattle.frame_text.specs.Form.{Record, typeName, types, typeAmong, known, typeOf, flags, names, value, frequencyForm, baseForm, headerForm}
+use Rattle.frame_text.specs.Form.{Record, typeName, lateTypes, typeAmong, known, typeOf, flags, names, value, frequencyForm, baseForm, headerForm}
 use Rattle.frame_text.specs.Form.{paramNumbers, paramWords}
 use Rattle.frame_text.specs.Form.{paramForm, validationForm, setForm, entryForm, ofType, said, paramSaid, form}
 use Rattle.frame_text.specs.Rules.{isGiven}
 use Rattle.frame_text.specs.Shape.{least, levelOf, tagged, shape}
 use Rattle.frame_text.specs.declared.ParamType.{ParamType}
-use Rattle.frame_text.specs.declared.ParamType.the-variants.{Hex}
+use Rattle.frame_text.specs.declared.ParamType.the-variants as kind
 use Rattle.frame_text.specs.declared.Typed.{Typed}
 use Rattle.frame_text.specs.declared.Typed.the-variants.{Is, Not}
 
 -- ---- the names of types
-abbrev words : List ParamType → List (List ℕ)
-words [] = []
-words (type ∷ others) = typeName type ∷ words others
+module _ (s : List ℕ) (a : Bool) (is-a : a ≡ same s (typeName kind.NodeNumber)) where
+  pub type-node-number : a ≡ true → Is kind.NodeNumber ≡ typeAmong lateTypes s
+  type-node-number e = rw (sym is-a ∙ e)
 
-module _ (s : List ℕ) (d : ParamType) where
-  found : (these : List ParamType) (k : ℕ) → k ≡ wordIn (words these) s → k < length these → Is (getD these k d) ≡ typeAmong these s
-  found [] k is h = absurd (omega arith)
-  found (type ∷ others) k is h = go (same s (typeName type)) k is h (found others)
-    where
-      go : (b : Bool) (k : ℕ) → k ≡ cond b 0 (suc (wordIn (words others) s)) → k < suc (length others)
-          → ((k : ℕ) → k ≡ wordIn (words others) s → k < length others → Is (getD others k d) ≡ typeAmong others s)
-          → Is (getD (type ∷ others) k d) ≡ cond b (Is type) (typeAmong others s)
-      go true k e h ih = rw e
-      go false zero e h ih = absurd (omega arith)
-      go false (suc k) e h ih = ih k (omega arith) (omega arith)
+  module _ (b : Bool) (is-b : b ≡ same s (typeName kind.Boolean)) where
+    pub type-boolean : a ≡ false → b ≡ true → Is kind.Boolean ≡ typeAmong lateTypes s
+    type-boolean ea e = rw (sym is-a ∙ ea, sym is-b ∙ e)
 
-  unfound : (these : List ParamType) → length these ≤ wordIn (words these) s → Not ≡ typeAmong these s
-  unfound [] h = refl
-  unfound (type ∷ others) h = go (same s (typeName type)) h (unfound others)
-    where
-      go : (b : Bool) → suc (length others) ≤ cond b 0 (suc (wordIn (words others) s))
-          → (length others ≤ wordIn (words others) s → Not ≡ typeAmong others s)
-          → Not ≡ cond b (Is type) (typeAmong others s)
-      go true h ih = absurd (omega arith)
-      go false h ih = ih (omega arith)
+    module _ (c : Bool) (is-c : c ≡ same s (typeName kind.Bitmask)) where
+      pub type-bitmask : a ≡ false → b ≡ false → c ≡ true → Is kind.Bitmask ≡ typeAmong lateTypes s
+      type-bitmask ea eb e = rw (sym is-a ∙ ea, sym is-b ∙ eb, sym is-c ∙ e)
 
-module _ (s : List ℕ) (k : ℕ) (is : k ≡ wordIn (words types) s) where
-  pub type-is : (d : ParamType) → k < 6 → Is (getD types k d) ≡ typeOf s
-  type-is d h = found s d types k is h
+      pub type-none : a ≡ false → b ≡ false → c ≡ false → Not ≡ typeAmong lateTypes s
+      type-none ea eb ec = rw (sym is-a ∙ ea, sym is-b ∙ eb, sym is-c ∙ ec)
 
-  pub type-none : 6 ≤ k → Not ≡ typeOf s
-  type-none h = unfound s Hex types (rw is at h)
+module _ (s : List ℕ) (a : Bool) (is-a : a ≡ same s (typeName kind.Hex)) where
+  pub type-hex : a ≡ true → Is kind.Hex ≡ typeOf s
+  type-hex e = rw (sym is-a ∙ e)
+
+  module _ (b : Bool) (is-b : b ≡ same s (typeName kind.Number)) where
+    pub type-number : a ≡ false → b ≡ true → Is kind.Number ≡ typeOf s
+    type-number ea e = rw (sym is-a ∙ ea, sym is-b ∙ e)
+
+    module _ (c : Bool) (is-c : c ≡ same s (typeName kind.NumberSigned)) where
+      pub type-number-signed : a ≡ false → b ≡ false → c ≡ true → Is kind.NumberSigned ≡ typeOf s
+      type-number-signed ea eb e = rw (sym is-a ∙ ea, sym is-b ∙ eb, sym is-c ∙ e)
+
+      pub type-late : (r : Typed) → r ≡ typeAmong lateTypes s → a ≡ false → b ≡ false → c ≡ false → r ≡ typeOf s
+      type-late r is ea eb ec = is ∙ rw (sym is-a ∙ ea, sym is-b ∙ eb, sym is-c ∙ ec)
 
 module _ (r a : Typed) (says : r ≡ a) where
   pub known-is : (type : ParamType) → r ≡ Is type → true ≡ known a
@@ -71,7 +66,18 @@ module _ (r a : Typed) (says : r ≡ a) where
   pub known-not : r ≡ Not → false ≡ known a
   known-not e = rw (← says, e)
 
-pub ruleset type-laws = (type-is, type-none, known-is, known-not)
+pub ruleset type-laws = (
+  type-node-number,
+  type-boolean,
+  type-bitmask,
+  type-none,
+  type-hex,
+  type-number,
+  type-number-signed,
+  type-late,
+  known-is,
+  known-not,
+)
 
 -- what is said of a part of the text is said of the field that the part is
 module _ (s f : List ℕ) (part : s ≡ f) (r : Bool) where

@@ -68,9 +68,12 @@ typeName NodeNumber = 0x4e ∷ 0x4f ∷ 0x44 ∷ 0x45 ∷ 0x5f ∷ 0x4e ∷ 0x55
 typeName Boolean = 0x42 ∷ 0x4f ∷ 0x4f ∷ 0x4c ∷ 0x45 ∷ 0x41 ∷ 0x4e ∷ []
 typeName Bitmask = 0x42 ∷ 0x49 ∷ 0x54 ∷ 0x4d ∷ 0x41 ∷ 0x53 ∷ 0x4b ∷ []
 
--- T16: all of them
+-- T16: all of them, the last three apart
+abbrev pub lateTypes : List ParamType
+lateTypes = NodeNumber ∷ Boolean ∷ Bitmask ∷ []
+
 abbrev pub types : List ParamType
-types = Hex ∷ Number ∷ NumberSigned ∷ NodeNumber ∷ Boolean ∷ Bitmask ∷ []
+types = Hex ∷ Number ∷ NumberSigned ∷ lateTypes
 
 -- the type among these whose word is l
 abbrev pub typeAmong : List ParamType → List ℕ → Typed

@@ -7,12 +7,13 @@ use text::Line;
 use text::Number;
 use text::Place;
 use text::Verdict;
+use text::is_same;
 ghost use mathlib.Core.Path.{_≡_};
 ghost use mathlib.Core.Bool.{_&&_};
 ghost use Rattle.text.specs.Text.{field, number};
 ghost use Rattle.text.specs.Judge.{Checks};
 ghost use Rattle.text.specs.Place.{kindOf, cells, Marked, Has};
-ghost use Rattle.frame_text.specs.Form.{typeOf, known, flags, frequencyForm, baseForm, headerForm, paramNumbers, paramPaths};
+ghost use Rattle.frame_text.specs.Form.{typeAmong, lateTypes, typeOf, known, flags, frequencyForm, baseForm, headerForm, paramNumbers, paramPaths};
 ghost use Rattle.frame_text.specs.Form.{paramWords, paramSaid, validationForm, setForm, entryForm, form};
 ghost use Rattle.frame_text.specs.Rules.{rules};
 ghost use Rattle.frame_text.specs.Shape.{levelOf, shape, tagged};
@@ -33,23 +34,36 @@ pub enum Typed {
     Not,
 }
 
+// The type that s names, of those behind the first three.
+fn read_late_type(s: &[u8]) -> Typed
+    ensures { λ r. ⌜ r ≡ typeAmong lateTypes (now (s .entry)) ⌝ }
+{
+    if is_same(s, b"NODE_NUMBER") {
+        return Typed::Is(ParamType::NodeNumber);
+    }
+    if is_same(s, b"BOOLEAN") {
+        return Typed::Is(ParamType::Boolean);
+    }
+    if is_same(s, b"BITMASK") {
+        return Typed::Is(ParamType::Bitmask);
+    }
+    Typed::Not
+}
+
 // The type that s names.
 pub fn read_type(s: &[u8]) -> Typed
     ensures { λ r. ⌜ r ≡ typeOf (now (s .entry)) ⌝ }
 {
-    let types = [
-        ParamType::Hex,
-        ParamType::Number,
-        ParamType::NumberSigned,
-        ParamType::NodeNumber,
-        ParamType::Boolean,
-        ParamType::Bitmask,
-    ];
-    let k = text::find_word(b"HEX NUMBER NUMBER_SIGNED NODE_NUMBER BOOLEAN BITMASK", s);
-    if k < 6 {
-        return Typed::Is(types[k]);
+    if is_same(s, b"HEX") {
+        return Typed::Is(ParamType::Hex);
     }
-    Typed::Not
+    if is_same(s, b"NUMBER") {
+        return Typed::Is(ParamType::Number);
+    }
+    if is_same(s, b"NUMBER_SIGNED") {
+        return Typed::Is(ParamType::NumberSigned);
+    }
+    read_late_type(s)
 }
 
 pub fn is_type(s: &[u8]) -> bool
