@@ -4,6 +4,7 @@ pub mod Passing
 pub mod Names
 pub mod Candidates
 pub mod Symbols
+pub mod Seeking
 pub mod Printing
 pub mod Limits
 pub mod Leveled

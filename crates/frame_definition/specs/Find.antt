@@ -19,7 +19,7 @@ use Rattle.frame_text.specs.Form.{Param, Record, frequency, base, header, param
 use Rattle.frame_text.specs.Form as form
 use Rattle.frame_text.specs.Rules.{letter, owns, rules}
 use Rattle.frame_definition.specs.Definition.{Frame, below, params, validations, entries, frames, sets, definition, firstBase, isKey, some?}
-use Rattle.frame_definition.specs.Definition.{candidates, firstSet}
+use Rattle.frame_definition.specs.Definition.{candidates, firstSet, paramNumbered}
 use Rattle.frame_definition.specs.Names.{nameFrom, headerName}
 use Rattle.frame_definition.specs.declared.Found.{Found}
 use Rattle.frame_definition.specs.declared.Found.the-variants as found
@@ -128,6 +128,11 @@ pub record IsParam (t : List ℕ) (p q : Place) (n : ℕ) (f : Field) : Type 0 w
 abbrev pub FindsParam : List ℕ → Place → ℕ → NextParam → Type 0
 FindsParam t p n (nextParam.At f q) = IsParam t p q n f
 FindsParam t p n nextParam.Nothing = params n (below (from t p)) ≡ []
+
+-- the P line of number k
+abbrev pub FindsNumbered : List ℕ → ℕ → NextParam → Type 0
+FindsNumbered t k (nextParam.At f q) = paramNumbered t k ≡ some (meant t f)
+FindsNumbered t k nextParam.Nothing = paramNumbered t k ≡ none
 
 -- the next V line under the owner of what follows p
 pub record IsValidation (t : List ℕ) (p q : Place) (path : Part) (v : ℕ) : Type 0 where

@@ -1,5 +1,6 @@
 // The definition that an accepted frame text stands for. Counterpart of frame_definition/schema.rs.
 // Looking things up in an accepted frame text. Every loop reads on from a place where a line begins.
+mod numbered;
 mod sets;
 
 use frame_text::ParamType;
@@ -23,6 +24,7 @@ ghost use Rattle.frame_text.specs.Rules.{rules, verdict};
 ghost use Rattle.frame_definition.specs.Definition.{below, validations, definition, baseKey, isKey, some?};
 ghost use Rattle.frame_definition.specs.Find.{Good, oneMore, least, FindsBase, ownerKind, NextOf, HasNumbers, HasPaths, meant, FindsParam};
 ghost use Rattle.frame_definition.specs.Find.{FindsValidation, from, HasFlags, candidate, IsRead, Counted, FindsCandidate};
+pub use numbered::find_param;
 pub use sets::find_entry;
 pub use sets::find_set;
 
@@ -169,7 +171,7 @@ pub fn find_base(text: &[u8], key: u64) -> Found
 }
 
 // Does a line of this kind own what follows?
-fn is_owner(kind: u8) -> bool
+pub fn is_owner(kind: u8) -> bool
     ensures { λ r. ⌜ r ≡ ownerKind kind ⌝ }
 {
     if kind == b'F' {

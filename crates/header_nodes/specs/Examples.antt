@@ -3,6 +3,7 @@ use mathlib.Core.Path.{_≡_, refl}
 use mathlib.Core.List.{List, [], _∷_}
 use Prim.Native.Nat.{ℕ}
 use Rattle.refusal.specs.declared.Refusal.the-variants.{TooShort, MoreRows}
+use Rattle.frame_definition.specs.Definition.{paramNumbered}
 use Rattle.frame_definition.specs.Names.{headerName}
 use Rattle.bits.specs.Bits.{bitsAt}
 use Rattle.crc.specs.Crc.{right}
@@ -38,35 +39,35 @@ asked k room = ofDecoded text (0x05 ∷ 0x80 ∷ 0x03 ∷ []) (rowsOf text (0x05
 
 -- the mask: 1, 3 and 16
 mask : asked 0 3 ≡ Nodes 3
-unfolding answerOf rowsOf isMask paramType nodesOf nodesFrom told answer reading baseRead listed exists packed innerAt ordered insert widthOf valueAt
-    inFirst through firstNamed valueOf bitsAt trees kids ofLevel tableFrom innerTable numbersOf rowsEach right plus headerName
+unfolding answerOf rowsOf isMask paramType paramNumbered nodesOf nodesFrom told answer reading baseRead listed exists packed innerAt ordered insert widthOf
+    valueAt inFirst through firstNamed valueOf bitsAt trees kids ofLevel tableFrom innerTable numbersOf rowsEach right plus headerName
 mask = refl
 
 mask-nodes : nodesOf (maskAt (0x05 ∷ 0x80 ∷ 0x03 ∷ []) (rowsOf text (0x05 ∷ 0x80 ∷ 0x03 ∷ []) 0 0) 0) ≡ 1 ∷ 3 ∷ 16 ∷ []
-unfolding answerOf rowsOf isMask paramType nodesOf nodesFrom told answer reading baseRead listed exists packed innerAt ordered insert widthOf valueAt
-    inFirst through firstNamed valueOf bitsAt trees kids ofLevel tableFrom innerTable numbersOf rowsEach right plus headerName
+unfolding answerOf rowsOf isMask paramType paramNumbered nodesOf nodesFrom told answer reading baseRead listed exists packed innerAt ordered insert widthOf
+    valueAt inFirst through firstNamed valueOf bitsAt trees kids ofLevel tableFrom innerTable numbersOf rowsEach right plus headerName
 mask-nodes = refl
 
 -- a table of two nodes
 short : asked 0 2 ≡ Refused (MoreRows 3)
-unfolding answerOf rowsOf isMask paramType nodesOf nodesFrom told answer reading baseRead listed exists packed innerAt ordered insert widthOf valueAt
-    inFirst through firstNamed valueOf bitsAt trees kids ofLevel tableFrom innerTable numbersOf rowsEach right plus headerName
+unfolding answerOf rowsOf isMask paramType paramNumbered nodesOf nodesFrom told answer reading baseRead listed exists packed innerAt ordered insert widthOf
+    valueAt inFirst through firstNamed valueOf bitsAt trees kids ofLevel tableFrom innerTable numbersOf rowsEach right plus headerName
 short = refl
 
 -- HEX; a BITMASK of four bits; no row
 hex : asked 1 0 ≡ noSuchField 1
-unfolding answerOf rowsOf isMask paramType nodesOf nodesFrom told answer reading baseRead listed exists packed innerAt ordered insert widthOf valueAt
-    inFirst through firstNamed valueOf bitsAt trees kids ofLevel tableFrom innerTable numbersOf rowsEach right plus headerName
+unfolding answerOf rowsOf isMask paramType paramNumbered nodesOf nodesFrom told answer reading baseRead listed exists packed innerAt ordered insert widthOf
+    valueAt inFirst through firstNamed valueOf bitsAt trees kids ofLevel tableFrom innerTable numbersOf rowsEach right plus headerName
 hex = refl
 
 half : asked 2 0 ≡ noSuchField 2
-unfolding answerOf rowsOf isMask paramType nodesOf nodesFrom told answer reading baseRead listed exists packed innerAt ordered insert widthOf valueAt
-    inFirst through firstNamed valueOf bitsAt trees kids ofLevel tableFrom innerTable numbersOf rowsEach right plus headerName
+unfolding answerOf rowsOf isMask paramType paramNumbered nodesOf nodesFrom told answer reading baseRead listed exists packed innerAt ordered insert widthOf
+    valueAt inFirst through firstNamed valueOf bitsAt trees kids ofLevel tableFrom innerTable numbersOf rowsEach right plus headerName
 half = refl
 
 past : asked 3 0 ≡ noSuchField 3
-unfolding answerOf rowsOf isMask paramType nodesOf nodesFrom told answer reading baseRead listed exists packed innerAt ordered insert widthOf valueAt
-    inFirst through firstNamed valueOf bitsAt trees kids ofLevel tableFrom innerTable numbersOf rowsEach right plus headerName
+unfolding answerOf rowsOf isMask paramType paramNumbered nodesOf nodesFrom told answer reading baseRead listed exists packed innerAt ordered insert widthOf
+    valueAt inFirst through firstNamed valueOf bitsAt trees kids ofLevel tableFrom innerTable numbersOf rowsEach right plus headerName
 past = refl
 
 -- one byte: refusal 5 comes before 11

@@ -1,27 +1,26 @@
 -- BM2 (docs/RULES.md): which rows of a header are masks of nodes.
 use Prim.Native.Nat.{ℕ, _+_, _*_, _/_, _%_}
-use mathlib.Core.Bool.{Bool, true, false, cond, _&&_}
-use mathlib.Core.List.{List, [], _∷_}
+use mathlib.Core.Bool.{Bool, true, false, _&&_}
+use mathlib.Core.List.{List}
+use mathlib.Core.Option.{Option, none, some}
 use lib.Dec.{eqb}
 use lib.ListN.{getD, take, drop}
-use Rattle.text.specs.Text.{lines}
-use Rattle.text.specs.Records.{records}
-use Rattle.frame_text.specs.Form.{form}
+use Rattle.frame_text.specs.Form.{Param}
 use Rattle.frame_text.specs.declared.ParamType.{ParamType}
 use Rattle.frame_text.specs.declared.ParamType.the-variants.{Hex, Number, NumberSigned, NodeNumber, Boolean, Bitmask}
 use Rattle.frame_text.specs.declared.Typed.{Typed}
 use Rattle.frame_text.specs.declared.Typed.the-variants.{Is, Not}
-use Rattle.frame_definition.specs.Definition.{Numbered, params}
+use Rattle.frame_definition.specs.Definition.{paramNumbered}
 use Rattle.header_rules.specs.Table.{rowWidth}
 
--- the type of the P line of number k among these
-abbrev pub typeAmong : ℕ → List Numbered → Typed
-typeAmong k [] = Not
-typeAmong k (p ∷ ps) = cond (eqb (p .number) k) (Is (p .says .type)) (typeAmong k ps)
+-- the type of a P line, if there is one
+abbrev pub typeIn : Option Param → Typed
+typeIn none = Not
+typeIn (some p) = Is (p .type)
 
 -- BM2: the type of the P line of number k, as the text says it
 unfoldable pub paramType : List ℕ → ℕ → Typed
-paramType t k = typeAmong k (params 0 (records form (lines t)))
+paramType t k = typeIn (paramNumbered t k)
 
 abbrev pub isBitmask : ParamType → Bool
 isBitmask Hex = false

@@ -1,9 +1,10 @@
 // The nodes that a field of a header addresses: BM2 and BM4 of docs/RULES.md. The header is read into rows of its own, and the row that is asked
 // for must be a BITMASK of whole bytes at a whole byte.
+use frame_definition::NextParam;
+use frame_definition::find_param;
 use frame_text::ParamType;
 use frame_text::Typed;
 use frame_text::check_frame_text;
-use frame_text::read_type;
 use header::Decoded;
 use header::MOST_NUMBERS;
 use header::decode_accepted;
@@ -15,7 +16,6 @@ use header_rows::START;
 use node_mask::Listed;
 use node_mask::mask_nodes;
 use refusal::Refusal;
-use text::Place;
 use text::Verdict;
 ghost use mathlib.Core.Path.{_≡_};
 ghost use Prim.Native.Nat.{_+_, _*_, _≤_};
@@ -31,22 +31,13 @@ pub fn param_type(text: &[u8], number: u64) -> Typed
     requires { ⌜ verdict (now text) ≡ Accepted ⌝ }
     ensures { λ r. ⌜ r ≡ paramType (now (text .entry)) number ⌝ }
 {
-    let mut place = Place::start();
-    let mut n: u64 = 0;
-    while place.at < text.len() {
-        let at = place.at;
-        if text[at] != b'P' {
-            place = place.pass(text);
-            continue;
+    match find_param(text, number) {
+        NextParam::At { field, place: _ } => {
+            let kind = field.kind;
+            Typed::Is(kind)
         }
-        if n == number {
-            let line = place.step(text);
-            return read_type(line.field(text, 4));
-        }
-        n += 1;
-        place = place.pass(text);
+        NextParam::Nothing => Typed::Not,
     }
-    Typed::Not
 }
 
 fn is_bitmask(kind: ParamType) -> bool

@@ -3,7 +3,7 @@ use mathlib.Core.Path.{_≡_, refl, sym, _∙_}
 use mathlib.Core.Bool.{Bool, true, false, cond}
 use mathlib.Core.List.{List, []}
 use mathlib.Core.Option.{some}
-use Prim.Native.Nat.{ℕ, _+_, _*_, _/_, _%_, _≤_, _<_}
+use Prim.Native.Nat.{ℕ, _*_, _/_, _%_, _≤_, _<_}
 use native.Mathlib.Omega.{arith}
 use lib.Dec.{ltb}
 use lib.ListN.{length, take, drop, replicate, length-replicate, length-take, length-drop}
@@ -13,7 +13,7 @@ use Rattle.refusal.specs.declared.Refusal.the-variants.{TooLong, TooShort, NoSu
 use Rattle.text.specs.declared.Verdict.{Verdict}
 use Rattle.text.specs.declared.Verdict.the-variants as text
 use Rattle.frame_text.specs.Rules.{verdict}
-use Rattle.frame_definition.specs.Find.{heard, meant}
+use Rattle.frame_definition.specs.Find.{heard, meant, FindsNumbered}
 use Rattle.frame_definition.specs.declared.Field.{Field}
 use Rattle.frame_definition.specs.declared.NextParam.{NextParam}
 use Rattle.frame_definition.specs.declared.NextParam.the-variants.{At, Nothing}
@@ -22,7 +22,7 @@ use Rattle.header_rules.specs.Table.{rowWidth}
 use Rattle.header.specs.declared.DecodedHeader.{DecodedHeader}
 use Rattle.header.specs.declared.Decoded.{Decoded}
 use Rattle.header.specs.declared.Decoded.the-variants.{Header, Refused}
-use Rattle.header.specs.Decode.{Within, judged, sized, ofTold, toldOf, numberIn as numberOf, Decodes}
+use Rattle.header.specs.Decode.{Within, judged, ofTold, toldOf, numberIn as numberOf, Decodes}
 use Rattle.header.proofs.Room.{header-stands}
 use Rattle.crc.specs.Crc.{right}
 use Rattle.header_nodes.specs.Answer.{answerOf, rowsOf}
@@ -33,7 +33,7 @@ use Rattle.display.specs.declared.Value.{Value}
 use Rattle.display.specs.declared.Value.the-variants.{Is, Not}
 use Rattle.display.specs.Display.{displayValue}
 use Rattle.header_value.specs.Fields.{symbolText, valueBy, isLong, bytesOf, numberIn, fieldText, rowText}
-use Rattle.header_value.specs.Lookup.{FindsNumbered, Stands}
+use Rattle.header_value.specs.Lookup.{Stands}
 use Rattle.header_value.specs.Answer.{ofDecoded, HeaderValue}
 use Rattle.header_value.proofs.LookupLaws.{lookup-laws}
 

@@ -5,25 +5,12 @@ use mathlib.Core.List.{List, [], _∷_}
 use mathlib.Core.Option.{Option, none, some}
 use lib.Dec.{eqb, ltb}
 use lib.ListN.{getD, take, drop}
-use Rattle.text.specs.Text.{lines}
-use Rattle.text.specs.Records.{records}
-use Rattle.frame_text.specs.Form.{Param, form}
-use Rattle.frame_definition.specs.Definition.{Numbered, Entry, Set, params, definition, firstSet}
+use Rattle.frame_text.specs.Form.{Param}
+use Rattle.frame_definition.specs.Definition.{Entry, Set, definition, firstSet, paramNumbered}
 use Rattle.header_rules.specs.Table.{rowWidth}
 use Rattle.display.specs.declared.Value.{Value}
 use Rattle.display.specs.declared.Value.the-variants.{Is, Not}
 use Rattle.display.specs.Display.{displayValue}
-
--- ---- the P line of a row
-
--- what the P line of number k says, among these
-abbrev pub among : ℕ → List Numbered → Option Param
-among k [] = none
-among k (p ∷ ps) = cond (eqb (p .number) k) (some (p .says)) (among k ps)
-
--- H18: what the P line of number k says
-unfoldable pub paramOf : List ℕ → ℕ → Option Param
-paramOf t k = among k (params 0 (records form (lines t)))
 
 -- ---- its symbol
 
@@ -70,4 +57,4 @@ fieldText t d (some p) start bits valued value symbol =
 -- VT1: what is shown of row k of a header's rows
 unfoldable pub rowText : List ℕ → List ℕ → List ℕ → ℕ → List ℕ
 rowText t d rows k =
-    fieldText t d (paramOf t (numberIn rows k 0)) (numberIn rows k 2) (numberIn rows k 3) (numberIn rows k 4) (numberIn rows k 5) (numberIn rows k 6)
+    fieldText t d (paramNumbered t (numberIn rows k 0)) (numberIn rows k 2) (numberIn rows k 3) (numberIn rows k 4) (numberIn rows k 5) (numberIn rows k 6)

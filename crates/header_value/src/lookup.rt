@@ -1,7 +1,6 @@
-// The P line and the symbol that a row of a header names.
-use frame_definition::NextParam;
+// The symbol that a row of a header names.
 use frame_definition::find_set;
-use frame_definition::next_param;
+use frame_definition::is_owner;
 use header_paths::part_of;
 use text::Part;
 use text::Place;
@@ -13,47 +12,8 @@ ghost use Rattle.text.specs.Place.{partOf};
 ghost use Rattle.text.specs.declared.Verdict.the-variants.{Accepted};
 ghost use Rattle.frame_text.specs.Rules.{rules, verdict};
 ghost use Rattle.frame_definition.specs.Definition.{below, entries};
-ghost use Rattle.frame_definition.specs.Find.{from, ownerKind, heard};
+ghost use Rattle.frame_definition.specs.Find.{from, heard};
 ghost use Rattle.header_value.specs.Fields.{entryText, symbolText};
-ghost use Rattle.header_value.specs.Lookup.{FindsNumbered};
-
-// The P line of this number.
-pub fn find_param(text: &[u8], number: u64) -> NextParam
-    requires { ⌜ verdict (now text) ≡ Accepted ⌝ }
-    ensures { λ r. ⌜ FindsNumbered (now (text .entry)) number r ⌝ }
-{
-    let mut place = Place::start();
-    let mut n: u64 = 0;
-    while place.at < text.len() {
-        let at = place.at;
-        if text[at] != b'P' {
-            place = place.pass(text);
-            continue;
-        }
-        if n == number {
-            return next_param(text, place, number as usize);
-        }
-        n += 1;
-        place = place.pass(text);
-    }
-    NextParam::Nothing
-}
-
-// Is it the kind of an F, B, H or D line?
-fn is_owner(kind: u8) -> bool
-    ensures { λ r. ⌜ r ≡ ownerKind kind ⌝ }
-{
-    if kind == b'F' {
-        return true;
-    }
-    if kind == b'B' {
-        return true;
-    }
-    if kind == b'H' {
-        return true;
-    }
-    kind == b'D'
-}
 
 // The text of the E of number n, from 1, under the D that owns what follows the place; of no bytes where there is none.
 fn entry_text(text: &[u8], start: Place, n: u64) -> Part
