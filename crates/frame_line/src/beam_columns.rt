@@ -1,6 +1,7 @@
 // What a line of the table says of a beam: how often it was heard, the hash of the home id and the node that it wakes, its length and, at Long
 // Range, its power; a dash where there is none of them.
 use crate::mask_column::WIDTH;
+use crate::node_columns::HOME;
 use crate::node_columns::SOURCE;
 use output::paint::Hue;
 use output::paint::put_painted;
@@ -9,11 +10,9 @@ use std::num::wrapping_sub_u64;
 use writer::Buffer;
 use writer::put;
 use writer::put_digits;
-use writer::put_left;
 use writer::put_marked;
 use writer::put_number_left;
 use writer::put_right;
-use writer::put_spaces;
 
 // How many bytes the column of the count has.
 const COUNTS: usize = 20;
@@ -32,11 +31,10 @@ fn put_count(out: &mut Buffer, at: usize, beams: u16, colour: bool) -> usize {
 // The hash, in the column of the home id.
 fn put_hash(out: &mut Buffer, at: usize, hash: u16) -> usize {
     if hash == 0 {
-        return put_left(out, at, b"  -", 10);
+        return put_right(out, at, b"-", HOME);
     }
-    let mut place = put(out, at, b"  hash ");
-    place = put_digits(out, place, number_of(hash), 2);
-    put_spaces(out, place, 1)
+    let place = put_right(out, at, b"hash ", HOME - 2);
+    put_digits(out, place, number_of(hash), 2)
 }
 
 // The node, in the column of the destination.

@@ -19,7 +19,7 @@ ghost use Rattle.frame_text.specs.Rules.{verdict};
 // The names of the columns, with those of record and place or without.
 pub fn put_header(out: &mut Buffer, at: usize, records: bool) -> usize {
     let names: &[u8] =
-        b"   No\t  Record   Byte\t  Dir  Rate  RSSI  Header                      Home id    Src             Dst  Len  Sum    Command\n";
+        b"   No\t  Record   Byte\t  Dir  Rate  RSSI  Header                         Home id        Src             Dst  Len  Sum    Command\n";
     let mut place = put(out, at, field_of(names, 0));
     if records {
         place = put(out, place, field_of(names, 1));

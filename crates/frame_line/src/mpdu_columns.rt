@@ -151,6 +151,15 @@ fn put_size(out: &mut Buffer, at: usize, mpdu: &[u8], right: bool, colour: bool)
     put_sum(out, place, right, colour)
 }
 
+// The first n rows of a header's table.
+fn first_rows(rows: &[u64], n: usize) -> &[u64] {
+    if rows.len() / header_rows::ROW_WIDTH < n {
+        return rows;
+    }
+    let end = n * header_rows::ROW_WIDTH;
+    &rows[..end]
+}
+
 // A header and its rows.
 fn put_header(
     out: &mut Buffer,
@@ -160,11 +169,13 @@ fn put_header(
     header: DecodedHeader,
     rows: &[u64],
     colour: bool,
-) -> usize {
+) -> usize
+    requires { ⌜ verdict (now text) ≡ Accepted ⌝ }
+{
     let named = header.name;
     let name = part(text, named.start, named.len);
     let mut place = put_name(out, at, name, colour);
-    place = put_nodes(out, place, text, mpdu, rows, header.rows);
+    place = put_nodes(out, place, text, mpdu, first_rows(rows, header.rows));
     put_size(out, place, mpdu, header.right, colour)
 }
 

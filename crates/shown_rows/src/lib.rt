@@ -6,33 +6,47 @@ use frame_text::check_frame_text;
 use text::Verdict;
 use writer::Buffer;
 use writer::put;
+ghost use mathlib.Core.Path.{_≡_};
+ghost use Rattle.text.specs.declared.Verdict.the-variants.{Accepted};
+ghost use Rattle.frame_text.specs.Rules.{verdict};
 
 // Room for every value: 2,048 bytes of ascii, each of which may become three.
-const MOST: usize = 6144;
+pub const MOST: usize = 6144;
 
-// The first bytes of a buffer, as many as are written there.
-fn put_written(out: &mut Buffer, at: usize, written: Written, value: &[u8]) -> usize {
+// How many bytes are written; none where a value is refused.
+fn length_of(written: Written) -> usize {
     match written {
-        Written::Length(n) => {
-            if value.len() < n {
-                return at;
-            }
-            put(out, at, &value[..n])
-        }
-        Written::Refused(_) => at,
+        Written::Length(n) => n,
+        Written::Refused(_) => 0,
     }
 }
 
-fn show_field(text: &[u8], mpdu: &[u8], rows: &[u64], i: usize, value: &mut [u8]) -> Written {
+// The first n bytes, if so many are there.
+fn put_first(out: &mut Buffer, at: usize, value: &[u8], n: usize) -> usize {
+    if value.len() < n {
+        return at;
+    }
+    put(out, at, &value[..n])
+}
+
+// The value of row i of a header, by an accepted text, and how many bytes it has.
+pub fn show_field(text: &[u8], mpdu: &[u8], rows: &[u64], i: usize, value: &mut [u8]) -> usize
+    requires { ⌜ verdict (now text) ≡ Accepted ⌝ }
+{
     if 2048 < mpdu.len() {
-        return Written::Length(0);
+        return 0;
     }
     if rows.len() / header_rows::ROW_WIDTH <= i {
-        return Written::Length(0);
+        return 0;
     }
+    length_of(header_value::row_value(text, mpdu, rows, i, value))
+}
+
+// The same by any text.
+fn show_checked(text: &[u8], mpdu: &[u8], rows: &[u64], i: usize, value: &mut [u8]) -> usize {
     match check_frame_text(text) {
-        Verdict::Accepted => header_value::row_value(text, mpdu, rows, i, value),
-        Verdict::Refused(refusal) => Written::Refused(refusal),
+        Verdict::Accepted => show_field(text, mpdu, rows, i, value),
+        Verdict::Refused(_) => 0,
     }
 }
 
@@ -46,20 +60,26 @@ pub fn put_field(
     i: usize,
 ) -> usize {
     let mut value = [0u8; MOST];
-    let written = show_field(text, mpdu, rows, i, &mut value);
-    put_written(out, at, written, &value)
+    let n = show_checked(text, mpdu, rows, i, &mut value);
+    put_first(out, at, &value, n)
 }
 
-fn show_param(text: &[u8], payload: &[u8], rows: &[u64], i: usize, value: &mut [u8]) -> Written {
+// The value of row i of a command, and how many bytes it has.
+fn show_param(text: &[u8], payload: &[u8], rows: &[u64], i: usize, value: &mut [u8]) -> usize {
     if 2048 < payload.len() {
-        return Written::Length(0);
+        return 0;
     }
     if rows.len() / command_rows::ROW_WIDTH <= i {
-        return Written::Length(0);
+        return 0;
     }
     match check_command_text(text) {
-        Verdict::Accepted => command_value::row_value(text, payload, read_row(rows, i), value),
-        Verdict::Refused(refusal) => Written::Refused(refusal),
+        Verdict::Accepted => length_of(command_value::row_value(
+            text,
+            payload,
+            read_row(rows, i),
+            value,
+        )),
+        Verdict::Refused(_) => 0,
     }
 }
 
@@ -73,6 +93,6 @@ pub fn put_param(
     i: usize,
 ) -> usize {
     let mut value = [0u8; MOST];
-    let written = show_param(text, payload, rows, i, &mut value);
-    put_written(out, at, written, &value)
+    let n = show_param(text, payload, rows, i, &mut value);
+    put_first(out, at, &value, n)
 }

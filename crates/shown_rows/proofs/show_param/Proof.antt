@@ -14,6 +14,7 @@ show-param-spec =
     (λ c. search (needs, laws))
     (λ c κs. search (needs, laws))
     (λ c κs. search (needs, laws))
+    (λ c κs. search (needs, laws))
     (λ c. search (needs, laws))
     (λ c. search (needs, laws))
     (λ c. search (needs, laws))

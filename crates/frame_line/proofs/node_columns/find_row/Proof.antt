@@ -6,10 +6,10 @@ use Rattle.frame_line.proofs.node_columns.find_row.Statement.{statement
 use Rattle.frame_line.proofs.node_columns.find_row.Tie as tie
 
 abbrev Inv-loop : tie.InvT-loop
-Inv-loop text rows n name first₀ at₀ number₀ first at number = at ≤ length text
+Inv-loop text rows name first₀ at₀ number₀ first at number = at ≤ length text
 
 abbrev μ-loop : tie.MeasureT-loop
-μ-loop text rows n name first₀ at₀ number₀ first at number = length text - at
+μ-loop text rows name first₀ at₀ number₀ first at number = length text - at
 
 pub find-row-spec : {M : Type 1} → statement M
 find-row-spec =
