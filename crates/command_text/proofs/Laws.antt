@@ -58,7 +58,8 @@ module _ (s : List ℕ) (a : Bool) (is-a : a ≡ same s (typeName kind.Word)) wh
         pub type-array : a ≡ false → b ≡ false → c ≡ false → d ≡ true → Is kind.Array ≡ typeAmong lateTypes s
         type-array ea eb ec e = rw (sym is-a ∙ ea, sym is-b ∙ eb, sym is-c ∙ ec, sym is-d ∙ e)
 
-        pub type-last : (r : Typed) → r ≡ typeAmong lastTypes s → a ≡ false → b ≡ false → c ≡ false → d ≡ false → r ≡ typeAmong lateTypes s
+        pub type-last : (r : Typed) → r ≡ typeAmong lastTypes s → a ≡ false → b ≡ false → c ≡ false → d ≡ false
+            → r ≡ typeAmong lateTypes s
         type-last r is ea eb ec ed = is ∙ rw (sym is-a ∙ ea, sym is-b ∙ eb, sym is-c ∙ ec, sym is-d ∙ ed)
 
 module _ (s : List ℕ) (a : Bool) (is-a : a ≡ same s (typeName kind.Byte)) where

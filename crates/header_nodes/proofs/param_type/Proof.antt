@@ -6,4 +6,10 @@ use Rattle.header_nodes.proofs.param_type.Tie as tie
 
 pub param-type-spec : {M : Type 1} → statement M
 param-type-spec =
-    tie.close (tie.spec (λ c κs. search (needs, type-laws)) (λ c. search (needs, type-laws)) (λ c. search (needs, type-laws)) (λ c. search (needs, type-laws)) (λ c. search (needs, type-laws)))
+    tie.close
+    (tie.spec
+    (λ c κs. search (needs, type-laws))
+    (λ c. search (needs, type-laws))
+    (λ c. search (needs, type-laws))
+    (λ c. search (needs, type-laws))
+    (λ c. search (needs, type-laws)))
