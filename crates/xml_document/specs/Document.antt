@@ -2,7 +2,7 @@
 use Prim.Native.Nat.{ℕ, _+_, _-_, _%_}
 use mathlib.Core.Bool.{Bool, true, false, cond, not, _&&_, _||_}
 use mathlib.Core.List.{List, [], _∷_, _++_}
-use lib.ListN.{length, getD, drop}
+use lib.ListN.{length, getD, take, drop}
 use lib.Dec.{leb, eqb}
 use Rattle.text.specs.Text.{same}
 use Rattle.xml_schema.specs.Schema.{root, param, letterOf, hasLine, entriesOf, before, behind, nowhere, parentOf}
@@ -58,9 +58,7 @@ judge d place (c ∷ e ∷ cs) =
 
 -- X4: does a tag begin with `<?xml` and a white byte, and end with `?`
 abbrev pub isDeclaration : List ℕ → Bool
-isDeclaration c =
-    (eqb (getD c 0 0) 0x3c && (eqb (getD c 1 0) 0x3f && (eqb (getD c 2 0) 0x78 && (eqb (getD c 3 0) 0x6d && eqb (getD c 4 0) 0x6c))))
-    && (isWhite (getD c 5 0) && eqb (last c) 0x3f)
+isDeclaration c = same (take 5 c) (0x3c ∷ 0x3f ∷ 0x78 ∷ 0x6d ∷ 0x6c ∷ []) && (isWhite (getD c 5 0) && eqb (last c) 0x3f)
 
 -- X4: how many bytes a declaration takes at the front of a document
 abbrev pub declared : List (List ℕ) → ℕ
@@ -105,14 +103,14 @@ itemsOf x = items before (chunks false (drop (start x) x))
 abbrev pub letter : List ℕ → ℕ
 letter l = getD l 0 0
 
--- X10: is it an F, B, H or D line
-abbrev pub owns : List ℕ → Bool
-owns l = eqb (letter l) 0x46 || (eqb (letter l) 0x42 || (eqb (letter l) 0x48 || eqb (letter l) 0x44))
+-- X10: does a line of this letter own what follows: an F, B, H or D line
+abbrev pub owns : ℕ → Bool
+owns w = eqb w 0x46 || (eqb w 0x42 || (eqb w 0x48 || eqb w 0x44))
 
 -- X10: the lines of a letter up to the next line that owns what follows
 abbrev pub picked : ℕ → List (List ℕ) → List (List ℕ)
 picked w [] = []
-picked w (l ∷ ls) = cond (owns l) [] (cond (eqb (letter l) w) (l ∷ picked w ls) (picked w ls))
+picked w (l ∷ ls) = cond (owns (letter l)) [] (cond (eqb (letter l) w) (l ∷ picked w ls) (picked w ls))
 
 -- X10: what a line owns: its P lines, then its V lines, then its E lines
 abbrev pub owned : List (List ℕ) → List (List ℕ)

@@ -534,7 +534,7 @@ module _ (c : List ℕ) (l : ℕ) (at-l : l ≡ lead c) where
         let i : r ≡ opened l (drop 1 (take (length c - l) (drop l c))) = is ∙ ap (opened l) (tail (take (length c - l) (drop l c)) 1) in
         i ∙ rw (eq-eqb (getD (take (length c - l) (drop l c)) 0 0) 60 q, ne-eqb (getD (take (length c - l) (drop l c)) 1 0) 47 p) at from-is
 
-last-at : (s : List ℕ) → (length s ≡ 0 → ⊥) → last s ≡ getD s (length s - 1) 0
+pub last-at : (s : List ℕ) → (length s ≡ 0 → ⊥) → last s ≡ getD s (length s - 1) 0
 last-at [] h = absurd (h refl)
 last-at (x ∷ []) h = refl
 last-at (x ∷ y ∷ ys) h =

@@ -25,7 +25,8 @@ const MOST: u64 = 4294967295;
 
 // ---- white space and letters
 
-fn is_white(x: u8) -> bool
+// Is x a space, a tab, a line end or a carriage return?
+pub fn is_white(x: u8) -> bool
     ensures { λ r. ⌜ r ≡ isWhite x ⌝ }
 {
     match x {
