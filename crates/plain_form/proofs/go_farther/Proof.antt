@@ -1,0 +1,14 @@
+-- `plain_form::go_farther` meets its contract, by the laws of the crate. Assumes nothing.
+use borrow.Author.Needs.{needs}
+use Rattle.plain_form.proofs.Laws.{laws}
+use Rattle.plain_form.proofs.go_farther.Statement.{statement}
+use Rattle.plain_form.proofs.go_farther.Tie as tie
+
+-- src/lib.rt:21:1
+-- src/lib.rt:21:1
+-- src/lib.rt:21:1
+-- src/lib.rt:21:1
+-- src/lib.rt:21:1
+-- src/lib.rt:21:1
+pub go-farther-spec : {M : Type 1} → statement M
+go-farther-spec = tie.close (tie.spec (λ c. search (needs, laws)) (λ c. search (needs, laws)) (λ c. search (needs, laws)) (λ c. search (needs, laws)) (λ c. search (needs, laws)) (λ c. search (needs, laws)))
