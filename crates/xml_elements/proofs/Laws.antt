@@ -479,7 +479,11 @@ pub ruleset laws = (
 
 -- for a function, those that it goes by
 pub ruleset rest-laws = (rest-entries, rest-ending, rest-laid)
+
 pub ruleset tag-laws = (tag-head, tag-rest, tag-laid)
+
 pub ruleset element-laws = (element-ends, element-tag, element-laid)
+
 pub ruleset line-laws = (depth-fits, writing-start, writing-inside, writing-same, writing-ends, writing-done, writing-room, writing-more, front-count)
+
 pub ruleset xml-laws = (xml-opening, xml-lines, xml-laid)
