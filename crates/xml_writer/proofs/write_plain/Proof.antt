@@ -1,0 +1,14 @@
+-- `xml_writer::write_plain` meets its contract, by the laws of the crate. Assumes nothing.
+use Rattle.xml_writer.proofs.Laws.{laws}
+use borrow.Author.Needs.{needs}
+use Rattle.xml_writer.proofs.write_plain.Statement.{statement}
+use Rattle.xml_writer.proofs.write_plain.Tie as tie
+
+-- src/lib.rt:34:9
+-- src/lib.rt:36:9
+-- src/lib.rt:36:9
+-- src/lib.rt:36:9
+-- src/lib.rt:30:1
+pub write-plain-spec : {M : Type 1} → statement M
+write-plain-spec =
+    tie.close (tie.spec (λ c κs. search (needs, laws)) (λ c κs. search (needs, laws)) (λ c. search (needs, laws)) (λ c. search (needs, laws)) (λ c. search (needs, laws)))
