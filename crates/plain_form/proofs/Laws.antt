@@ -31,7 +31,8 @@ module _ (far letter : ℕ) where
   pub stands-p : letter ≡ 0x50 → (b : Bool) → b ≡ not (eqb far 3) → b ≡ stands far letter
   stands-p e b q = rw (e, q)
 
-  pub stands-else : (letter ≡ 0x46 → ⊥) → (letter ≡ 0x42 → ⊥) → (letter ≡ 0x48 → ⊥) → (letter ≡ 0x50 → ⊥) → true ≡ stands far letter
+  pub stands-else : (letter ≡ 0x46 → ⊥) → (letter ≡ 0x42 → ⊥) → (letter ≡ 0x48 → ⊥) → (letter ≡ 0x50 → ⊥)
+      → true ≡ stands far letter
   stands-else f b h p = rw (ne-eqb letter 0x46 f, ne-eqb letter 0x42 b, ne-eqb letter 0x48 h, ne-eqb letter 0x50 p)
 
   pub farther-f : letter ≡ 0x46 → 0 ≡ farther far letter
@@ -49,7 +50,8 @@ module _ (far letter : ℕ) where
   pub farther-d : letter ≡ 0x44 → 4 ≡ farther far letter
   farther-d e = rw e
 
-  pub farther-else : (letter ≡ 0x46 → ⊥) → (letter ≡ 0x42 → ⊥) → (letter ≡ 0x48 → ⊥) → (letter ≡ 0x56 → ⊥) → (letter ≡ 0x44 → ⊥) → far ≡ farther far letter
+  pub farther-else : (letter ≡ 0x46 → ⊥) → (letter ≡ 0x42 → ⊥) → (letter ≡ 0x48 → ⊥) → (letter ≡ 0x56 → ⊥) → (letter ≡ 0x44
+      → ⊥) → far ≡ farther far letter
   farther-else f b h v d = rw (ne-eqb letter 0x46 f, ne-eqb letter 0x42 b, ne-eqb letter 0x48 h, ne-eqb letter 0x56 v, ne-eqb letter 0x44 d)
 
 -- ---- line by line

@@ -50,7 +50,8 @@ module _ (f : ℕ) where
   may-number b e q = rw (ne-eqb f optionalWords e, q)
 
   module _ (fs : List (List ℕ)) (k j : ℕ) where
-    pub absent-if : (m b : Bool) (s : List ℕ) → m ≡ (eqb f optionalWords || eqb f optionalNumber) → m ≡ true → s ≡ field k fs → b ≡ missing s → b ≡ isAbsent f fs k
+    pub absent-if : (m b : Bool) (s : List ℕ) → m ≡ (eqb f optionalWords || eqb f optionalNumber) → m ≡ true → s ≡ field k fs
+        → b ≡ missing s → b ≡ isAbsent f fs k
     absent-if m b s q y w r = rw (sym q ∙ y, r, w)
 
     pub absent-not : (m : Bool) → m ≡ (eqb f optionalWords || eqb f optionalNumber) → m ≡ false → false ≡ isAbsent f fs k
@@ -79,30 +80,37 @@ module _ (f : ℕ) where
       pub flag-room : (s : List ℕ) (d : ℕ) → d ≡ getD s 0 0 → s ≡ field k fs → 58 ≤ f → f ≡ flag → Room at (flagged d)
       flag-room s d p q h e = rw (p, q) (rw (flag-is h e) at room)
 
-      pub further-room : (n : ℕ) (s : List ℕ) (d : ℕ) → d ≡ getD s j 0 → s ≡ field n fs → n ≡ k - 1 → 58 ≤ f → f ≡ furtherFlag → Room at (flagged d)
+      pub further-room : (n : ℕ) (s : List ℕ) (d : ℕ) → d ≡ getD s j 0 → s ≡ field n fs → n ≡ k - 1 → 58 ≤ f → f ≡ furtherFlag
+          → Room at (flagged d)
       further-room n s d p q m h e = rw (p, q, m) (rw (further-is h e) at room)
 
       pub hex-room : (s : List ℕ) → s ≡ field k fs → 58 ≤ f → f ≡ hexNumber → Room at (hexed s)
       hex-room s q h e = rw q (rw (hex-is h e) at room)
 
-      pub else-room : (s : List ℕ) → s ≡ field k fs → 58 ≤ f → (f ≡ flag → ⊥) → (f ≡ furtherFlag → ⊥) → (f ≡ hexNumber → ⊥) → Room at (escaped s)
+      pub else-room : (s : List ℕ) → s ≡ field k fs → 58 ≤ f → (f ≡ flag → ⊥) → (f ≡ furtherFlag → ⊥) → (f ≡ hexNumber → ⊥)
+          → Room at (escaped s)
       else-room s q h a b c = rw q (rw (else-is h a b c) at room)
 
     module _ (b b′ : List ℕ) (at r : ℕ) where
-      pub dropped-laid : (n : ℕ) (again : List ℕ) → again ≡ field n fs → n ≡ f - 48 → f < 58 → Laid (escaped again) b at r b′ → Laid (valueFor f fs k j) b at r b′
+      pub dropped-laid : (n : ℕ) (again : List ℕ) → again ≡ field n fs → n ≡ f - 48 → f < 58 → Laid (escaped again) b at r b′
+          → Laid (valueFor f fs k j) b at r b′
       dropped-laid n again q m h l = rw (dropped-is h, ← m, ← q) l
 
-      pub flag-laid : (s : List ℕ) (d : ℕ) → d ≡ getD s 0 0 → s ≡ field k fs → 58 ≤ f → f ≡ flag → Laid (flagged d) b at r b′ → Laid (valueFor f fs k j) b at r b′
+      pub flag-laid : (s : List ℕ) (d : ℕ) → d ≡ getD s 0 0 → s ≡ field k fs → 58 ≤ f → f ≡ flag → Laid (flagged d) b at r b′
+          → Laid (valueFor f fs k j) b at r b′
       flag-laid s d p q h e l = rw (flag-is h e, ← q, ← p) l
 
-      pub further-laid : (n : ℕ) (s : List ℕ) (d : ℕ) → d ≡ getD s j 0 → s ≡ field n fs → n ≡ k - 1 → 58 ≤ f → f ≡ furtherFlag → Laid (flagged d) b at r b′
+      pub further-laid : (n : ℕ) (s : List ℕ) (d : ℕ) → d ≡ getD s j 0 → s ≡ field n fs → n ≡ k - 1 → 58 ≤ f → f ≡ furtherFlag
+          → Laid (flagged d) b at r b′
           → Laid (valueFor f fs k j) b at r b′
       further-laid n s d p q m h e l = rw (further-is h e, ← m, ← q, ← p) l
 
-      pub hex-laid : (s : List ℕ) → s ≡ field k fs → 58 ≤ f → f ≡ hexNumber → Laid (hexed s) b at r b′ → Laid (valueFor f fs k j) b at r b′
+      pub hex-laid : (s : List ℕ) → s ≡ field k fs → 58 ≤ f → f ≡ hexNumber → Laid (hexed s) b at r b′
+          → Laid (valueFor f fs k j) b at r b′
       hex-laid s q h e l = rw (hex-is h e, ← q) l
 
-      pub else-laid : (s : List ℕ) → s ≡ field k fs → 58 ≤ f → (f ≡ flag → ⊥) → (f ≡ furtherFlag → ⊥) → (f ≡ hexNumber → ⊥) → Laid (escaped s) b at r b′
+      pub else-laid : (s : List ℕ) → s ≡ field k fs → 58 ≤ f → (f ≡ flag → ⊥) → (f ≡ furtherFlag → ⊥) → (f ≡ hexNumber → ⊥)
+          → Laid (escaped s) b at r b′
           → Laid (valueFor f fs k j) b at r b′
       else-laid s q h a c d l = rw (else-is h a c d, ← q) l
 
@@ -194,7 +202,8 @@ listing-start row fs first b at h = record {
   leaves = leaves-start (attributes (drop 1 (fields row)) fs first 1) b at;
 }
 
-module _ (row : List ℕ) (fs : List (List ℕ)) (first : ℕ) (b b₀ : List ℕ) (at at₀ place k j : ℕ) (inv : Listing row fs first b b₀ at at₀ place k j) where
+module _ (row : List ℕ) (fs : List (List ℕ)) (first : ℕ) (b b₀ : List ℕ) (at at₀ place k j : ℕ)
+    (inv : Listing row fs first b b₀ at at₀ place k j) where
   pub listing-place : place ≤ length row
   listing-place = inv .inside
 
@@ -218,7 +227,8 @@ module _ (row : List ℕ) (fs : List (List ℕ)) (first : ℕ) (b b₀ : List �
         leaves-done (attributes (drop 1 (fields row)) fs first 1) b b₀ at at₀ (rw none at (inv .leaves))
 
     module _ (a len : ℕ) (e : n ≡ Entry a len) where
-      entry-now : (1 ≤ a) × (a + len ≤ length (drop place row)) × (drop 1 (fields (drop place row)) ≡ take len (drop a (drop place row)) ∷ drop 1 (fields (drop a (drop place row))))
+      entry-now : (1 ≤ a) × (a + len ≤ length (drop place row))
+          × (drop 1 (fields (drop place row)) ≡ take len (drop a (drop place row)) ∷ drop 1 (fields (drop a (drop place row))))
       entry-now = rw e at follows-now
 
       length-now : length (drop place row) ≡ length row - place
@@ -254,7 +264,8 @@ module _ (row : List ℕ) (fs : List (List ℕ)) (first : ℕ) (b b₀ : List �
       pub entry-room : Room at₀ (attributes (drop 1 (fields row)) fs first 1) → Room at (written entry fs k j)
       entry-room room = leaves-room (written entry fs k j) _ (attributes (drop 1 (fields row)) fs first 1) b b₀ at at₀ one-more room
 
-      pub listing-more : (b′ : List ℕ) (r f k′ j′ : ℕ) → Laid (written entry fs k j) b at r b′ → f ≡ formOf entry → k′ ≡ fieldAfter f k → j′ ≡ digitAfter f j
+      pub listing-more : (b′ : List ℕ) (r f k′ j′ : ℕ) → Laid (written entry fs k j) b at r b′ → f ≡ formOf entry
+          → k′ ≡ fieldAfter f k → j′ ≡ digitAfter f j
           → Listing row fs first b′ b₀ r at₀ (place + a) k′ j′
       listing-more b′ r f k′ j′ l is ks js = record {
         inside = omega (arith, entry-now .1, inv .inside, length-now);

@@ -3,8 +3,8 @@ use Prim.Native.Nat.{ℕ, _+_, _-_}
 use mathlib.Core.Bool.{Bool, cond, _&&_, _||_}
 use mathlib.Core.List.{List, [], _∷_, _++_}
 use lib.Dec.{eqb}
-use lib.ListN.{getD}
-use Rattle.text.specs.Text.{field, missing}
+use lib.ListN.{getD, drop}
+use Rattle.text.specs.Text.{fields, field, missing}
 use Rattle.xml_schema.specs.Schema.{formOf, nameOf, optionalWords, optionalNumber, hexNumber, flag, furtherFlag, isDropped}
 use Rattle.xml_spelling.specs.Spelling.{escaped, hexed, flagged}
 
@@ -44,3 +44,7 @@ digitAfter f j = cond (eqb f furtherFlag) (j + 1) 1
 unfoldable pub attributes : List (List ℕ) → List (List ℕ) → ℕ → ℕ → List ℕ
 attributes [] fs k j = []
 attributes (e ∷ es) fs k j = written e fs k j ++ attributes es fs (fieldAfter (formOf e) k) (digitAfter (formOf e) j)
+
+-- X13: what is written for a line, by a row of the table; `first` is the first field that an attribute says
+abbrev pub attributesBy : List ℕ → List ℕ → ℕ → List ℕ
+attributesBy row line first = attributes (drop 1 (fields row)) (fields line) first 1

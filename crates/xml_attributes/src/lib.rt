@@ -14,11 +14,11 @@ ghost use mathlib.Core.Path.{_≡_};
 ghost use mathlib.Core.Bool.{_||_};
 ghost use Prim.Native.Nat.{_-_, _≤_, _<_};
 ghost use lib.Dec.{eqb};
-ghost use lib.ListN.{length, getD, drop};
+ghost use lib.ListN.{length, getD};
 ghost use Rattle.text.specs.Text.{field, fields};
 ghost use Rattle.append.specs.Append.{Room, Laid};
 ghost use Rattle.xml_schema.specs.Schema.{isDropped, nameOf, optionalWords, optionalNumber};
-ghost use Rattle.xml_attributes.specs.Attributes.{valueFor, isAbsent, label, written, fieldAfter, digitAfter, attributes};
+ghost use Rattle.xml_attributes.specs.Attributes.{valueFor, isAbsent, label, written, fieldAfter, digitAfter, attributesBy};
 
 fn less(n: usize, by: usize) -> usize
     ensures { λ r. ⌜ r ≡ n - by ⌝ }
@@ -140,8 +140,8 @@ pub fn append_attributes(
     line: &[u8],
     first: usize,
 ) -> usize
-    requires { ⌜ (Room at (attributes (drop 1 (fields (now row))) (fields (now line)) first 1)) × (length (now row) ≤ 300) × (first ≤ 2) ⌝ }
-    ensures { λ r. ⌜ Laid (attributes (drop 1 (fields (now (row .entry)))) (fields (now (line .entry))) first 1) (now (buffer .entry)) at r (now (buffer .exit)) ⌝ }
+    requires { ⌜ (Room at (attributesBy (now row) (now line) first)) × (length (now row) ≤ 300) × (first ≤ 2) ⌝ }
+    ensures { λ r. ⌜ Laid (attributesBy (now (row .entry)) (now (line .entry)) first) (now (buffer .entry)) at r (now (buffer .exit)) ⌝ }
 {
     let mut next = at;
     let mut place = 0;

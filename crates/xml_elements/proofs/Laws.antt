@@ -72,7 +72,8 @@ module _ (k : ℕ) (p : Part) (is : IsField 32 k elements p) where
   pub name-room : (at : ℕ) → Room at (nameFor k) → Room at (take (p .start + p .len - p .start) (drop (p .start) elements))
   name-room at room = rw name-is room
 
-  pub name-laid : (b b′ : List ℕ) (at r : ℕ) → Laid (take (p .start + p .len - p .start) (drop (p .start) elements)) b at r b′ → Laid (nameFor k) b at r b′
+  pub name-laid : (b b′ : List ℕ) (at r : ℕ) → Laid (take (p .start + p .len - p .start) (drop (p .start) elements)) b at r b′
+      → Laid (nameFor k) b at r b′
   name-laid b b′ at r l = rw name-is at l
 
 -- ---- what a tag begins with
@@ -87,7 +88,8 @@ module _ (n k : ℕ) (mark : List ℕ) (at : ℕ) (room : Room at (head n mark k
     pub head-name : (b₂ : List ℕ) (q : ℕ) → Laid mark b₁ r q b₂ → Room q (nameFor k)
     head-name b₂ q y = room-second r q mark (nameFor k) b₁ b₂ y (room-second at r (blanks n) (mark ++ nameFor k) b b₁ x room)
 
-pub head-laid : (n k : ℕ) (mark b b₁ b₂ b₃ : List ℕ) (at r q o : ℕ) → Laid (blanks n) b at r b₁ → Laid mark b₁ r q b₂ → Laid (nameFor k) b₂ q o b₃
+pub head-laid : (n k : ℕ) (mark b b₁ b₂ b₃ : List ℕ) (at r q o : ℕ) → Laid (blanks n) b at r b₁ → Laid mark b₁ r q b₂
+    → Laid (nameFor k) b₂ q o b₃
     → Laid (head n mark k) b at o b₃
 head-laid n k mark b b₁ b₂ b₃ at r q o x y z =
     laid-both (blanks n) (mark ++ nameFor k) b b₁ b₃ at r o x (laid-both mark (nameFor k) b₁ b₂ b₃ r q o y z)
@@ -173,7 +175,8 @@ module _ (n d : ℕ) (b b₀ : List ℕ) (at at₀ left place : ℕ) (inv : Clos
     pub closing-room : Room at₀ (closings n d) → Room at (shut place)
     closing-room room = leaves-room (shut place) (closings (left - 1) (up place)) (closings n d) b b₀ at at₀ one-more room
 
-    pub closing-more : (b′ : List ℕ) (r next : ℕ) → Laid (shut place) b at r b′ → next ≡ up place → Closing n d b′ b₀ r at₀ (left - 1) next
+    pub closing-more : (b′ : List ℕ) (r next : ℕ) → Laid (shut place) b at r b′ → next ≡ up place
+        → Closing n d b′ b₀ r at₀ (left - 1) next
     closing-more b′ r next l e =
         record { leaves = rw e (leaves-more (shut place) (closings (left - 1) (up place)) (closings n d) b b₀ at at₀ one-more b′ r l) }
 
@@ -324,7 +327,8 @@ kind-is fs x k e q = rw (q, e)
 pub after-is : (d k level : ℕ) (fs : List (List ℕ)) (r : ℕ) → level ≡ levelIn k fs → r ≡ leadsTo d k level → r ≡ leadsTo d k (levelIn k fs)
 after-is d k level fs r e q = rw (q, e)
 
-module _ (d k level : ℕ) (fs : List (List ℕ)) (is : level ≡ levelIn k fs) (n s e : ℕ) (deep : n ≡ depth d) (stood : s ≡ standsIn k level) (ends : e ≡ n - s) where
+module _ (d k level : ℕ) (fs : List (List ℕ)) (is : level ≡ levelIn k fs) (n s e : ℕ)
+    (deep : n ≡ depth d) (stood : s ≡ standsIn k level) (ends : e ≡ n - s) where
   element-is : element d k fs ≡ closings e d ++ tagFor k level fs
   element-is = rw (ends, deep, stood, is)
 
@@ -335,7 +339,8 @@ module _ (d k level : ℕ) (fs : List (List ℕ)) (is : level ≡ levelIn k fs) 
     pub element-tag : (b b₁ : List ℕ) (r : ℕ) → Laid (closings e d) b at r b₁ → Room r (tagFor k level fs)
     element-tag b b₁ r x = room-second at r (closings e d) (tagFor k level fs) b b₁ x (rw element-is at room)
 
-  pub element-laid : (b b₁ b₂ : List ℕ) (at r q : ℕ) → Laid (closings e d) b at r b₁ → Laid (tagFor k level fs) b₁ r q b₂ → Laid (element d k fs) b at q b₂
+  pub element-laid : (b b₁ b₂ : List ℕ) (at r q : ℕ) → Laid (closings e d) b at r b₁ → Laid (tagFor k level fs) b₁ r q b₂
+      → Laid (element d k fs) b at q b₂
   element-laid b b₁ b₂ at r q x y = rw element-is (laid-both (closings e d) (tagFor k level fs) b b₁ b₂ at r q x y)
 
 -- ---- line by line
@@ -390,13 +395,17 @@ module _ (t b b₀ : List ℕ) (at at₀ start place : ℕ) (inv : Writing t b b
       line-more : Leaves (element place k (fields line) ++ body (leadsTo place k (levelIn k (fields line))) (lines (drop (e + 1) (drop start t))))
           (body 0 (lines t)) b b₀ at at₀
       line-more =
-          rw kind (rw (ap (body place) line-is ∙ body-line place line (lines (drop (e + 1) (drop start t))) (split-some 10 (drop (e + 1) (drop start t)))) at (inv .leaves))
+          let rest : List (List ℕ) = lines (drop (e + 1) (drop start t)) in
+          let parted : body place (lines (drop start t)) ≡ _ =
+          ap (body place) line-is ∙ body-line place line rest (split-some 10 (drop (e + 1) (drop start t))) in
+          rw kind (rw parted at (inv .leaves))
 
       pub writing-room : Room at₀ (body 0 (lines t)) → Room at (element place k (fields (take e (take (length t - start) (drop start t)))))
       writing-room room = leaves-room (element place k (fields line)) _ (body 0 (lines t)) b b₀ at at₀ line-more room
 
       pub writing-more : (b′ : List ℕ) (r next : ℕ) → Laid (element place k (fields (take e (take (length t - start) (drop start t))))) b at r b′
-          → next ≡ leadsTo place k (levelIn k (fields (take e (take (length t - start) (drop start t))))) → Writing t b′ b₀ r at₀ (start + e + 1) next
+          → next ≡ leadsTo place k (levelIn k (fields (take e (take (length t - start) (drop start t)))))
+          → Writing t b′ b₀ r at₀ (start + e + 1) next
       writing-more b′ r next l q =
           let z : start + (e + 1) ≡ start + e + 1 = omega arith in
           record {

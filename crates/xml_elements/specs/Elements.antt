@@ -1,5 +1,5 @@
--- X13 (docs/RULES.md): the XML that is written for the lines of a text: a tag a line, two spaces for each element around it, an element ended when the next line
--- stands further out.
+-- X13 (docs/RULES.md): the XML that is written for the lines of a text: a tag a line, two spaces for each element around it, an element ended when
+-- the next line stands further out.
 use Prim.Native.Nat.{ℕ, zero, suc, _+_, _-_, _%_}
 use mathlib.Core.Bool.{Bool, cond, _||_}
 use mathlib.Core.List.{List, [], _∷_, _++_}
@@ -24,7 +24,8 @@ blanks (suc n) = 0x20 ∷ 0x20 ∷ blanks n
 abbrev pub head : ℕ → List ℕ → ℕ → List ℕ
 head n mark k = blanks n ++ (mark ++ nameFor k)
 
--- ---- ends. A place is that of X7: the number of the element that we are in; 16 to 23 in a Param of a BaseHeader, by its level, and 24 to 31 in one of a Header
+-- ---- ends. A place is that of X7: the number of the element that we are in; 16 to 23 in a Param of a BaseHeader, by its level, and 24 to 31 in one
+-- of a Header
 
 -- how many elements are around what stands in the root at the place d
 abbrev pub depth : ℕ → ℕ
@@ -105,7 +106,8 @@ body d (l ∷ m ∷ ms) =
 -- X13: `<?xml version="1.0" encoding="utf-8"?>` and `<FrameDefinition>`, each on a line
 unfoldable pub opening : List ℕ
 opening = 0x3c ∷ 0x3f ∷ 0x78 ∷ 0x6d ∷ 0x6c ∷ 0x20 ∷ 0x76 ∷ 0x65 ∷ 0x72 ∷ 0x73 ∷ 0x69 ∷ 0x6f ∷ 0x6e ∷ 0x3d ∷ 0x22 ∷ 0x31 ∷ 0x2e ∷ 0x30 ∷ 0x22 ∷ 0x20 ∷ 0x65
-    ∷ 0x6e ∷ 0x63 ∷ 0x6f ∷ 0x64 ∷ 0x69 ∷ 0x6e ∷ 0x67 ∷ 0x3d ∷ 0x22 ∷ 0x75 ∷ 0x74 ∷ 0x66 ∷ 0x2d ∷ 0x38 ∷ 0x22 ∷ 0x3f ∷ 0x3e ∷ 0x0a ∷ 0x3c ∷ 0x46 ∷ 0x72
+    ∷ 0x6e ∷ 0x63 ∷ 0x6f ∷ 0x64 ∷ 0x69 ∷ 0x6e ∷ 0x67 ∷ 0x3d ∷ 0x22 ∷ 0x75 ∷ 0x74 ∷ 0x66 ∷ 0x2d ∷ 0x38 ∷ 0x22 ∷ 0x3f
+    ∷ 0x3e ∷ 0x0a ∷ 0x3c ∷ 0x46 ∷ 0x72
     ∷ 0x61 ∷ 0x6d ∷ 0x65 ∷ 0x44 ∷ 0x65 ∷ 0x66 ∷ 0x69 ∷ 0x6e ∷ 0x69 ∷ 0x74 ∷ 0x69 ∷ 0x6f ∷ 0x6e ∷ 0x3e ∷ 0x0a ∷ []
 
 -- X13: the XML of a text

@@ -32,7 +32,8 @@ module _ (x : ℕ) where
   apos-is : x ≡ 0x27 → escapeOf x ≡ 0x26 ∷ 0x61 ∷ 0x70 ∷ 0x6f ∷ 0x73 ∷ 0x3b ∷ []
   apos-is e = rw e
 
-  pub plain-is : (x ≡ 0x26 → ⊥) → (x ≡ 0x3c → ⊥) → (x ≡ 0x3e → ⊥) → (x ≡ 0x22 → ⊥) → (x ≡ 0x27 → ⊥) → escapeOf x ≡ x ∷ []
+  pub plain-is : (x ≡ 0x26 → ⊥) → (x ≡ 0x3c → ⊥) → (x ≡ 0x3e → ⊥) → (x ≡ 0x22 → ⊥) → (x ≡ 0x27 → ⊥)
+      → escapeOf x ≡ x ∷ []
   plain-is a l g q p = rw (ne-eqb x 0x26 a, ne-eqb x 0x3c l, ne-eqb x 0x3e g, ne-eqb x 0x22 q, ne-eqb x 0x27 p)
 
   module _ (at : ℕ) (room : Room at (escapeOf x)) where
@@ -51,7 +52,8 @@ module _ (x : ℕ) where
     pub room-apos : x ≡ 0x27 → Room at (0x26 ∷ 0x61 ∷ 0x70 ∷ 0x6f ∷ 0x73 ∷ 0x3b ∷ [])
     room-apos e = rw (apos-is e) at room
 
-    pub room-plain : (x ≡ 0x26 → ⊥) → (x ≡ 0x3c → ⊥) → (x ≡ 0x3e → ⊥) → (x ≡ 0x22 → ⊥) → (x ≡ 0x27 → ⊥) → Room at (x ∷ [])
+    pub room-plain : (x ≡ 0x26 → ⊥) → (x ≡ 0x3c → ⊥) → (x ≡ 0x3e → ⊥) → (x ≡ 0x22 → ⊥) → (x ≡ 0x27 → ⊥)
+        → Room at (x ∷ [])
     room-plain a l g q p = rw (plain-is a l g q p) at room
 
   module _ (b b′ : List ℕ) (at r : ℕ) where
@@ -70,7 +72,8 @@ module _ (x : ℕ) where
     pub laid-apos : x ≡ 0x27 → Laid (0x26 ∷ 0x61 ∷ 0x70 ∷ 0x6f ∷ 0x73 ∷ 0x3b ∷ []) b at r b′ → Laid (escapeOf x) b at r b′
     laid-apos e l = rw (apos-is e) l
 
-    pub laid-plain : (x ≡ 0x26 → ⊥) → (x ≡ 0x3c → ⊥) → (x ≡ 0x3e → ⊥) → (x ≡ 0x22 → ⊥) → (x ≡ 0x27 → ⊥) → Laid (x ∷ []) b at r b′
+    pub laid-plain : (x ≡ 0x26 → ⊥) → (x ≡ 0x3c → ⊥) → (x ≡ 0x3e → ⊥) → (x ≡ 0x22 → ⊥) → (x ≡ 0x27 → ⊥)
+        → Laid (x ∷ []) b at r b′
         → Laid (escapeOf x) b at r b′
     laid-plain a l g q p y = rw (plain-is a l g q p) y
 
@@ -105,10 +108,12 @@ module _ (f : List ℕ) (n : ℕ) (is : n ≡ value 65535 f) (start : ℕ) (out 
   digits-are : take (22 - start) (drop start out) ≡ spelled 16 65 20 1 (value 65535 f)
   digits-are = rw (← spells .all) (tail out start) ∙ spells .text ∙ ap (spelled 16 65 20 1) is
 
-  pub hex-room : (at r : ℕ) (b b′ : List ℕ) → Laid (0x30 ∷ 0x78 ∷ []) b at r b′ → Room at (hexed f) → Room r (take (22 - start) (drop start out))
+  pub hex-room : (at r : ℕ) (b b′ : List ℕ) → Laid (0x30 ∷ 0x78 ∷ []) b at r b′ → Room at (hexed f)
+      → Room r (take (22 - start) (drop start out))
   hex-room at r b b′ l room = rw digits-are (room-second at r (0x30 ∷ 0x78 ∷ []) (spelled 16 65 20 1 (value 65535 f)) b b′ l room)
 
-  pub hex-laid : (at r q : ℕ) (b b′ b″ : List ℕ) → Laid (0x30 ∷ 0x78 ∷ []) b at r b′ → Laid (take (22 - start) (drop start out)) b′ r q b″ → Laid (hexed f) b at q b″
+  pub hex-laid : (at r q : ℕ) (b b′ b″ : List ℕ) → Laid (0x30 ∷ 0x78 ∷ []) b at r b′
+      → Laid (take (22 - start) (drop start out)) b′ r q b″ → Laid (hexed f) b at q b″
   hex-laid at r q b b′ b″ l m = laid-both (0x30 ∷ 0x78 ∷ []) (spelled 16 65 20 1 (value 65535 f)) b b′ b″ at r q l (rw digits-are at m)
 
 pub hex-mark : (f : List ℕ) (at : ℕ) → Room at (hexed f) → Room at (0x30 ∷ 0x78 ∷ [])
@@ -125,7 +130,8 @@ module _ (x : ℕ) where
   pub true-laid : (b b′ : List ℕ) (at r : ℕ) → Laid (0x74 ∷ 0x72 ∷ 0x75 ∷ 0x65 ∷ []) b at r b′ → x ≡ 0x31 → Laid (flagged x) b at r b′
   true-laid b b′ at r l e = rw (eq-eqb x 0x31 e) l
 
-  pub false-laid : (b b′ : List ℕ) (at r : ℕ) → Laid (0x66 ∷ 0x61 ∷ 0x6c ∷ 0x73 ∷ 0x65 ∷ []) b at r b′ → (x ≡ 0x31 → ⊥) → Laid (flagged x) b at r b′
+  pub false-laid : (b b′ : List ℕ) (at r : ℕ) → Laid (0x66 ∷ 0x61 ∷ 0x6c ∷ 0x73 ∷ 0x65 ∷ []) b at r b′ → (x ≡ 0x31 → ⊥)
+      → Laid (flagged x) b at r b′
   false-laid b b′ at r l e = rw (ne-eqb x 0x31 e) l
 
 pub ruleset laws = (

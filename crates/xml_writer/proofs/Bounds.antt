@@ -74,7 +74,8 @@ escape-low x = go (eqb x 0x26) (eqb x 0x3c) (eqb x 0x3e) (eqb x 0x22) (eqb x 0x2
         (cond a (0x26 ∷ 0x61 ∷ 0x6d ∷ 0x70 ∷ 0x3b ∷ [])
         (cond b (0x26 ∷ 0x6c ∷ 0x74 ∷ 0x3b ∷ [])
         (cond c (0x26 ∷ 0x67 ∷ 0x74 ∷ 0x3b ∷ [])
-        (cond d (0x26 ∷ 0x71 ∷ 0x75 ∷ 0x6f ∷ 0x74 ∷ 0x3b ∷ []) (cond e (0x26 ∷ 0x61 ∷ 0x70 ∷ 0x6f ∷ 0x73 ∷ 0x3b ∷ []) (x ∷ [])))))) ≤ 6
+        (cond d (0x26 ∷ 0x71 ∷ 0x75 ∷ 0x6f ∷ 0x74 ∷ 0x3b ∷ [])
+        (cond e (0x26 ∷ 0x61 ∷ 0x70 ∷ 0x6f ∷ 0x73 ∷ 0x3b ∷ []) (x ∷ [])))))) ≤ 6
     go true b c d e = omega arith
     go false true c d e = omega arith
     go false false true d e = omega arith
@@ -90,7 +91,8 @@ escaped-low (x ∷ xs) = omega (arith, length-append (escapeOf x) (escaped xs), 
 spelled-low : (base ten most least n : ℕ) → length (spelled base ten most least n) ≤ most
 unfolding spelled
 spelled-low base ten zero least n = omega arith
-spelled-low base ten (suc most) least n = go (eqb n 0 && eqb least 0) (spelled base ten most (least - 1) (n / base)) (spelled-low base ten most (least - 1) (n / base))
+spelled-low base ten (suc most) least n =
+    go (eqb n 0 && eqb least 0) (spelled base ten most (least - 1) (n / base)) (spelled-low base ten most (least - 1) (n / base))
   where
     go : (t : Bool) (rest : List ℕ) → length rest ≤ most → length (cond t [] (rest ++ (glyph ten (n % base) ∷ []))) ≤ suc most
     go true rest h = omega arith
@@ -157,7 +159,9 @@ unfolding table
 row-low k = short-at 274 (lines table) k (split-short 10 table)
 
 entries-short : (k : ℕ) → Short 300 (entriesOf k)
-entries-short k = short-drop 300 (rowOf k) (short-more (length (getD (lines table) k [])) 300 (rowOf k) (omega (arith, row-low k)) (split-short 9 (getD (lines table) k [])))
+entries-short k =
+    short-drop 300 (rowOf k)
+    (short-more (length (getD (lines table) k [])) 300 (rowOf k) (omega (arith, row-low k)) (split-short 9 (getD (lines table) k [])))
 
 entries-few : (k : ℕ) → length (entriesOf k) ≤ 275
 entries-few k = omega (arith, few-drop (rowOf k), split-few 9 (getD (lines table) k []), row-low k)

@@ -12,43 +12,33 @@ Inv-loop buffer₀ at bytes i₀ buffer i = Going buffer buffer₀ bytes at i
 abbrev μ-loop : tie.MeasureT-loop
 μ-loop buffer₀ at bytes i₀ buffer i = length bytes - i
 
--- src/lib.rt:25:5
 loop-holds : tie.Need-loop-holds Inv-loop μ-loop
 loop-holds c = search (needs, laws)
 
--- src/lib.rt:26:17
 shared-slice-read-b : tie.Need-shared-slice-read-b Inv-loop μ-loop
 shared-slice-read-b c = search (needs, laws)
 
--- src/lib.rt:27:29
 add-append-byte : tie.Need-add-append-byte Inv-loop μ-loop
 add-append-byte c = search (needs, laws)
 
--- src/lib.rt:27:9
 append-byte-requires : tie.Need-append-byte-requires Inv-loop μ-loop
 append-byte-requires c κs = search (needs, laws)
 
--- src/lib.rt:28:9
 add-i : tie.Need-add-i Inv-loop μ-loop
 add-i c = search (needs, laws)
 
--- src/lib.rt:25:5
 loop-less : tie.Need-loop-less Inv-loop μ-loop
 loop-less c = search (needs, laws)
 
--- src/lib.rt:25:5
 loop-again : tie.Need-loop-again Inv-loop μ-loop
 loop-again c = search (needs, laws)
 
--- src/lib.rt:30:5
 add-result : tie.Need-add-result Inv-loop μ-loop
 add-result c = search (needs, laws)
 
--- src/lib.rt:20:1
 same-length : tie.Need-same-length Inv-loop μ-loop
 same-length c = search (needs, laws)
 
--- src/lib.rt:20:1
 returns : tie.Need-returns Inv-loop μ-loop
 returns c = search (needs, laws)
 

@@ -12,67 +12,51 @@ Inv-loop text at₀ line₀ far₀ at line far = Sofar text at line far
 abbrev μ-loop : tie.MeasureT-loop
 μ-loop text at₀ line₀ far₀ at line far = length text - at
 
--- src/lib.rt:41:5
 loop-holds : tie.Need-loop-holds Inv-loop μ-loop
 loop-holds c = search (needs, laws)
 
--- src/lib.rt:42:20
 sub-rest : tie.Need-sub-rest Inv-loop μ-loop
 sub-rest c = search (needs, laws)
 
--- src/lib.rt:42:20
 part-rest-start : tie.Need-part-rest-start Inv-loop μ-loop
 part-rest-start c = search (needs, laws)
 
--- src/lib.rt:42:20
 part-rest-end : tie.Need-part-rest-end Inv-loop μ-loop
 part-rest-end c = search (needs, laws)
 
--- src/lib.rt:43:13
 find-requires : tie.Need-find-requires Inv-loop μ-loop
 find-requires c κs = search (needs, laws)
 
--- src/lib.rt:45:13
 returns : tie.Need-returns Inv-loop μ-loop
 returns c = search (needs, laws)
 
--- src/lib.rt:47:32
 slice-aggregate-letter-of : tie.Need-slice-aggregate-letter-of Inv-loop μ-loop
 slice-aggregate-letter-of c = search (needs, laws)
 
--- src/lib.rt:47:13
 letter-of-requires : tie.Need-letter-of-requires Inv-loop μ-loop
 letter-of-requires c κs = search (needs, laws)
 
--- src/lib.rt:48:12
 is-in-order-requires : tie.Need-is-in-order-requires Inv-loop μ-loop
 is-in-order-requires c κs = search (needs, laws)
 
--- src/lib.rt:49:13
 go-farther-requires : tie.Need-go-farther-requires Inv-loop μ-loop
 go-farther-requires c κs = search (needs, laws)
 
--- src/lib.rt:50:18
 add-at : tie.Need-add-at Inv-loop μ-loop
 add-at c = search (needs, laws)
 
--- src/lib.rt:50:18
 add-at-2 : tie.Need-add-at-2 Inv-loop μ-loop
 add-at-2 c = search (needs, laws)
 
--- src/lib.rt:51:13
 add-line : tie.Need-add-line Inv-loop μ-loop
 add-line c = search (needs, laws)
 
--- src/lib.rt:41:5
 loop-less : tie.Need-loop-less Inv-loop μ-loop
 loop-less c = search (needs, laws)
 
--- src/lib.rt:41:5
 loop-again : tie.Need-loop-again Inv-loop μ-loop
 loop-again c = search (needs, laws)
 
--- src/lib.rt:53:13
 returns-2 : tie.Need-returns-2 Inv-loop μ-loop
 returns-2 c = search (needs, laws)
 

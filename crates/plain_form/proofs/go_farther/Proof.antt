@@ -4,11 +4,13 @@ use Rattle.plain_form.proofs.Laws.{laws}
 use Rattle.plain_form.proofs.go_farther.Statement.{statement}
 use Rattle.plain_form.proofs.go_farther.Tie as tie
 
--- src/lib.rt:21:1
--- src/lib.rt:21:1
--- src/lib.rt:21:1
--- src/lib.rt:21:1
--- src/lib.rt:21:1
--- src/lib.rt:21:1
 pub go-farther-spec : {M : Type 1} → statement M
-go-farther-spec = tie.close (tie.spec (λ c. search (needs, laws)) (λ c. search (needs, laws)) (λ c. search (needs, laws)) (λ c. search (needs, laws)) (λ c. search (needs, laws)) (λ c. search (needs, laws)))
+go-farther-spec =
+    tie.close
+    (tie.spec
+    (λ c. search (needs, laws))
+    (λ c. search (needs, laws))
+    (λ c. search (needs, laws))
+    (λ c. search (needs, laws))
+    (λ c. search (needs, laws))
+    (λ c. search (needs, laws)))

@@ -4,10 +4,12 @@ use Rattle.plain_form.proofs.Laws.{laws}
 use Rattle.plain_form.proofs.is_in_order.Statement.{statement}
 use Rattle.plain_form.proofs.is_in_order.Tie as tie
 
--- src/lib.rt:8:1
--- src/lib.rt:8:1
--- src/lib.rt:8:1
--- src/lib.rt:8:1
--- src/lib.rt:8:1
 pub is-in-order-spec : {M : Type 1} → statement M
-is-in-order-spec = tie.close (tie.spec (λ c. search (needs, laws)) (λ c. search (needs, laws)) (λ c. search (needs, laws)) (λ c. search (needs, laws)) (λ c. search (needs, laws)))
+is-in-order-spec =
+    tie.close
+    (tie.spec
+    (λ c. search (needs, laws))
+    (λ c. search (needs, laws))
+    (λ c. search (needs, laws))
+    (λ c. search (needs, laws))
+    (λ c. search (needs, laws)))

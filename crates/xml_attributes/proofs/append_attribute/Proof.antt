@@ -4,14 +4,6 @@ use borrow.Author.Needs.{needs}
 use Rattle.xml_attributes.proofs.append_attribute.Statement.{statement}
 use Rattle.xml_attributes.proofs.append_attribute.Tie as tie
 
--- src/lib.rt:100:9
--- src/lib.rt:101:8
--- src/lib.rt:102:9
--- src/lib.rt:104:9
--- src/lib.rt:105:9
--- src/lib.rt:106:5
--- src/lib.rt:96:1
--- src/lib.rt:96:1
 pub append-attribute-spec : {M : Type 1} → statement M
 append-attribute-spec =
     tie.close

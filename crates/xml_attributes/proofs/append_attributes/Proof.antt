@@ -13,83 +13,63 @@ Inv-loop buffer₀ at row line first next₀ place₀ k₀ j₀ buffer next plac
 abbrev μ-loop : tie.MeasureT-loop
 μ-loop buffer₀ at row line first next₀ place₀ k₀ j₀ buffer next place k j = length row - place
 
--- src/lib.rt:139:5
 loop-holds : tie.Need-loop-holds Inv-loop μ-loop
 loop-holds c = search (needs, laws)
 
--- src/lib.rt:140:20
 sub-rest : tie.Need-sub-rest Inv-loop μ-loop
 sub-rest c = search (needs, laws)
 
--- src/lib.rt:140:20
 part-rest-start : tie.Need-part-rest-start Inv-loop μ-loop
 part-rest-start c = search (needs, laws)
 
--- src/lib.rt:140:20
 part-rest-end : tie.Need-part-rest-end Inv-loop μ-loop
 part-rest-end c = search (needs, laws)
 
--- src/lib.rt:141:15
 next-entry-requires : tie.Need-next-entry-requires Inv-loop μ-loop
 next-entry-requires c κs = search (needs, laws)
 
--- src/lib.rt:143:17
 enum-told : tie.Need-enum-told Inv-loop μ-loop
 enum-told c = search (needs, laws)
 
--- src/lib.rt:143:17
 same-length : tie.Need-same-length Inv-loop μ-loop
 same-length c = search (needs, laws)
 
--- src/lib.rt:143:17
 returns : tie.Need-returns Inv-loop μ-loop
 returns c = search (needs, laws)
 
--- src/lib.rt:145:25
 enum-known-a : tie.Need-enum-known-a Inv-loop μ-loop
 enum-known-a c = search (needs, laws)
 
--- src/lib.rt:146:27
 add-end : tie.Need-add-end Inv-loop μ-loop
 add-end c = search (needs, laws)
 
--- src/lib.rt:147:29
 sub-entry : tie.Need-sub-entry Inv-loop μ-loop
 sub-entry c = search (needs, laws)
 
--- src/lib.rt:147:29
 part-entry-start : tie.Need-part-entry-start Inv-loop μ-loop
 part-entry-start c = search (needs, laws)
 
--- src/lib.rt:147:29
 part-entry-end : tie.Need-part-entry-end Inv-loop μ-loop
 part-entry-end c = search (needs, laws)
 
--- src/lib.rt:148:17
 append-attribute-requires : tie.Need-append-attribute-requires Inv-loop μ-loop
 append-attribute-requires c κs = search (needs, laws)
 
--- src/lib.rt:149:21
 form-of-requires : tie.Need-form-of-requires Inv-loop μ-loop
 form-of-requires c κs = search (needs, laws)
 
--- src/lib.rt:150:17
 field-after-requires : tie.Need-field-after-requires Inv-loop μ-loop
 field-after-requires c κs = search (needs, laws)
 
--- src/lib.rt:151:17
 digit-after-requires : tie.Need-digit-after-requires Inv-loop μ-loop
 digit-after-requires c κs = search (needs, laws)
 
--- src/lib.rt:152:17
 add-place : tie.Need-add-place Inv-loop μ-loop
 add-place c = search (needs, laws)
 
--- src/lib.rt:139:5
 loop-less : tie.Need-loop-less Inv-loop μ-loop
 loop-less c = search (needs, laws)
 
--- src/lib.rt:139:5
 loop-again : tie.Need-loop-again Inv-loop μ-loop
 loop-again c = search (needs, laws)
 

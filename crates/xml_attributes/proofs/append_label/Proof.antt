@@ -4,16 +4,6 @@ use borrow.Author.Needs.{needs}
 use Rattle.xml_attributes.proofs.append_label.Statement.{statement}
 use Rattle.xml_attributes.proofs.append_label.Tie as tie
 
--- src/lib.rt:89:9
--- src/lib.rt:90:9
--- src/lib.rt:91:38
--- src/lib.rt:91:38
--- src/lib.rt:91:38
--- src/lib.rt:91:9
--- src/lib.rt:92:27
--- src/lib.rt:92:5
--- src/lib.rt:85:1
--- src/lib.rt:85:1
 pub append-label-spec : {M : Type 1} → statement M
 append-label-spec =
     tie.close

@@ -4,14 +4,6 @@ use borrow.Author.Needs.{needs}
 use Rattle.xml_attributes.proofs.append_value.Statement.{statement}
 use Rattle.xml_attributes.proofs.append_value.Tie as tie
 
--- src/lib.rt:58:36
--- src/lib.rt:58:13
--- src/lib.rt:59:9
--- src/lib.rt:59:9
--- src/lib.rt:59:9
--- src/lib.rt:61:5
--- src/lib.rt:53:1
--- src/lib.rt:53:1
 pub append-value-spec : {M : Type 1} → statement M
 append-value-spec =
     tie.close

@@ -4,8 +4,5 @@ use borrow.Author.Needs.{needs}
 use Rattle.xml_attributes.proofs.digit_after.Statement.{statement}
 use Rattle.xml_attributes.proofs.digit_after.Tie as tie
 
--- src/lib.rt:125:23
--- src/lib.rt:121:1
--- src/lib.rt:121:1
 pub digit-after-spec : {M : Type 1} → statement M
 digit-after-spec = tie.close (tie.spec (λ c. search (needs, laws)) (λ c. search (needs, laws)) (λ c. search (needs, laws)))

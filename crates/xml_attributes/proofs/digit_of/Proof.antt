@@ -4,8 +4,5 @@ use borrow.Author.Needs.{needs}
 use Rattle.xml_attributes.proofs.digit_of.Statement.{statement}
 use Rattle.xml_attributes.proofs.digit_of.Tie as tie
 
--- src/lib.rt:34:16
--- src/lib.rt:34:9
--- src/lib.rt:30:1
 pub digit-of-spec : {M : Type 1} → statement M
 digit-of-spec = tie.close (tie.spec (λ c. search (needs, laws)) (λ c. search (needs, laws)) (λ c. search (needs, laws)))

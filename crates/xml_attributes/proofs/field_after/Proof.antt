@@ -4,9 +4,5 @@ use borrow.Author.Needs.{needs}
 use Rattle.xml_attributes.proofs.field_after.Statement.{statement}
 use Rattle.xml_attributes.proofs.field_after.Tie as tie
 
--- src/lib.rt:115:9
--- src/lib.rt:117:34
--- src/lib.rt:110:1
--- src/lib.rt:110:1
 pub field-after-spec : {M : Type 1} → statement M
 field-after-spec = tie.close (tie.spec (λ c. search (needs, laws)) (λ c. search (needs, laws)) (λ c. search (needs, laws)) (λ c. search (needs, laws)))

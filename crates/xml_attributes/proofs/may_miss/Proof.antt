@@ -4,7 +4,5 @@ use Rattle.xml_attributes.proofs.Laws.{laws}
 use Rattle.xml_attributes.proofs.may_miss.Statement.{statement}
 use Rattle.xml_attributes.proofs.may_miss.Tie as tie
 
--- src/lib.rt:69:9
--- src/lib.rt:65:1
 pub may-miss-spec : {M : Type 1} → statement M
 may-miss-spec = tie.close (tie.spec (λ c. search (needs, laws)) (λ c. search (needs, laws)))

@@ -10,35 +10,27 @@ Inv-loop buffer₀ at n next₀ left₀ t6 buffer next left = Blanking n buffer 
 abbrev μ-loop : tie.MeasureT-loop
 μ-loop buffer₀ at n next₀ left₀ t6 buffer next left = left
 
--- src/lib.rt:35:5
 loop-holds : tie.Need-loop-holds Inv-loop μ-loop
 loop-holds c = search (needs, laws)
 
--- src/lib.rt:36:37
 slice-aggregate-append : tie.Need-slice-aggregate-append Inv-loop μ-loop
 slice-aggregate-append c = search (needs, laws)
 
--- src/lib.rt:36:9
 append-requires : tie.Need-append-requires Inv-loop μ-loop
 append-requires c κs = search (needs, laws)
 
--- src/lib.rt:37:9
 sub-left : tie.Need-sub-left Inv-loop μ-loop
 sub-left c = search (needs, laws)
 
--- src/lib.rt:35:5
 loop-less : tie.Need-loop-less Inv-loop μ-loop
 loop-less c = search (needs, laws)
 
--- src/lib.rt:35:5
 loop-again : tie.Need-loop-again Inv-loop μ-loop
 loop-again c = search (needs, laws)
 
--- src/lib.rt:29:1
 same-length : tie.Need-same-length Inv-loop μ-loop
 same-length c = search (needs, laws)
 
--- src/lib.rt:29:1
 returns : tie.Need-returns Inv-loop μ-loop
 returns c = search (needs, laws)
 

@@ -10,35 +10,27 @@ Inv-loop buffer₀ at n d next₀ left₀ place₀ buffer next left place = Clos
 abbrev μ-loop : tie.MeasureT-loop
 μ-loop buffer₀ at n d next₀ left₀ place₀ buffer next left place = left
 
--- src/lib.rt:117:5
 loop-holds : tie.Need-loop-holds Inv-loop μ-loop
 loop-holds c = search (needs, laws)
 
--- src/lib.rt:118:9
 append-shut-requires : tie.Need-append-shut-requires Inv-loop μ-loop
 append-shut-requires c κs = search (needs, laws)
 
--- src/lib.rt:119:9
 go-up-requires : tie.Need-go-up-requires Inv-loop μ-loop
 go-up-requires c κs = search (needs, laws)
 
--- src/lib.rt:120:9
 sub-left : tie.Need-sub-left Inv-loop μ-loop
 sub-left c = search (needs, laws)
 
--- src/lib.rt:117:5
 loop-less : tie.Need-loop-less Inv-loop μ-loop
 loop-less c = search (needs, laws)
 
--- src/lib.rt:117:5
 loop-again : tie.Need-loop-again Inv-loop μ-loop
 loop-again c = search (needs, laws)
 
--- src/lib.rt:110:1
 same-length : tie.Need-same-length Inv-loop μ-loop
 same-length c = search (needs, laws)
 
--- src/lib.rt:110:1
 returns : tie.Need-returns Inv-loop μ-loop
 returns c = search (needs, laws)
 

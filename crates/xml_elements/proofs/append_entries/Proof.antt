@@ -5,72 +5,58 @@ use borrow.Author.Needs.{needs}
 use Rattle.xml_elements.proofs.append_entries.Statement.{statement}
 use Rattle.xml_elements.proofs.append_entries.Tie as tie
 
--- src/lib.rt:182:9
 row-of-requires : tie.Need-row-of-requires
 unfolding table
 row-of-requires c κs = search (needs, laws)
 
--- src/lib.rt:184:13
 add-e : tie.Need-add-e
 unfolding table
 add-e c = search (needs, laws)
 
--- src/lib.rt:186:46
 sub-append-attributes : tie.Need-sub-append-attributes
 unfolding table
 sub-append-attributes c = search (needs, laws)
 
--- src/lib.rt:186:46
 part-append-attributes-start : tie.Need-part-append-attributes-start
 unfolding table
 part-append-attributes-start c = search (needs, laws)
 
--- src/lib.rt:186:46
 part-append-attributes-end : tie.Need-part-append-attributes-end
 unfolding table
 part-append-attributes-end c = search (needs, laws)
 
--- src/lib.rt:186:9
 append-attributes-requires : tie.Need-append-attributes-requires
 unfolding table
 append-attributes-requires c κs = search (needs, laws)
 
--- src/lib.rt:186:9
 same-length : tie.Need-same-length
 unfolding table
 same-length c = search (needs, laws)
 
--- src/lib.rt:186:9
 returns : tie.Need-returns
 unfolding table
 returns c = search (needs, laws)
 
--- src/lib.rt:188:35
 sub-append-attributes-2 : tie.Need-sub-append-attributes-2
 unfolding table
 sub-append-attributes-2 c = search (needs, laws)
 
--- src/lib.rt:188:35
 part-append-attributes-start-2 : tie.Need-part-append-attributes-start-2
 unfolding table
 part-append-attributes-start-2 c = search (needs, laws)
 
--- src/lib.rt:188:35
 part-append-attributes-end-2 : tie.Need-part-append-attributes-end-2
 unfolding table
 part-append-attributes-end-2 c = search (needs, laws)
 
--- src/lib.rt:188:5
 append-attributes-requires-2 : tie.Need-append-attributes-requires-2
 unfolding table
 append-attributes-requires-2 c κs = search (needs, laws)
 
--- src/lib.rt:178:1
 same-length-2 : tie.Need-same-length-2
 unfolding table
 same-length-2 c = search (needs, laws)
 
--- src/lib.rt:178:1
 returns-2 : tie.Need-returns-2
 unfolding table
 returns-2 c = search (needs, laws)

@@ -4,12 +4,12 @@ use borrow.Author.Needs.{needs}
 use Rattle.xml_elements.proofs.append_head.Statement.{statement}
 use Rattle.xml_elements.proofs.append_head.Tie as tie
 
--- src/lib.rt:65:9
--- src/lib.rt:66:9
--- src/lib.rt:67:5
--- src/lib.rt:61:1
--- src/lib.rt:61:1
 pub append-head-spec : {M : Type 1} → statement M
 append-head-spec =
     tie.close
-    (tie.spec (λ c κs. search (needs, laws)) (λ c κs. search (needs, laws)) (λ c κs. search (needs, laws)) (λ c. search (needs, laws)) (λ c. search (needs, laws)))
+    (tie.spec
+    (λ c κs. search (needs, laws))
+    (λ c κs. search (needs, laws))
+    (λ c κs. search (needs, laws))
+    (λ c. search (needs, laws))
+    (λ c. search (needs, laws)))

@@ -12,75 +12,57 @@ Inv-loop buffer₀ at text next₀ start₀ place₀ buffer next start place = W
 abbrev μ-loop : tie.MeasureT-loop
 μ-loop buffer₀ at text next₀ start₀ place₀ buffer next start place = length text - start
 
--- src/lib.rt:257:5
 loop-holds : tie.Need-loop-holds Inv-loop μ-loop
 loop-holds c = search (needs, line-laws)
 
--- src/lib.rt:258:20
 sub-rest : tie.Need-sub-rest Inv-loop μ-loop
 sub-rest c = search (needs, line-laws)
 
--- src/lib.rt:258:20
 part-rest-start : tie.Need-part-rest-start Inv-loop μ-loop
 part-rest-start c = search (needs, line-laws)
 
--- src/lib.rt:258:20
 part-rest-end : tie.Need-part-rest-end Inv-loop μ-loop
 part-rest-end c = search (needs, line-laws)
 
--- src/lib.rt:259:13
 find-requires : tie.Need-find-requires Inv-loop μ-loop
 find-requires c κs = search (needs, line-laws)
 
--- src/lib.rt:261:50
 depth-of-requires : tie.Need-depth-of-requires Inv-loop μ-loop
 depth-of-requires c κs = search (needs, line-laws)
 
--- src/lib.rt:261:50
 add-append-closings : tie.Need-add-append-closings Inv-loop μ-loop
 add-append-closings c = search (needs, line-laws)
 
--- src/lib.rt:261:13
 append-closings-requires : tie.Need-append-closings-requires Inv-loop μ-loop
 append-closings-requires c κs = search (needs, line-laws)
 
--- src/lib.rt:261:13
 same-length : tie.Need-same-length Inv-loop μ-loop
 same-length c = search (needs, line-laws)
 
--- src/lib.rt:261:13
 returns : tie.Need-returns Inv-loop μ-loop
 returns c = search (needs, line-laws)
 
--- src/lib.rt:263:13
 slice-aggregate-line : tie.Need-slice-aggregate-line Inv-loop μ-loop
 slice-aggregate-line c = search (needs, line-laws)
 
--- src/lib.rt:264:13
 kind-for-requires : tie.Need-kind-for-requires Inv-loop μ-loop
 kind-for-requires c κs = search (needs, line-laws)
 
--- src/lib.rt:265:9
 append-element-requires : tie.Need-append-element-requires Inv-loop μ-loop
 append-element-requires c κs = search (needs, line-laws)
 
--- src/lib.rt:266:9
 place-after-requires : tie.Need-place-after-requires Inv-loop μ-loop
 place-after-requires c κs = search (needs, line-laws)
 
--- src/lib.rt:267:17
 add-start : tie.Need-add-start Inv-loop μ-loop
 add-start c = search (needs, line-laws)
 
--- src/lib.rt:267:17
 add-start-2 : tie.Need-add-start-2 Inv-loop μ-loop
 add-start-2 c = search (needs, line-laws)
 
--- src/lib.rt:257:5
 loop-less : tie.Need-loop-less Inv-loop μ-loop
 loop-less c = search (needs, line-laws)
 
--- src/lib.rt:257:5
 loop-again : tie.Need-loop-again Inv-loop μ-loop
 loop-again c = search (needs, line-laws)
 

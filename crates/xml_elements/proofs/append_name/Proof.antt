@@ -5,42 +5,34 @@ use borrow.Author.Needs.{needs}
 use Rattle.xml_elements.proofs.append_name.Statement.{statement}
 use Rattle.xml_elements.proofs.append_name.Tie as tie
 
--- src/lib.rt:54:9
 name-of-requires : tie.Need-name-of-requires
 unfolding elements
 name-of-requires c κs = search (needs, laws)
 
--- src/lib.rt:56:13
 add-e : tie.Need-add-e
 unfolding elements
 add-e c = search (needs, laws)
 
--- src/lib.rt:57:24
 sub-append : tie.Need-sub-append
 unfolding elements
 sub-append c = search (needs, laws)
 
--- src/lib.rt:57:24
 part-append-start : tie.Need-part-append-start
 unfolding elements
 part-append-start c = search (needs, laws)
 
--- src/lib.rt:57:24
 part-append-end : tie.Need-part-append-end
 unfolding elements
 part-append-end c = search (needs, laws)
 
--- src/lib.rt:57:5
 append-requires : tie.Need-append-requires
 unfolding elements
 append-requires c κs = search (needs, laws)
 
--- src/lib.rt:50:1
 same-length : tie.Need-same-length
 unfolding elements
 same-length c = search (needs, laws)
 
--- src/lib.rt:50:1
 returns : tie.Need-returns
 unfolding elements
 returns c = search (needs, laws)

@@ -4,10 +4,11 @@ use borrow.Author.Needs.{needs}
 use Rattle.xml_elements.proofs.append_rest.Statement.{statement}
 use Rattle.xml_elements.proofs.append_rest.Tie as tie
 
--- src/lib.rt:196:9
--- src/lib.rt:197:5
--- src/lib.rt:192:1
--- src/lib.rt:192:1
 pub append-rest-spec : {M : Type 1} → statement M
 append-rest-spec =
-    tie.close (tie.spec (λ c κs. search (needs, rest-laws)) (λ c κs. search (needs, rest-laws)) (λ c. search (needs, rest-laws)) (λ c. search (needs, rest-laws)))
+    tie.close
+    (tie.spec
+    (λ c κs. search (needs, rest-laws))
+    (λ c κs. search (needs, rest-laws))
+    (λ c. search (needs, rest-laws))
+    (λ c. search (needs, rest-laws)))

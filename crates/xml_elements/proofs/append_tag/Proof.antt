@@ -4,13 +4,6 @@ use borrow.Author.Needs.{needs}
 use Rattle.xml_elements.proofs.append_tag.Statement.{statement}
 use Rattle.xml_elements.proofs.append_tag.Tie as tie
 
--- src/lib.rt:205:40
--- src/lib.rt:205:40
--- src/lib.rt:205:65
--- src/lib.rt:205:9
--- src/lib.rt:206:5
--- src/lib.rt:201:1
--- src/lib.rt:201:1
 pub append-tag-spec : {M : Type 1} → statement M
 append-tag-spec =
     tie.close

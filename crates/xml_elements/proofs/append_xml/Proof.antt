@@ -5,27 +5,22 @@ use borrow.Author.Needs.{needs}
 use Rattle.xml_elements.proofs.append_xml.Statement.{statement}
 use Rattle.xml_elements.proofs.append_xml.Tie as tie
 
--- src/lib.rt:287:9
 slice-aggregate-append : tie.Need-slice-aggregate-append
 unfolding opening
 slice-aggregate-append c = search (needs, xml-laws)
 
--- src/lib.rt:284:9
 append-requires : tie.Need-append-requires
 unfolding opening
 append-requires c κs = search (needs, xml-laws)
 
--- src/lib.rt:289:5
 append-lines-requires : tie.Need-append-lines-requires
 unfolding opening
 append-lines-requires c κs = search (needs, xml-laws)
 
--- src/lib.rt:280:1
 same-length : tie.Need-same-length
 unfolding opening
 same-length c = search (needs, xml-laws)
 
--- src/lib.rt:280:1
 returns : tie.Need-returns
 unfolding opening
 returns c = search (needs, xml-laws)

@@ -4,9 +4,5 @@ use borrow.Author.Needs.{needs}
 use Rattle.xml_elements.proofs.depth_of.Statement.{statement}
 use Rattle.xml_elements.proofs.depth_of.Tie as tie
 
--- src/lib.rt:75:16
--- src/lib.rt:75:9
--- src/lib.rt:71:1
--- src/lib.rt:71:1
 pub depth-of-spec : {M : Type 1} → statement M
 depth-of-spec = tie.close (tie.spec (λ c. search (needs, laws)) (λ c. search (needs, laws)) (λ c. search (needs, laws)) (λ c. search (needs, laws)))

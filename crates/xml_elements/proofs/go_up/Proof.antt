@@ -4,10 +4,12 @@ use borrow.Author.Needs.{needs}
 use Rattle.xml_elements.proofs.go_up.Statement.{statement}
 use Rattle.xml_elements.proofs.go_up.Tie as tie
 
--- src/lib.rt:92:9
--- src/lib.rt:95:9
--- src/lib.rt:97:18
--- src/lib.rt:88:1
--- src/lib.rt:88:1
 pub go-up-spec : {M : Type 1} → statement M
-go-up-spec = tie.close (tie.spec (λ c. search (needs, laws)) (λ c. search (needs, laws)) (λ c. search (needs, laws)) (λ c. search (needs, laws)) (λ c. search (needs, laws)))
+go-up-spec =
+    tie.close
+    (tie.spec
+    (λ c. search (needs, laws))
+    (λ c. search (needs, laws))
+    (λ c. search (needs, laws))
+    (λ c. search (needs, laws))
+    (λ c. search (needs, laws)))

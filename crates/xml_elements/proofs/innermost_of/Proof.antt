@@ -4,7 +4,5 @@ use Rattle.xml_elements.proofs.Laws.{laws}
 use Rattle.xml_elements.proofs.innermost_of.Statement.{statement}
 use Rattle.xml_elements.proofs.innermost_of.Tie as tie
 
--- src/lib.rt:81:1
--- src/lib.rt:81:1
 pub innermost-of-spec : {M : Type 1} → statement M
 innermost-of-spec = tie.close (tie.spec (λ c. search (needs, laws)) (λ c. search (needs, laws)))

@@ -4,8 +4,5 @@ use Rattle.xml_elements.proofs.Laws.{laws}
 use Rattle.xml_elements.proofs.is_alone.Statement.{statement}
 use Rattle.xml_elements.proofs.is_alone.Tie as tie
 
--- src/lib.rt:158:9
--- src/lib.rt:161:9
--- src/lib.rt:154:1
 pub is-alone-spec : {M : Type 1} → statement M
 is-alone-spec = tie.close (tie.spec (λ c. search (needs, laws)) (λ c. search (needs, laws)) (λ c. search (needs, laws)))

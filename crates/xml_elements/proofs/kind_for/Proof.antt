@@ -4,8 +4,5 @@ use borrow.Author.Needs.{needs}
 use Rattle.xml_elements.proofs.kind_for.Statement.{statement}
 use Rattle.xml_elements.proofs.kind_for.Tie as tie
 
--- src/lib.rt:246:17
--- src/lib.rt:246:5
--- src/lib.rt:243:1
 pub kind-for-spec : {M : Type 1} → statement M
 kind-for-spec = tie.close (tie.spec (λ c κs. search (needs, laws)) (λ c κs. search (needs, laws)) (λ c. search (needs, laws)))

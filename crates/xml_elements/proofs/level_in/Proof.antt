@@ -4,11 +4,12 @@ use borrow.Author.Needs.{needs}
 use Rattle.xml_elements.proofs.level_in.Statement.{statement}
 use Rattle.xml_elements.proofs.level_in.Tie as tie
 
--- src/lib.rt:137:27
--- src/lib.rt:137:16
--- src/lib.rt:137:16
--- src/lib.rt:137:9
--- src/lib.rt:133:1
 pub level-in-spec : {M : Type 1} → statement M
 level-in-spec =
-    tie.close (tie.spec (λ c κs. search (needs, laws)) (λ c κs. search (needs, laws)) (λ c. search (needs, laws)) (λ c. search (needs, laws)) (λ c. search (needs, laws)))
+    tie.close
+    (tie.spec
+    (λ c κs. search (needs, laws))
+    (λ c κs. search (needs, laws))
+    (λ c. search (needs, laws))
+    (λ c. search (needs, laws))
+    (λ c. search (needs, laws)))

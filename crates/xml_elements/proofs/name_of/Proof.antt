@@ -5,9 +5,6 @@ use borrow.Author.Needs.{needs}
 use Rattle.xml_elements.proofs.name_of.Statement.{statement}
 use Rattle.xml_elements.proofs.name_of.Tie as tie
 
--- src/lib.rt:46:16
--- src/lib.rt:46:5
--- src/lib.rt:43:1
 returns : tie.Need-returns
 unfolding elements
 returns c = search (needs, laws)

@@ -4,8 +4,5 @@ use borrow.Author.Needs.{needs}
 use Rattle.xml_elements.proofs.place_after.Statement.{statement}
 use Rattle.xml_elements.proofs.place_after.Tie as tie
 
--- src/lib.rt:239:20
--- src/lib.rt:239:5
--- src/lib.rt:236:1
 pub place-after-spec : {M : Type 1} → statement M
 place-after-spec = tie.close (tie.spec (λ c κs. search (needs, laws)) (λ c κs. search (needs, laws)) (λ c. search (needs, laws)))

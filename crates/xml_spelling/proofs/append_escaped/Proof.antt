@@ -12,35 +12,27 @@ Inv-loop buffer₀ at s next₀ i₀ buffer next i = Escaping s buffer buffer₀
 abbrev μ-loop : tie.MeasureT-loop
 μ-loop buffer₀ at s next₀ i₀ buffer next i = length s - i
 
--- src/lib.rt:32:5
 loop-holds : tie.Need-loop-holds Inv-loop μ-loop
 loop-holds c = search (needs, laws)
 
--- src/lib.rt:33:17
 shared-slice-read-b : tie.Need-shared-slice-read-b Inv-loop μ-loop
 shared-slice-read-b c = search (needs, laws)
 
--- src/lib.rt:34:9
 append-escape-requires : tie.Need-append-escape-requires Inv-loop μ-loop
 append-escape-requires c κs = search (needs, laws)
 
--- src/lib.rt:35:9
 add-i : tie.Need-add-i Inv-loop μ-loop
 add-i c = search (needs, laws)
 
--- src/lib.rt:32:5
 loop-less : tie.Need-loop-less Inv-loop μ-loop
 loop-less c = search (needs, laws)
 
--- src/lib.rt:32:5
 loop-again : tie.Need-loop-again Inv-loop μ-loop
 loop-again c = search (needs, laws)
 
--- src/lib.rt:26:1
 same-length : tie.Need-same-length Inv-loop μ-loop
 same-length c = search (needs, laws)
 
--- src/lib.rt:26:1
 returns : tie.Need-returns Inv-loop μ-loop
 returns c = search (needs, laws)
 

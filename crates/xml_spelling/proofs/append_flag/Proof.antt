@@ -4,14 +4,6 @@ use borrow.Author.Needs.{needs}
 use Rattle.xml_spelling.proofs.append_flag.Statement.{statement}
 use Rattle.xml_spelling.proofs.append_flag.Tie as tie
 
--- src/lib.rt:58:35
--- src/lib.rt:58:9
--- src/lib.rt:58:9
--- src/lib.rt:58:9
--- src/lib.rt:60:24
--- src/lib.rt:60:5
--- src/lib.rt:53:1
--- src/lib.rt:53:1
 pub append-flag-spec : {M : Type 1} → statement M
 append-flag-spec =
     tie.close

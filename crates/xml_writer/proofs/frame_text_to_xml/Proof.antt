@@ -4,13 +4,6 @@ use borrow.Author.Needs.{needs}
 use Rattle.xml_writer.proofs.frame_text_to_xml.Statement.{statement}
 use Rattle.xml_writer.proofs.frame_text_to_xml.Tie as tie
 
--- src/lib.rt:45:11
--- src/lib.rt:46:48
--- src/lib.rt:46:30
--- src/lib.rt:47:26
--- src/lib.rt:42:1
--- src/lib.rt:42:1
--- src/lib.rt:42:1
 pub frame-text-to-xml-spec : {M : Type 1} → statement M
 frame-text-to-xml-spec =
     tie.close

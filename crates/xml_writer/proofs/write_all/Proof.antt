@@ -4,12 +4,6 @@ use borrow.Author.Needs.{needs}
 use Rattle.xml_writer.proofs.write_all.Statement.{statement}
 use Rattle.xml_writer.proofs.write_all.Tie as tie
 
--- src/lib.rt:21:35
--- src/lib.rt:21:9
--- src/lib.rt:23:9
--- src/lib.rt:25:5
--- src/lib.rt:16:1
--- src/lib.rt:16:1
 pub write-all-spec : {M : Type 1} → statement M
 write-all-spec =
     tie.close

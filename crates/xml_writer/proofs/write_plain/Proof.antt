@@ -4,11 +4,12 @@ use borrow.Author.Needs.{needs}
 use Rattle.xml_writer.proofs.write_plain.Statement.{statement}
 use Rattle.xml_writer.proofs.write_plain.Tie as tie
 
--- src/lib.rt:34:9
--- src/lib.rt:36:9
--- src/lib.rt:36:9
--- src/lib.rt:36:9
--- src/lib.rt:30:1
 pub write-plain-spec : {M : Type 1} → statement M
 write-plain-spec =
-    tie.close (tie.spec (λ c κs. search (needs, laws)) (λ c κs. search (needs, laws)) (λ c. search (needs, laws)) (λ c. search (needs, laws)) (λ c. search (needs, laws)))
+    tie.close
+    (tie.spec
+    (λ c κs. search (needs, laws))
+    (λ c κs. search (needs, laws))
+    (λ c. search (needs, laws))
+    (λ c. search (needs, laws))
+    (λ c. search (needs, laws)))
