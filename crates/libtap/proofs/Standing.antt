@@ -8,7 +8,7 @@ use lib.Dec.{eqb, leb, ltb}
 use lib.ListN.{length}
 use borrow.Author.Tests.{eqb-false, leb-true, ltb-false}
 use Rattle.refusal.specs.declared.Refusal.{Refusal}
-use Rattle.refusal.specs.declared.Refusal.the-variants.{NoSuchField, TooLong, MoreRows, MoreBytes}
+use Rattle.refusal.specs.declared.Refusal.the-variants.{NoSuchField, TooLong, MoreRows, MoreBytes, NotPlain}
 use Rattle.refusal.specs.Refusal.{numberOf, carriedBy}
 use Rattle.refusal.proofs.Numbers.{numbered}
 use Rattle.text.specs.declared.Verdict.{Verdict}
@@ -17,6 +17,7 @@ use Rattle.frame.specs.declared.Reading.{Reading}
 use Rattle.frame.specs.Frame.{regionBits, rulesOf}
 use Rattle.pti.specs.Payload as pti
 use Rattle.command_text.specs.Rules.{verdict}
+use Rattle.frame_text.specs.Rules.{verdict as frameVerdict}
 use Rattle.tidy.specs.declared.Tidied.the-variants as tidied
 use Rattle.tidy.specs.Tidy as tidy
 use Rattle.header.specs.declared.Decoded.{Decoded}
@@ -55,6 +56,10 @@ use Rattle.libtap.specs.Nodes.{toldListed, ToldHeaderNodes, ToldCommandN
 use Rattle.totals_text.specs.Text.{textOf}
 use Rattle.libtap.specs.Values.{toldWritten, ToldHeaderValue, ToldCommandValue}
 use Rattle.libtap.specs.Totals.{ToldTotals}
+use Rattle.plain_form.specs.PlainForm.{outOfOrder, isPlain}
+use Rattle.xml_elements.specs.Elements.{xmlOf}
+use Rattle.xml_writer.specs.Writer as xml
+use Rattle.libtap.specs.Xml.{ToldXml}
 
 refused-stands : (t : List ℕ) (x : Refusal) → Stands t (record { refusal = numberOf x; value = carriedBy x })
 refused-stands t x z = absurd (eqb-false (numberOf x) 0 (numbered x) z)
@@ -217,6 +222,18 @@ command-value-stands offsets t p k b r b′ told same = rw (told .told-so, told 
 pub totals-stand : (totals b : List ℕ) (r : TapAnswer) (b′ : List ℕ) → ToldTotals totals b r b′ → length b′ ≡ length b → Stands b′ r
 totals-stand totals b r b′ p same = rw (p .told-so, p .writes .answer) (written-stands (length (textOf totals)) b b′ same)
 
+-- ---- a frame text as XML
+pub xml-stands : (t b : List ℕ) (r : TapAnswer) (b′ : List ℕ) → ToldXml t b r b′ → length b′ ≡ length b → Stands b′ r
+xml-stands t b r b′ p same = rw (p .told-so, p .writes .answer) (by-verdict (frameVerdict t))
+  where
+    by-plain : (x : Bool) → Stands b′ (toldWritten (cond x (answerIn (length (xmlOf t)) (length b)) (written.Refused (NotPlain (outOfOrder t)))))
+    by-plain true = written-stands (length (xmlOf t)) b b′ same
+    by-plain false = refused-stands b′ (NotPlain (outOfOrder t))
+
+    by-verdict : (v : Verdict) → Stands b′ (toldWritten (xml.answerBy v (xml.plainAnswer t (length b))))
+    by-verdict Accepted = by-plain (isPlain t)
+    by-verdict (Unfit x) = refused-stands b′ x
+
 pub ruleset standing-laws = (stands-in, frames-stand, tidied-stands, header-stands, params-stand)
 
 pub ruleset node-standing = (stands-in, nodes-stand, command-nodes-stand)
@@ -224,3 +241,5 @@ pub ruleset node-standing = (stands-in, nodes-stand, command-nodes-stand)
 pub ruleset value-standing = (stands-in, value-stands, command-value-stands)
 
 pub ruleset totals-standing = (stands-in, totals-stand)
+
+pub ruleset xml-standing = (stands-in, xml-stands)
