@@ -230,7 +230,7 @@ pub record Sofar (x : List ℕ) (d at : ℕ) : Type 0 where
   pub inside : at ≤ length x
   pub same-verdict : verdict x ≡ judge d at (chunks false (drop at x))
 
-judge-next : (d place : ℕ) (c : List ℕ) (cs : List (List ℕ)) → 1 ≤ length cs → judge d place (c ∷ cs) ≡ cond (eqb (moved d c (tagOf c)) 15) (At (faultAt place c (tagOf c))) (judge (moved d c (tagOf c)) (place + length c + 1) cs)
+pub judge-next : (d place : ℕ) (c : List ℕ) (cs : List (List ℕ)) → 1 ≤ length cs → judge d place (c ∷ cs) ≡ cond (eqb (moved d c (tagOf c)) 15) (At (faultAt place c (tagOf c))) (judge (moved d c (tagOf c)) (place + length c + 1) cs)
 judge-next d place c [] h = absurd (omega arith)
 judge-next d place c (b ∷ cs) h = refl
 
