@@ -8,17 +8,19 @@ use lib.Dec.{eqb, leb, ltb}
 use lib.ListN.{length, getD, take, drop, length-append}
 use borrow.Author.Tests.{le-leb, lt-leb, lt-ltb, le-ltb, eq-eqb, ne-eqb, eqb-true, eqb-false, leb-true, ltb-true, ltb-false}
 use Rattle.laws.proofs.Bools.{and-left, and-right}
+use Rattle.laws.proofs.Lists.{done}
 use Rattle.text.specs.Text.{onto, split, within, without, decimal, upTo, worth, value, missing}
 use Rattle.text.specs.Print.{digitsIn, shown}
 use Rattle.text.specs.Scan.{cut}
-use Rattle.text.proofs.Printing.{shown-back, split-long}
+use Rattle.text.proofs.Printing.{shown-back, split-long, missing-is}
+use Rattle.text.proofs.Laws.{and-false}
 use Rattle.text.proofs.Tests.{value-of}
 use Rattle.numerals.specs.Numerals as numerals
 use Rattle.numerals.specs.Numerals.{glyph, spelled}
 use Rattle.xml_schema.specs.Schema.{flag}
 use Rattle.xml_values.specs.Scan.{isWhite, lead, skip, white}
 use Rattle.xml_values.specs.Values.{entity, meant, parts, plainly, undo, named, allNamed, loose, isWords, unsigned, isCount, strip, digitOf, run, worthIn}
-use Rattle.xml_values.specs.Values.{numeralIn, isHex, numeralFrom, numeral, inDecimal, trues, falses, digitFor}
+use Rattle.xml_values.specs.Values.{numeralIn, isHex, numeralFrom, numeral, isNumeral, inDecimal, trues, falses, digitFor}
 use Rattle.xml_values.specs.declared.Numeral.the-variants.{Is, Not}
 use Rattle.xml_spelling.specs.Spelling.{escapeOf, escaped, hexed, flagged}
 
@@ -239,3 +241,145 @@ hex-spelt (suc most) least n h = go (eqb n 0 && eqb least 0) refl (hex-spelt mos
           worth-append 16 0 (spelled 16 65 most (least - 1) (n / 16)) (glyph 65 (n % 16)) (s .all) (omega (arith, d))
           ∙ omega (arith, s .is, d);
     }
+
+unsigned-run : (l : List ℕ) → run 16 l ≡ length l → unsigned l ≡ l
+unsigned-run [] r = refl
+unsigned-run (x ∷ xs) r = go (eqb x 0x2b) refl
+  where
+    go : (t : Bool) → eqb x 0x2b ≡ t → cond t xs (x ∷ xs) ≡ x ∷ xs
+    go true q =
+        let e : x ≡ 0x2b = eqb-true x 0x2b q in
+        let z : run 16 (0x2b ∷ xs) ≡ suc (length xs) = rw e at r in
+        absurd (let w : _≡_ {A = ℕ} 0 (suc (length xs)) = z in omega arith)
+    go false q = refl
+
+long-append : (l : List ℕ) (x : ℕ) → 1 ≤ length (l ++ (x ∷ []))
+long-append [] x = omega arith
+long-append (y ∷ ys) x = omega arith
+
+some-spelt : (n : ℕ) → 1 ≤ length (spelled 16 65 20 1 n)
+unfolding spelled
+some-spelt n = rw (and-false (eqb n 0)) (long-append (spelled 16 65 19 0 (n / 16)) (glyph 65 (n % 16)))
+
+-- what is written in hexadecimal is that number
+numeral-hexed : (s : List ℕ) (n : ℕ) → Spelt s n → 1 ≤ length s → n ≤ 65535 → numeral (0x30 ∷ 0x78 ∷ s) ≡ Is n
+numeral-hexed s n spelt some low =
+    rw
+    (unsigned-run s (spelt .all), spelt .all, le-leb 1 (length s) some, done s (length s) (omega arith), spelt .is, le-leb n 4294967295 (omega arith))
+
+ten-zero : (most : ℕ) → spelled 10 65 most 0 0 ≡ []
+unfolding spelled
+ten-zero zero = refl
+ten-zero (suc most) = refl
+
+ten-least : (most m : ℕ) → (m ≡ 0 → ⊥) → spelled 10 65 most 0 m ≡ spelled 10 65 most 1 m
+unfolding spelled
+ten-least zero m h = refl
+ten-least (suc most) m h = rw (ne-eqb m 0 h)
+
+-- a number in decimal, spelled in one way and in the other
+tens : (most k n : ℕ) → n < power 10 (suc most) → n < k → spelled 10 65 (suc most) 1 n ≡ digitsIn k n
+unfolding spelled
+tens most zero n h l = absurd (omega arith)
+tens zero (suc k) n h l =
+    let q : n / 10 ≡ 0 = omega arith in
+    let m : n % 10 ≡ n = omega arith in
+    rw (and-false (eqb n 0), m, lt-ltb n 10 (omega arith))
+tens (suc most) (suc k) n h l = go (ltb n 10) refl (tens most k (n / 10))
+  where
+    go : (t : Bool) → ltb n 10 ≡ t → (n / 10 < power 10 (suc most) → n / 10 < k → spelled 10 65 (suc most) 1 (n / 10) ≡ digitsIn k (n / 10))
+        → cond (eqb n 0 && false) [] (spelled 10 65 (suc most) 0 (n / 10) ++ (glyph 65 (n % 10) ∷ []))
+        ≡ cond t ((48 + n) ∷ []) (digitsIn k (n / 10) ++ ((48 + n % 10) ∷ []))
+    go true q ih =
+        let u : n < 10 = ltb-true n 10 q in
+        let z : n / 10 ≡ 0 = omega arith in
+        let m : n % 10 ≡ n = omega arith in
+        rw (and-false (eqb n 0), z, ten-zero (suc most), m, q)
+    go false q ih =
+        let u : 10 ≤ n = ltb-false n 10 q in
+        rw
+        (and-false (eqb n 0), ten-least (suc most) (n / 10) (λ e. omega arith), ih (omega arith) (omega arith), lt-ltb (n % 10) 10 (omega arith))
+
+decimal-back : (l : List ℕ) → upTo 65535 l ≡ true → numerals.decimal (worth 0 l) ≡ l
+unfolding shown
+decimal-back l e =
+    let low : worth 0 l ≤ 65535 = leb-true (worth 0 l) 65535 (and-right (decimal l) (leb (worth 0 l) 65535) e) in
+    tens 19 (suc (worth 0 l)) (worth 0 l) (omega arith) (omega arith) ∙ shown-back l (and-left (decimal l) (leb (worth 0 l) 65535) e)
+
+numeral-is : (l : List ℕ) → upTo 65535 l ≡ true → numeral (hexed l) ≡ Is (worth 0 l)
+numeral-is l e =
+    let low : worth 0 l ≤ 65535 = leb-true (worth 0 l) 65535 (and-right (decimal l) (leb (worth 0 l) 65535) e) in
+    rw (value-of 65535 l e) (numeral-hexed (spelled 16 65 20 1 (worth 0 l)) (worth 0 l) (hex-spelt 20 1 (worth 0 l) (omega arith)) (some-spelt (worth 0 l)) low)
+
+pub hex-valid : (l : List ℕ) → upTo 65535 l ≡ true → isNumeral (numeral (hexed l)) ≡ true
+hex-valid l e = rw (numeral-is l e)
+
+pub hex-says : (l : List ℕ) → upTo 65535 l ≡ true → inDecimal (numeral (hexed l)) ≡ l
+hex-says l e = rw (numeral-is l e) (decimal-back l e)
+
+without-append : (b : ℕ) (l m : List ℕ) → without b l ≡ true → without b m ≡ true → without b (l ++ m) ≡ true
+without-append b [] m p q = q
+without-append b (x ∷ xs) m p q =
+    rw (and-left (not (eqb x b)) (without b xs) p) (without-append b xs m (and-right (not (eqb x b)) (without b xs) p) q)
+
+quotes-glyph : (d : ℕ) → without 0x22 (glyph 65 d ∷ []) ≡ true
+quotes-glyph d = go (ltb d 10)
+  where
+    go : (t : Bool) → without 0x22 (cond t (48 + d) (65 + (d - 10)) ∷ []) ≡ true
+    go true = rw (ne-eqb (48 + d) 0x22 (λ e. omega arith))
+    go false = rw (ne-eqb (65 + (d - 10)) 0x22 (λ e. omega arith))
+
+quotes-spelled : (most least n : ℕ) → without 0x22 (spelled 16 65 most least n) ≡ true
+unfolding spelled
+quotes-spelled zero least n = refl
+quotes-spelled (suc most) least n = go (eqb n 0 && eqb least 0) (quotes-spelled most (least - 1) (n / 16))
+  where
+    go : (t : Bool) → without 0x22 (spelled 16 65 most (least - 1) (n / 16)) ≡ true
+        → without 0x22 (cond t [] (spelled 16 65 most (least - 1) (n / 16) ++ (glyph 65 (n % 16) ∷ []))) ≡ true
+    go true q = refl
+    go false q = without-append 0x22 (spelled 16 65 most (least - 1) (n / 16)) (glyph 65 (n % 16) ∷ []) q (quotes-glyph (n % 16))
+
+pub quotes-hexed : (l : List ℕ) → without 0x22 (hexed l) ≡ true
+quotes-hexed l = quotes-spelled 20 1 (value 65535 l)
+
+-- ---- flags
+abbrev pub isBit : ℕ → Bool
+isBit x = eqb x 0x30 || eqb x 0x31
+
+pub flag-says : (x : ℕ) → isBit x ≡ true → digitFor (flagged x) ≡ x
+unfolding trues falses
+flag-says x e = go (eqb x 0x31) refl
+  where
+    zero-is : (a : Bool) → eqb x 0x30 ≡ a → (a || false) ≡ true → x ≡ 0x30
+    zero-is true q h = eqb-true x 0x30 q
+    zero-is false q h = absurd (let z : _≡_ {A = ℕ} 0 1 = cc in omega arith)
+
+    go : (t : Bool) → eqb x 0x31 ≡ t → digitFor (flagged x) ≡ x
+    go true q = let i : x ≡ 0x31 = eqb-true x 0x31 q in rw i
+    go false q = let i : x ≡ 0x30 = zero-is (eqb x 0x30) refl (rw q at e) in rw i
+
+pub flag-valid : (x : ℕ) → isBit x ≡ true → not (eqb (digitFor (flagged x)) 0) ≡ true
+flag-valid x e = go (eqb x 0) refl
+  where
+    go : (t : Bool) → eqb x 0 ≡ t → not (eqb (digitFor (flagged x)) 0) ≡ true
+    go true q = let z : x ≡ 0 = eqb-true x 0 q in absurd (let w : isBit 0 ≡ true = rw z at e in let y : _≡_ {A = ℕ} 0 1 = cc in omega arith)
+    go false q = rw (flag-says x e, q)
+
+pub quotes-flagged : (x : ℕ) → without 0x22 (flagged x) ≡ true
+quotes-flagged x = go (eqb x 0x31)
+  where
+    go : (t : Bool) → without 0x22 (cond t (0x74 ∷ 0x72 ∷ 0x75 ∷ 0x65 ∷ []) (0x66 ∷ 0x61 ∷ 0x6c ∷ 0x73 ∷ 0x65 ∷ [])) ≡ true
+    go true = refl
+    go false = refl
+
+-- what is not missing is not missing as it is written
+pub given-escaped : (l : List ℕ) → missing l ≡ false → missing (escaped l) ≡ false
+given-escaped l e = go (missing (escaped l)) refl
+  where
+    go : (t : Bool) → missing (escaped l) ≡ t → t ≡ false
+    go false q = refl
+    go true q =
+        let d : escaped l ≡ 45 ∷ [] = missing-is (escaped l) q in
+        let i : l ≡ 45 ∷ [] = sym (undo-escaped l) ∙ ap undo d in
+        let m : missing l ≡ true = rw i in
+        absurd (let y : _≡_ {A = Bool} true false = sym m ∙ e in let z : _≡_ {A = ℕ} 0 1 = cc in omega arith)
