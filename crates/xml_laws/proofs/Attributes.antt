@@ -346,3 +346,160 @@ module _ (fs : List (List ℕ)) (end : List ℕ) where
       go false false q z ih =
           has-more n (labelled (nameOf e)) (valueFor (formOf e) fs k j) rest (pieces-some es (fieldAfter (formOf e) k) (digitAfter (formOf e) j))
           ∙ rw (name-label (nameOf e) (sound-name e es s), same-turned n (nameOf e) q) (ih z)
+
+-- entries that say of each name what all of them say
+abbrev pub agreeing : List (List ℕ) → List (List ℕ) → Bool
+agreeing all [] = true
+agreeing all (e ∷ es) = eqb (formIn all (nameOf e)) (formOf e) && agreeing all es
+
+module _ (fs : List (List ℕ)) (end : List ℕ) (all : List (List ℕ)) where
+  -- no fault is among them
+  pub fault-none : (es : List (List ℕ)) (k j place : ℕ) → sound es ≡ true → fitting fs es k j ≡ true → agreeing all es ≡ true → isEnd end ≡ true
+      → fault all place (pieces fs end es k j) ≡ Fine
+  fault-none [] k j place s f a d = rw d
+  fault-none (e ∷ es) k j place s f a d = go (isAbsent (formOf e) fs k) refl (λ (p : ℕ). fault-none es (fieldAfter (formOf e) k) (digitAfter (formOf e) j) p
+      (sound-rest e es s) (and-right (fitsAt (formOf e) fs k j) (fitting fs es (fieldAfter (formOf e) k) (digitAfter (formOf e) j)) f)
+      (and-right (eqb (formIn all (nameOf e)) (formOf e)) (agreeing all es) a) d)
+    where
+      go : (t : Bool) → isAbsent (formOf e) fs k ≡ t
+          → ((p : ℕ) → fault all p (pieces fs end es (fieldAfter (formOf e) k) (digitAfter (formOf e) j)) ≡ Fine)
+          → fault all place
+          (cond t (pieces fs end es (fieldAfter (formOf e) k) (digitAfter (formOf e) j))
+          (labelled (nameOf e) ∷ valueFor (formOf e) fs k j ∷ pieces fs end es (fieldAfter (formOf e) k) (digitAfter (formOf e) j))) ≡ Fine
+      go true q ih = ih place
+      go false q ih =
+          let r : Reads (formOf e) fs k j =
+              reads-form fs k j (formOf e)
+              (and-left (fitsAt (formOf e) fs k j) (fitting fs es (fieldAfter (formOf e) k) (digitAfter (formOf e) j)) f) q in
+          let is : formIn all (nameOf e) ≡ formOf e =
+              eqb-true (formIn all (nameOf e)) (formOf e) (and-left (eqb (formIn all (nameOf e)) (formOf e)) (agreeing all es) a) in
+          let name : nameIn (labelled (nameOf e)) ≡ nameOf e = name-label (nameOf e) (sound-name e es s) in
+          let once : has (nameOf e) (pieces fs end es (fieldAfter (formOf e) k) (digitAfter (formOf e) j)) ≡ false =
+              none-has fs end es (fieldAfter (formOf e) k) (digitAfter (formOf e) j) (nameOf e) (sound-rest e es s) (sound-new e es s) in
+          fault-more all place (labelled (nameOf e)) (valueFor (formOf e) fs k j) (pieces fs end es (fieldAfter (formOf e) k) (digitAfter (formOf e) j))
+          (pieces-some fs end es (fieldAfter (formOf e) k) (digitAfter (formOf e) j))
+          ∙ rw (is-label (nameOf e) (sound-name e es s), name, is, sound-form e es s, once, r .good)
+          (ih (place + length (labelled (nameOf e)) + length (valueFor (formOf e) fs k j) + 2))
+
+-- what is found in ps by the names of entries is found among the pieces that are written for them
+pub record Alike (fs : List (List ℕ)) (end : List ℕ) (ps es : List (List ℕ)) (k j : ℕ) : Type 0 where
+  pub there : (n : List ℕ) → (formIn es n ≡ 0 → ⊥) → has n ps ≡ has n (pieces fs end es k j)
+  pub value : (n : List ℕ) → (formIn es n ≡ 0 → ⊥) → valueOf n ps ≡ valueOf n (pieces fs end es k j)
+
+module _ (fs : List (List ℕ)) (end : List ℕ) where
+  pub alike-start : (es : List (List ℕ)) (k j : ℕ) → Alike fs end (pieces fs end es k j) es k j
+  alike-start es k j = record { there = λ n h. refl; value = λ n h. refl }
+
+  module _ (ps : List (List ℕ)) (e : List ℕ) (es : List (List ℕ)) (k j : ℕ) (alike : Alike fs end ps (e ∷ es) k j) (s : sound (e ∷ es) ≡ true) where
+    abbrev rest : List (List ℕ)
+    rest = pieces fs end es (fieldAfter (formOf e) k) (digitAfter (formOf e) j)
+
+    -- the name of another entry
+    other : (n : List ℕ) → (formIn es n ≡ 0 → ⊥) → same n (nameOf e) ≡ false
+    other n h = go (same n (nameOf e)) refl
+      where
+        go : (t : Bool) → same n (nameOf e) ≡ t → t ≡ false
+        go false q = refl
+        go true q = let i : n ≡ nameOf e = same-is n (nameOf e) q in absurd (h (rw i (sound-new e es s)))
+
+    still : (n : List ℕ) → (formIn es n ≡ 0 → ⊥) → formIn (e ∷ es) n ≡ 0 → ⊥
+    still n h z = h (rw (other n h) at z)
+
+    has-on : (n : List ℕ) → (formIn es n ≡ 0 → ⊥) → has n (pieces fs end (e ∷ es) k j) ≡ has n rest
+    has-on n h = go (isAbsent (formOf e) fs k)
+      where
+        go : (t : Bool) → has n (cond t rest (labelled (nameOf e) ∷ valueFor (formOf e) fs k j ∷ rest)) ≡ has n rest
+        go true = refl
+        go false =
+            has-more n (labelled (nameOf e)) (valueFor (formOf e) fs k j) rest (pieces-some fs end es (fieldAfter (formOf e) k) (digitAfter (formOf e) j))
+            ∙ rw (name-label (nameOf e) (sound-name e es s), same-turned n (nameOf e) (other n h))
+
+    value-on : (n : List ℕ) → (formIn es n ≡ 0 → ⊥) → valueOf n (pieces fs end (e ∷ es) k j) ≡ valueOf n rest
+    value-on n h = go (isAbsent (formOf e) fs k)
+      where
+        go : (t : Bool) → valueOf n (cond t rest (labelled (nameOf e) ∷ valueFor (formOf e) fs k j ∷ rest)) ≡ valueOf n rest
+        go true = refl
+        go false =
+            value-more n (labelled (nameOf e)) (valueFor (formOf e) fs k j) rest (pieces-some fs end es (fieldAfter (formOf e) k) (digitAfter (formOf e) j))
+            ∙ rw (name-label (nameOf e) (sound-name e es s), same-turned n (nameOf e) (other n h))
+
+    pub alike-next : Alike fs end ps es (fieldAfter (formOf e) k) (digitAfter (formOf e) j)
+    alike-next = record {
+      there = λ n h. alike .there n (still n h) ∙ has-on n h;
+      value = λ n h. alike .value n (still n h) ∙ value-on n h;
+    }
+
+    -- the name of this entry
+    own : formIn (e ∷ es) (nameOf e) ≡ 0 → ⊥
+    own z =
+        let f : formOf e ≡ 0 = rw (same-self (nameOf e)) at z in
+        never (not (eqb (formOf e) 0)) (sound-form e es s) (rw (eq-eqb (formOf e) 0 f))
+
+    module _ (there : isAbsent (formOf e) fs k ≡ false) where
+      pub own-has : has (nameOf e) ps ≡ true
+      own-has =
+          alike .there (nameOf e) own
+          ∙ rw there (has-more (nameOf e) (labelled (nameOf e)) (valueFor (formOf e) fs k j) rest
+          (pieces-some fs end es (fieldAfter (formOf e) k) (digitAfter (formOf e) j))
+          ∙ rw (name-label (nameOf e) (sound-name e es s), same-self (nameOf e)))
+
+      pub own-value : valueOf (nameOf e) ps ≡ valueFor (formOf e) fs k j
+      own-value =
+          alike .value (nameOf e) own
+          ∙ rw there (value-more (nameOf e) (labelled (nameOf e)) (valueFor (formOf e) fs k j) rest
+          (pieces-some fs end es (fieldAfter (formOf e) k) (digitAfter (formOf e) j))
+          ∙ rw (name-label (nameOf e) (sound-name e es s), same-self (nameOf e)))
+
+    pub own-not : isAbsent (formOf e) fs k ≡ true → has (nameOf e) ps ≡ false
+    own-not gone =
+        alike .there (nameOf e) own
+        ∙ rw gone (none-has fs end es (fieldAfter (formOf e) k) (digitAfter (formOf e) j) (nameOf e) (sound-rest e es s) (sound-new e es s))
+
+  -- each attribute is there that may not be missing
+  pub whole-is : (ps es : List (List ℕ)) (k j : ℕ) → Alike fs end ps es k j → sound es ≡ true → whole es ps ≡ true
+  whole-is ps [] k j alike s = refl
+  whole-is ps (e ∷ es) k j alike s =
+      go (isAbsent (formOf e) fs k) refl
+      (whole-is ps es (fieldAfter (formOf e) k) (digitAfter (formOf e) j) (alike-next ps e es k j alike s) (sound-rest e es s))
+    where
+      or-true : (b : Bool) → (b || true) ≡ true
+      or-true true = refl
+      or-true false = refl
+
+      go : (t : Bool) → isAbsent (formOf e) fs k ≡ t → whole es ps ≡ true → ((isOptional (formOf e) || has (nameOf e) ps) && whole es ps) ≡ true
+      go true q ih = rw (absent-optional fs k j (formOf e) q, ih)
+      go false q ih = rw (own-has ps e es k j alike s q, or-true (isOptional (formOf e)), ih)
+
+-- the line, as the entries walk along it
+abbrev pub partAt : ℕ → List (List ℕ) → ℕ → ℕ → List ℕ
+partAt f fs k j = cond (isDropped f) [] (cond (eqb f furtherFlag) (saidAt f fs k j) (0x09 ∷ saidAt f fs k j))
+
+abbrev pub lineFrom : List (List ℕ) → List (List ℕ) → ℕ → ℕ → List ℕ
+lineFrom fs [] k j = []
+lineFrom fs (e ∷ es) k j = partAt (formOf e) fs k j ++ lineFrom fs es (fieldAfter (formOf e) k) (digitAfter (formOf e) j)
+
+module _ (fs : List (List ℕ)) (end : List ℕ) where
+  part-is : (f : ℕ) (n : List ℕ) (ps : List (List ℕ)) (k j : ℕ) → (isDropped f ≡ false → told f n ps ≡ saidAt f fs k j) → part f n ps ≡ partAt f fs k j
+  part-is f n ps k j h = go (isDropped f) refl
+    where
+      go : (t : Bool) → isDropped f ≡ t → cond t [] (cond (eqb f furtherFlag) (told f n ps) (0x09 ∷ told f n ps))
+          ≡ cond t [] (cond (eqb f furtherFlag) (saidAt f fs k j) (0x09 ∷ saidAt f fs k j))
+      go true q = refl
+      go false q = rw (h q)
+
+  pub fields-are : (ps es : List (List ℕ)) (k j : ℕ) → Alike fs end ps es k j → sound es ≡ true → fitting fs es k j ≡ true → fieldsOf es ps ≡ lineFrom fs es k j
+  fields-are ps [] k j alike s f = refl
+  fields-are ps (e ∷ es) k j alike s f =
+      let here : part (formOf e) (nameOf e) ps ≡ partAt (formOf e) fs k j = part-is (formOf e) (nameOf e) ps k j (go (isAbsent (formOf e) fs k) refl) in
+      let on : fieldsOf es ps ≡ lineFrom fs es (fieldAfter (formOf e) k) (digitAfter (formOf e) j) =
+          fields-are ps es (fieldAfter (formOf e) k) (digitAfter (formOf e) j) (alike-next fs end ps e es k j alike s) (sound-rest e es s)
+          (and-right (fitsAt (formOf e) fs k j) (fitting fs es (fieldAfter (formOf e) k) (digitAfter (formOf e) j)) f) in
+      rw (here, on)
+    where
+      go : (t : Bool) → isAbsent (formOf e) fs k ≡ t → isDropped (formOf e) ≡ false → told (formOf e) (nameOf e) ps ≡ saidAt (formOf e) fs k j
+      go true q n = rw (own-not fs end ps e es k j alike s q) (absent-says fs k j (formOf e) q)
+      go false q n =
+          let r : Reads (formOf e) fs k j =
+              reads-form fs k j (formOf e)
+              (and-left (fitsAt (formOf e) fs k j) (fitting fs es (fieldAfter (formOf e) k) (digitAfter (formOf e) j)) f) q in
+          rw (own-has fs end ps e es k j alike s q, own-value fs end ps e es k j alike s q) (r .tells n)
