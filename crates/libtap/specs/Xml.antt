@@ -4,6 +4,7 @@ use mathlib.Core.List.{List}
 use Prim.Native.Nat.{ℕ}
 use Rattle.buffer.specs.declared.Written.{Written}
 use Rattle.xml_writer.specs.Writer.{WritesXml}
+use Rattle.xml.specs.Call.{Turns}
 use Rattle.libtap.specs.declared.TapAnswer.{TapAnswer}
 use Rattle.libtap.specs.Values.{toldWritten}
 
@@ -11,4 +12,10 @@ use Rattle.libtap.specs.Values.{toldWritten}
 pub record ToldXml (text buffer : List ℕ) (r : TapAnswer) (buffer′ : List ℕ) : Type 0 where
   pub answer : Written
   pub writes : WritesXml text buffer answer buffer′
+  pub told-so : r ≡ toldWritten answer
+
+-- what `tap_xml_to_frame_text` answers and leaves: what `xml_to_frame_text` does, told so
+pub record ToldText (xml buffer : List ℕ) (r : TapAnswer) (buffer′ : List ℕ) : Type 0 where
+  pub answer : Written
+  pub turns : Turns xml buffer answer buffer′
   pub told-so : r ≡ toldWritten answer

@@ -1,8 +1,9 @@
-// The requests on a frame text as XML.
+// The requests on a frame text as XML, and on XML as a frame text.
 use answer::Answer;
 use answer::table::BYTE;
 use answer::table::MOST_BYTES;
-use libtap::xml::tap_frame_text_to_xml;
+use libtap::xml_texts::tap_frame_text_to_xml;
+use libtap::xml_texts::tap_xml_to_frame_text;
 use request::Bytes;
 use request::Leading;
 use request::read_bytes;
@@ -16,8 +17,34 @@ fn answer_xml(text: &[u8], buffer: &mut [u8], out: &mut Buffer, used: usize) -> 
     put_written(out, used, b"xml ", written, buffer)
 }
 
-// `xml CAP TEXT`
-pub fn xml(words: &[u8], bytes: &mut [u8], out: &mut Buffer, used: usize) -> Answer {
+// The text that an XML says, or a refusal, the same.
+fn answer_unxml(xml: &[u8], buffer: &mut [u8], out: &mut Buffer, used: usize) -> usize {
+    let written = tap_xml_to_frame_text(xml, buffer);
+    put_written(out, used, b"unxml ", written, buffer)
+}
+
+// One of the two.
+fn answer_turned(
+    is_xml: bool,
+    bytes: &[u8],
+    buffer: &mut [u8],
+    out: &mut Buffer,
+    used: usize,
+) -> usize {
+    if is_xml {
+        return answer_unxml(bytes, buffer, out, used);
+    }
+    answer_xml(bytes, buffer, out, used)
+}
+
+// `xml CAP TEXT`, and where the bytes are XML, `unxml CAP XML`
+pub fn turned(
+    words: &[u8],
+    is_xml: bool,
+    bytes: &mut [u8],
+    out: &mut Buffer,
+    used: usize,
+) -> Answer {
     let Leading::Is(cap, at) = read_leading(words) else {
         return Answer::Bad;
     };
@@ -29,5 +56,5 @@ pub fn xml(words: &[u8], bytes: &mut [u8], out: &mut Buffer, used: usize) -> Ans
     };
     let room = cap as usize;
     let mut buffer = [BYTE; 196608];
-    Answer::Put(answer_xml(&bytes[..n], &mut buffer[..room], out, used))
+    Answer::Put(answer_turned(is_xml, &bytes[..n], &mut buffer[..room], out, used))
 }

@@ -1,11 +1,11 @@
--- `xml_requests::xml` meets its contract, by the laws of the crate. Assumes nothing.
+-- `xml_requests::turned` meets its contract, by the laws of the crate. Assumes nothing.
 use Rattle.xml_requests.proofs.Laws.{laws}
 use borrow.Author.Needs.{needs}
-use Rattle.xml_requests.proofs.xml.Statement.{statement}
-use Rattle.xml_requests.proofs.xml.Tie as tie
+use Rattle.xml_requests.proofs.turned.Statement.{statement}
+use Rattle.xml_requests.proofs.turned.Tie as tie
 
-pub xml-spec : {M : Type 1} → statement M
-xml-spec =
+pub turned-spec : {M : Type 1} → statement M
+turned-spec =
     tie.close
     (tie.spec
     (λ c κs. search (needs, laws))
