@@ -137,3 +137,129 @@ module _ (n k : ℕ) (e : Element k) (fs : List (List ℕ)) (first : ℕ) (end :
   open-fields =
       rw open-pieces
       (fields-are fs end (pieces fs end (entriesOf k) first 1) (entriesOf k) first 1 (alike-start fs end (entriesOf k) first 1) (e .entries) fits)
+
+-- ---- where a tag ends: no `>` stands in it outside quotes, and it ends outside them
+abbrev pub quiet : Bool → List ℕ → Bool
+quiet q [] = not q
+quiet q (x ∷ xs) = not (stops q x) && quiet (turn q x) xs
+
+-- such bytes are one tag
+pub chunk-of : (q : Bool) (p rest : List ℕ) → quiet q p ≡ true → chunks q (p ++ 0x3e ∷ rest) ≡ p ∷ chunks false rest
+chunk-of true [] rest e = absurd (let z : _≡_ {A = ℕ} 0 1 = cc in omega arith)
+chunk-of false [] rest e = refl
+chunk-of q (x ∷ xs) rest e =
+    rw
+    (not-is (stops q x) (and-left (not (stops q x)) (quiet (turn q x) xs) e)
+    , chunk-of (turn q x) xs rest (and-right (not (stops q x)) (quiet (turn q x) xs) e))
+
+quiet-value : (v rest : List ℕ) → without 0x22 v ≡ true → quiet true (v ++ rest) ≡ quiet true rest
+quiet-value [] rest e = refl
+quiet-value (x ∷ xs) rest e =
+    rw (not-is (eqb x 0x22) (and-left (not (eqb x 0x22)) (without 0x22 xs) e))
+    (quiet-value xs rest (and-right (not (eqb x 0x22)) (without 0x22 xs) e))
+
+quiet-letters : (n rest : List ℕ) → letters n ≡ true → quiet false (n ++ rest) ≡ quiet false rest
+quiet-letters [] rest l = refl
+quiet-letters (x ∷ xs) rest l =
+    let low : 0x41 ≤ x = leb-true 0x41 x (and-left (leb 0x41 x) _ (and-left (isLetter x) (letters xs) l)) in
+    rw (ne-eqb x 0x3e (λ q. omega arith), ne-eqb x 0x22 (λ q. omega arith)) (quiet-letters xs rest (and-right (isLetter x) (letters xs) l))
+
+quiet-blanks : (n : ℕ) (rest : List ℕ) → quiet false (blanks n ++ rest) ≡ quiet false rest
+unfolding blanks
+quiet-blanks zero rest = refl
+quiet-blanks (suc n) rest = quiet-blanks n rest
+
+quiet-attribute : (n v rest : List ℕ) → letters n ≡ true → without 0x22 v ≡ true → quiet false (attribute n v ++ rest) ≡ quiet false rest
+quiet-attribute n v rest l q =
+    let shape : attribute n v ++ rest ≡ 0x20 ∷ (n ++ (0x3d ∷ 0x22 ∷ (v ++ 0x22 ∷ rest))) =
+        append-assoc (label n) (v ++ (0x22 ∷ [])) rest ∙ rw (append-assoc v (0x22 ∷ []) rest)
+        (ap (λ (l : List ℕ). 0x20 ∷ l) (append-assoc n (0x3d ∷ 0x22 ∷ []) (v ++ 0x22 ∷ rest))) in
+    ap (quiet false) shape ∙ quiet-letters n (0x3d ∷ 0x22 ∷ (v ++ 0x22 ∷ rest)) l ∙ quiet-value v (0x22 ∷ rest) q
+
+quiet-attributes : (fs : List (List ℕ)) (rest : List ℕ) (es : List (List ℕ)) (k j : ℕ) → sound es ≡ true → fitting fs es k j ≡ true
+    → quiet false (attributes es fs k j ++ rest) ≡ quiet false rest
+unfolding attributes
+quiet-attributes fs rest [] k j s f = refl
+quiet-attributes fs rest (e ∷ es) k j s f =
+    go (isAbsent (formOf e) fs k) refl
+    (quiet-attributes fs rest es (fieldAfter (formOf e) k) (digitAfter (formOf e) j) (sound-rest e es s)
+    (and-right (fitsAt (formOf e) fs k j) (fitting fs es (fieldAfter (formOf e) k) (digitAfter (formOf e) j)) f))
+  where
+    go : (a : Bool) → isAbsent (formOf e) fs k ≡ a
+        → quiet false (attributes es fs (fieldAfter (formOf e) k) (digitAfter (formOf e) j) ++ rest) ≡ quiet false rest
+        → quiet false
+        ((cond a [] (attribute (nameOf e) (valueFor (formOf e) fs k j)) ++ attributes es fs (fieldAfter (formOf e) k) (digitAfter (formOf e) j)) ++ rest)
+        ≡ quiet false rest
+    go true q ih = ih
+    go false q ih =
+        let r : Reads (formOf e) fs k j =
+            reads-form fs k j (formOf e)
+            (and-left (fitsAt (formOf e) fs k j) (fitting fs es (fieldAfter (formOf e) k) (digitAfter (formOf e) j)) f) q in
+        ap (quiet false)
+        (append-assoc (attribute (nameOf e) (valueFor (formOf e) fs k j)) (attributes es fs (fieldAfter (formOf e) k) (digitAfter (formOf e) j)) rest)
+        ∙ quiet-attribute (nameOf e) (valueFor (formOf e) fs k j) (attributes es fs (fieldAfter (formOf e) k) (digitAfter (formOf e) j) ++ rest)
+        (sound-name e es s) (r .quiet)
+        ∙ ih
+
+pub shut-quiet : (n k : ℕ) → Element k → quiet false (0x0a ∷ head n (0x3c ∷ 0x2f ∷ []) k) ≡ true
+shut-quiet n k e =
+    quiet-blanks n (0x3c ∷ 0x2f ∷ nameFor k) ∙ ap (λ (l : List ℕ). quiet false l) (sym (append-nil (nameFor k))) ∙ quiet-letters (nameFor k) [] (e .named)
+
+pub open-quiet : (n k : ℕ) (e : Element k) (fs : List (List ℕ)) (first : ℕ) (end : List ℕ) → fitting fs (entriesOf k) first 1 ≡ true → quiet false end ≡ true
+    → quiet false (0x0a ∷ (blanks n ++ (0x3c ∷ (nameFor k ++ (attributes (entriesOf k) fs first 1 ++ end))))) ≡ true
+open-quiet n k e fs first end f q =
+    quiet-blanks n (0x3c ∷ (nameFor k ++ (attributes (entriesOf k) fs first 1 ++ end)))
+    ∙ quiet-letters (nameFor k) (attributes (entriesOf k) fs first 1 ++ end) (e .named)
+    ∙ quiet-attributes fs end (entriesOf k) first 1 (e .entries) f
+    ∙ q
+
+-- ---- does a tag end its element
+last-append : (l : List ℕ) (x : ℕ) (m : List ℕ) → last (l ++ x ∷ m) ≡ last (x ∷ m)
+last-append [] x m = refl
+last-append (y ∷ []) x m = refl
+last-append (y ∷ z ∷ zs) x m = last-append (z ∷ zs) x m
+
+pub open-closed : (front : List ℕ) → closed (front ++ (0x2f ∷ [])) ≡ true
+open-closed front = rw (last-append front 0x2f [])
+
+last-attribute : (l n v : List ℕ) → last (l ++ attribute n v) ≡ 0x22
+last-attribute l n v =
+    let shape : l ++ attribute n v ≡ (l ++ (label n ++ v)) ++ (0x22 ∷ []) =
+        rw (append-assoc l (label n ++ v) (0x22 ∷ []), append-assoc (label n) v (0x22 ∷ [])) in
+    ap last shape ∙ last-append (l ++ (label n ++ v)) 0x22 []
+
+last-attributes : (fs : List (List ℕ)) (es : List (List ℕ)) (k j : ℕ) (l : List ℕ) → eqb (last l) 0x2f ≡ false
+    → eqb (last (l ++ attributes es fs k j)) 0x2f ≡ false
+unfolding attributes
+last-attributes fs [] k j l h = rw (append-nil l) h
+last-attributes fs (e ∷ es) k j l h =
+    go (isAbsent (formOf e) fs k) (λ (m : List ℕ) (q : eqb (last m) 0x2f ≡ false). last-attributes fs es (fieldAfter (formOf e) k) (digitAfter (formOf e) j) m q)
+  where
+    go : (a : Bool)
+        → ((m : List ℕ) → eqb (last m) 0x2f ≡ false
+        → eqb (last (m ++ attributes es fs (fieldAfter (formOf e) k) (digitAfter (formOf e) j))) 0x2f ≡ false)
+        → eqb (last (l ++ (cond a [] (attribute (nameOf e) (valueFor (formOf e) fs k j)) ++ attributes es fs (fieldAfter (formOf e) k) (digitAfter (formOf e) j))))
+        0x2f ≡ false
+    go true ih = ih l h
+    go false ih =
+        ap (λ (m : List ℕ). eqb (last m) 0x2f)
+        (sym (append-assoc l (attribute (nameOf e) (valueFor (formOf e) fs k j)) (attributes es fs (fieldAfter (formOf e) k) (digitAfter (formOf e) j))))
+        ∙ ih (l ++ attribute (nameOf e) (valueFor (formOf e) fs k j)) (rw (last-attribute l (nameOf e) (valueFor (formOf e) fs k j)))
+
+last-letter : (n : List ℕ) → letters n ≡ true → 1 ≤ length n → (l : List ℕ) → eqb (last (l ++ n)) 0x2f ≡ false
+last-letter [] e h l = absurd (omega arith)
+last-letter (x ∷ []) e h l =
+    let low : 0x41 ≤ x = leb-true 0x41 x (and-left (leb 0x41 x) _ (and-left (isLetter x) true e)) in
+    rw (last-append l x []) (ne-eqb x 0x2f (λ q. omega arith))
+last-letter (x ∷ y ∷ ys) e h l =
+    rw (last-append l x (y ∷ ys)) (last-letter (y ∷ ys) (and-right (isLetter x) (letters (y ∷ ys)) e) (omega arith) (x ∷ []))
+
+pub open-left : (n k : ℕ) (e : Element k) (fs : List (List ℕ)) (first : ℕ)
+    → closed (0x0a ∷ (blanks n ++ (0x3c ∷ (nameFor k ++ (attributes (entriesOf k) fs first 1 ++ []))))) ≡ false
+open-left n k e fs first =
+    let front : List ℕ = 0x0a ∷ (blanks n ++ (0x3c ∷ [])) in
+    let shape : 0x0a ∷ (blanks n ++ (0x3c ∷ (nameFor k ++ (attributes (entriesOf k) fs first 1 ++ [])))) ≡ (front ++ nameFor k) ++ attributes (entriesOf k) fs first 1 =
+        rw (append-nil (attributes (entriesOf k) fs first 1), append-assoc front (nameFor k) (attributes (entriesOf k) fs first 1))
+        (ap (λ (l : List ℕ). 0x0a ∷ l) (sym (append-assoc (blanks n) (0x3c ∷ []) (nameFor k ++ attributes (entriesOf k) fs first 1)))) in
+    ap (λ (l : List ℕ). eqb (last l) 0x2f) shape
+    ∙ last-attributes fs (entriesOf k) first 1 (front ++ nameFor k) (last-letter (nameFor k) (e .named) (e .some-name) front)
