@@ -12,6 +12,7 @@ mod pti;
 mod texts;
 mod totals;
 mod values;
+mod xml;
 
 use crate::random::Random;
 
@@ -51,6 +52,8 @@ pub const KINDS: &[Kind] = &[
     Kind { name: "headervalue", weight: 30, draw: values::headervalue },
     Kind { name: "commandvalue", weight: 30, draw: values::commandvalue },
     Kind { name: "totals", weight: 30, draw: totals::totals },
+    Kind { name: "xml", weight: 30, draw: xml::xml },
+    Kind { name: "unxml", weight: 30, draw: xml::unxml },
     Kind { name: "bad", weight: 5, draw: bad::line },
 ];
 
