@@ -1,17 +1,17 @@
 -- Laws of the calls on XML. Assumes nothing.
 use mathlib.Core.Path.{_≡_, refl, sym, ap, _∙_}
-use mathlib.Core.Bool.{Bool, true, false, cond}
-use mathlib.Core.List.{List, [], _∷_, _++_}
-use Prim.Native.Nat.{ℕ, _+_, _-_, _≤_, _<_}
+use mathlib.Core.Bool.{Bool, true, false}
+use mathlib.Core.List.{List, _++_}
+use Prim.Native.Nat.{ℕ, _+_, _≤_, _<_}
 use native.Mathlib.Nat.{zero-add}
 use native.Mathlib.Omega.{arith}
-use lib.Dec.{leb, ltb}
+use lib.Dec.{leb}
 use lib.ListN.{length, take, drop, replicate, length-replicate}
 use lib.Seq.{sets, sets-eq, length-sets, length-take-le, take-append-seam}
 use borrow.Author.Tests.{leb-true, leb-false, lt-ltb}
 use Rattle.refusal.specs.declared.Refusal.{Refusal}
 use Rattle.refusal.specs.declared.Refusal.the-variants.{Limit, Xml}
-use Rattle.buffer.specs.Buffer.{answerIn, bufferAfter, Writes}
+use Rattle.buffer.specs.Buffer.{Writes}
 use Rattle.buffer.specs.declared.Written.{Written}
 use Rattle.buffer.specs.declared.Written.the-variants.{Refused}
 use Rattle.text.specs.Judge.{Checks}
@@ -22,7 +22,7 @@ use Rattle.xml_tags.specs.declared.Fault.{Fault}
 use Rattle.xml_tags.specs.declared.Fault.the-variants.{Fine, At}
 use Rattle.xml_document.specs.Document.{verdict, textOf}
 use Rattle.xml_draft.specs.Draft.{Laid}
-use Rattle.xml.specs.Call.{byText, byFault, answerOf, Turns, Copies}
+use Rattle.xml.specs.Call.{Turns, Copies}
 
 -- ---- a text that is checked
 module _ (t b : List ℕ) (v : Verdict) (is : Checks frame.rules t v) where
@@ -48,7 +48,8 @@ module _ (l : List ℕ) (n : ℕ) (t u : List ℕ) (laid : Laid t u 0 n l) where
   long h = by (leb (length l) 60000) refl
     where
       by : (b : Bool) → leb (length l) 60000 ≡ b → 60000 < length l
-      by true q = absurd (let z : n ≡ 0 + length l = laid .low (omega (arith, plain, leb-true (length l) 60000 q)) in omega (arith, plain, leb-true (length l) 60000 q))
+      by true q = absurd (let z : n
+          ≡ 0 + length l = laid .low (omega (arith, plain, leb-true (length l) 60000 q)) in omega (arith, plain, leb-true (length l) 60000 q))
       by false q = leb-false (length l) 60000 q
 
   pub copies-over : 60000 < n → (b : List ℕ) → Copies l b (Refused (Limit 0)) b
@@ -62,7 +63,8 @@ module _ (l : List ℕ) (n : ℕ) (t u : List ℕ) (laid : Laid t u 0 n l) where
       let z : sets t 0 l ≡ l ++ drop (0 + length l) t = sets-eq l t 0 (omega (arith, plain)) in
       rw (m, f, z) (take-append-seam l (drop (0 + length l) t))
 
-  pub copies-room : t ≡ replicate 60000 0 → n ≤ 60000 → (b : List ℕ) (r : Written) (b′ : List ℕ) → Copies (take n u) b r b′ → Copies l b r b′
+  pub copies-room : t ≡ replicate 60000 0 → n ≤ 60000 → (b : List ℕ) (r : Written) (b′ : List ℕ) → Copies (take n u) b r b′
+      → Copies l b r b′
   copies-room e h b r b′ c = rw (room-text (rw e (length-replicate {A = ℕ} 60000 0)) h) at c
 
   pub room-in : t ≡ replicate 60000 0 → n ≤ 60000 → n ≤ length u

@@ -1,13 +1,13 @@
 -- Laws of a document. Assumes nothing.
 use mathlib.Core.Path.{_≡_, refl, sym, ap, _∙_}
-use mathlib.Core.Bool.{Bool, true, false, cond, not, _&&_}
+use mathlib.Core.Bool.{Bool, true, false, cond, _&&_}
 use mathlib.Core.List.{List, [], _∷_}
 use Prim.Native.Nat.{ℕ, zero, suc, _+_, _-_, _^_, _≤_, _<_}
 use native.Mathlib.Nat.{add-assoc}
 use native.Mathlib.Omega.{arith}
 use mir.Val.{Fits}
 use mir.Syntax.{w64}
-use lib.Dec.{eqb, leb, ltb}
+use lib.Dec.{eqb, ltb}
 use lib.ListN.{length, getD, take, drop, length-drop}
 use lib.Seq.{drop-drop, length-take-le}
 use borrow.Author.Tests.{le-leb, lt-leb, eq-eqb, ne-eqb}
@@ -16,7 +16,7 @@ use Rattle.text.specs.Text.{same, split}
 use Rattle.text.proofs.Laws.{front-count, and-false}
 use Rattle.xml_schema.specs.Schema.{count, elementOf, entriesOf, parentOf}
 use Rattle.xml_values.specs.Scan.{isWhite, lead, skip, white, wordLen, word, after}
-use Rattle.xml_tags.specs.Tags.{chunks, tagEnd, fault, whole, unless, judged, opened, shutting, tagFrom, tagOf, last, closed}
+use Rattle.xml_tags.specs.Tags.{chunks, tagEnd, fault, whole, unless, judged, opened, shutting, tagFrom, tagOf, closed}
 use Rattle.xml_tags.specs.Steps.{Inside}
 use Rattle.xml_tags.specs.declared.Tag.{Tag}
 use Rattle.xml_tags.specs.declared.Tag.the-variants.{Bad, Shut, Open}
@@ -230,18 +230,22 @@ pub record Sofar (x : List ℕ) (d at : ℕ) : Type 0 where
   pub inside : at ≤ length x
   pub same-verdict : verdict x ≡ judge d at (chunks false (drop at x))
 
-pub judge-next : (d place : ℕ) (c : List ℕ) (cs : List (List ℕ)) → 1 ≤ length cs → judge d place (c ∷ cs) ≡ cond (eqb (moved d c (tagOf c)) 15) (At (faultAt place c (tagOf c))) (judge (moved d c (tagOf c)) (place + length c + 1) cs)
+pub judge-next : (d place : ℕ) (c : List ℕ) (cs : List (List ℕ)) → 1 ≤ length cs
+    → judge d place (c ∷ cs)
+    ≡ cond (eqb (moved d c (tagOf c)) 15) (At (faultAt place c (tagOf c))) (judge (moved d c (tagOf c)) (place + length c + 1) cs)
 judge-next d place c [] h = absurd (omega arith)
 judge-next d place c (b ∷ cs) h = refl
 
 pub check-start : (x : List ℕ) (at : ℕ) → at ≡ start x → at ≤ length x → Sofar x 13 at
 check-start x at e h = record { inside = h; same-verdict = rw e }
 
-module _ (x : List ℕ) (d at : ℕ) (so : Sofar x d at) (e : ℕ) (at-e : e ≡ tagEnd false (take (length x - at) (drop at x))) (in-e : e ≤ length (take (length x - at) (drop at x))) where
+module _ (x : List ℕ) (d at : ℕ) (so : Sofar x d at) (e : ℕ) (at-e : e ≡ tagEnd false (take (length x - at) (drop at x)))
+    (in-e : e ≤ length (take (length x - at) (drop at x))) where
   e-is : e ≡ tagEnd false (drop at x)
   e-is = rw tail at at-e
 
-  pub check-last : e ≡ length (take (length x - at) (drop at x)) → (r : Fault) → r ≡ lastFault d at (take (length x - at) (drop at x)) → r ≡ verdict x
+  pub check-last : e ≡ length (take (length x - at) (drop at x)) → (r : Fault) → r ≡ lastFault d at (take (length x - at) (drop at x))
+      → r ≡ verdict x
   check-last l r is =
       let l′ : e ≡ length (drop at x) = rw tail at l in
       let i : r ≡ lastFault d at (drop at x) = rw tail at is in
@@ -257,8 +261,11 @@ module _ (x : List ℕ) (d at : ℕ) (so : Sofar x d at) (e : ℕ) (at-e : e ≡
     parted : chunks false (drop at x) ≡ take e (drop at x) ∷ chunks false (drop (at + e + 1) x)
     parted = rw (add-assoc, ← drop-drop, e-is) (chunks-more false (drop at x) (rw (← e-is, length-drop) room))
 
-    on : verdict x ≡ cond (eqb (moved d (take e (drop at x)) (tagOf (take e (drop at x)))) 15) (At (faultAt at (take e (drop at x)) (tagOf (take e (drop at x))))) (judge (moved d (take e (drop at x)) (tagOf (take e (drop at x)))) (at + length (take e (drop at x)) + 1) (chunks false (drop (at + e + 1) x)))
-    on = so .same-verdict ∙ ap (judge d at) parted ∙ judge-next d at (take e (drop at x)) (chunks false (drop (at + e + 1) x)) (chunks-some false (drop (at + e + 1) x))
+    on : verdict x ≡ cond (eqb (moved d (take e (drop at x)) (tagOf (take e (drop at x)))) 15)
+        (At (faultAt at (take e (drop at x)) (tagOf (take e (drop at x)))))
+        (judge (moved d (take e (drop at x)) (tagOf (take e (drop at x)))) (at + length (take e (drop at x)) + 1) (chunks false (drop (at + e + 1) x)))
+    on = so .same-verdict ∙ ap (judge d at) parted
+        ∙ judge-next d at (take e (drop at x)) (chunks false (drop (at + e + 1) x)) (chunks-some false (drop (at + e + 1) x))
 
     pub check-fits : length x < 2 ^ 64 → at + length (take e (take (length x - at) (drop at x))) < 2 ^ 64
     check-fits s =
@@ -269,7 +276,8 @@ module _ (x : List ℕ) (d at : ℕ) (so : Sofar x d at) (e : ℕ) (at-e : e ≡
       to-is : n ≡ moved d (take e (drop at x)) (tagOf (take e (drop at x)))
       to-is = rw tail at to
 
-      pub check-bad : n ≡ 15 → (p : ℕ) → p ≡ faultAt at (take e (take (length x - at) (drop at x))) (tagOf (take e (take (length x - at) (drop at x)))) → At p ≡ verdict x
+      pub check-bad : n ≡ 15 → (p : ℕ)
+          → p ≡ faultAt at (take e (take (length x - at) (drop at x))) (tagOf (take e (take (length x - at) (drop at x)))) → At p ≡ verdict x
       check-bad z p is =
           let i : p ≡ faultAt at (take e (drop at x)) (tagOf (take e (drop at x))) = rw tail at is in
           sym (on ∙ rw (← to-is, eq-eqb n 15 z, i))
@@ -303,7 +311,8 @@ module _ (place : ℕ) (l : List ℕ) where
   opened-sound = by (ltb (elementOf (word l)) count)
     where
       by : (b : Bool)
-          → isBad (cond b (judged (elementOf (word l)) (entriesOf (elementOf (word l))) place (place + 1 + wordLen l) (split 34 (after l))) (Bad place)) ≡ false
+          → isBad (cond b (judged (elementOf (word l)) (entriesOf (elementOf (word l))) place (place + 1 + wordLen l) (split 34 (after l))) (Bad place))
+          ≡ false
           → Open (elementOf (word l))
           ≡ cond b (judged (elementOf (word l)) (entriesOf (elementOf (word l))) place (place + 1 + wordLen l) (split 34 (after l))) (Bad place)
       by true h = judged-sound place (elementOf (word l)) (entriesOf (elementOf (word l))) (place + 1 + wordLen l) (split 34 (after l)) h
@@ -312,10 +321,10 @@ module _ (place : ℕ) (l : List ℕ) where
   shutting-sound : isBad (shutting place l) ≡ false → Shut (elementOf (word l)) ≡ shutting place l
   shutting-sound = by (ltb (elementOf (word l)) count && white (after l))
     where
-      by : (b : Bool) → isBad (cond b (Shut (elementOf (word l))) (Bad place)) ≡ false → Shut (elementOf (word l)) ≡ cond b (Shut (elementOf (word l))) (Bad place)
+      by : (b : Bool) → isBad (cond b (Shut (elementOf (word l))) (Bad place)) ≡ false
+          → Shut (elementOf (word l)) ≡ cond b (Shut (elementOf (word l))) (Bad place)
       by true h = refl
       by false h = absurd (let z : _≡_ {A = ℕ} 0 1 = cc in omega arith)
-
 
 module _ (place : ℕ) (s : List ℕ) where
   from-shut : getD s 1 0 ≡ 47 → isBad (tagFrom place s) ≡ false → Shut (elementOf (word (drop 2 s))) ≡ tagFrom place s

@@ -1,7 +1,6 @@
 -- Worked examples: a document with its elements and attributes in another order, white space, escapes and other spellings, and the text that it says; and each
 -- kind of fault with its place. Assumes nothing.
 use mathlib.Core.Path.{_≡_, refl}
-use mathlib.Core.Bool.{true}
 use mathlib.Core.List.{List, [], _∷_}
 use Prim.Native.Nat.{ℕ}
 use Rattle.numerals.specs.Numerals.{spelled}

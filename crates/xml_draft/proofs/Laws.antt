@@ -1,15 +1,15 @@
 -- Laws of writing into room for a text. Assumes nothing.
 use mathlib.Core.Path.{_≡_, refl, sym, ap, _∙_}
-use mathlib.Core.Bool.{Bool, true, false, cond, _||_}
+use mathlib.Core.Bool.{Bool, true, false}
 use mathlib.Core.List.{List, [], _∷_, _++_, append-nil}
-use Prim.Native.Nat.{ℕ, suc, _+_, _-_, _^_, _≤_, _<_}
+use Prim.Native.Nat.{ℕ, _+_, _-_, _^_, _≤_, _<_}
 use native.Mathlib.Nat.{add-zero}
 use native.Mathlib.Omega.{arith}
 use mir.Val.{Fits}
 use mir.Syntax.{w64}
-use lib.Dec.{eqb, leb, ltb}
-use lib.ListN.{length, getD, take, drop, set, length-append, length-drop}
-use lib.Seq.{sets, length-take-le, take-length}
+use lib.Dec.{leb}
+use lib.ListN.{length, getD, take, drop, set, length-append}
+use lib.Seq.{sets, take-length}
 use borrow.Author.Tests.{leb-true, leb-false, lt-ltb, le-ltb, eq-eqb, ne-eqb}
 use Rattle.laws.proofs.Lists.{next, done, tail}
 use Rattle.text.specs.Text.{split, fields}
@@ -26,7 +26,7 @@ use Rattle.xml_values.specs.Values.{entity, meant, parts, plainly, undo, unsign
 use Rattle.xml_values.specs.declared.Numeral.{Numeral}
 use Rattle.xml_values.specs.declared.Numeral.the-variants.{Is, Not}
 use Rattle.xml_values.proofs.Laws.{piece-last, piece-more, piece-in, piece-less}
-use Rattle.xml_tags.specs.Tags.{has, valueOf, told, part, fieldsOf}
+use Rattle.xml_tags.specs.Tags.{has, told, part, fieldsOf}
 use Rattle.xml_tags.specs.Steps.{Spans}
 use Rattle.xml_draft.specs.Draft.{Laid, Going}
 
@@ -70,7 +70,8 @@ going-on t₀ n₀ l t n rest a left u m go e p = record {
   ends = λ v r q. go .ends v r (rw e (laid-then t u v n m r a left p q));
 }
 
-pub going-done : (t₀ : List ℕ) (n₀ : ℕ) (l t : List ℕ) (n : ℕ) (rest : List ℕ) → Going t₀ n₀ l t n rest → rest ≡ [] → Laid t₀ t n₀ n l
+pub going-done : (t₀ : List ℕ) (n₀ : ℕ) (l t : List ℕ) (n : ℕ) (rest : List ℕ) → Going t₀ n₀ l t n rest → rest ≡ []
+    → Laid t₀ t n₀ n l
 going-done t₀ n₀ l t n rest go e = go .ends t n (rw e (laid-none t n))
 
 -- ---- byte by byte
@@ -84,7 +85,8 @@ module _ (t₀ : List ℕ) (n₀ : ℕ) (s t : List ℕ) (n i : ℕ) (go : Going
 pub ruleset byte-laws = (byte-there, byte-past, going-start, all-more, all-done)
 
 -- ---- what stands behind an `&`
-module _ (p : List ℕ) (k : ℕ) (at-k : k ≡ cut 59 p) (b : ℕ) (is-b : b ≡ entity (take k p)) (t u : List ℕ) (n m : ℕ) (one : Laid t u n m (b ∷ [])) where
+module _ (p : List ℕ) (k : ℕ) (at-k : k ≡ cut 59 p) (b : ℕ) (is-b : b ≡ entity (take k p)) (t u : List ℕ) (n m : ℕ)
+    (one : Laid t u n m (b ∷ [])) where
   b-is : b ≡ meant p
   b-is = rw at-k at is-b
 
@@ -106,7 +108,7 @@ module _ (t₀ : List ℕ) (n₀ : ℕ) (s t : List ℕ) (n at : ℕ) (go : Goin
     (e : ℕ) (at-e : e ≡ cut 38 (take (length s - at) (drop at s))) (in-e : e ≤ length (take (length s - at) (drop at s)))
     (u : List ℕ) (m : ℕ)
     (one : Laid t u n m (meant (take e (take (length s - at) (drop at s)))
-        ∷ drop (cut 59 (take e (take (length s - at) (drop at s))) + 1) (take e (take (length s - at) (drop at s))))) where
+    ∷ drop (cut 59 (take e (take (length s - at) (drop at s))) + 1) (take e (take (length s - at) (drop at s))))) where
   one-now : Laid t u n m (meant (take e (drop at s)) ∷ drop (cut 59 (take e (drop at s)) + 1) (take e (drop at s)))
   one-now = rw tail at one
 
@@ -115,15 +117,18 @@ module _ (t₀ : List ℕ) (n₀ : ℕ) (s t : List ℕ) (n at : ℕ) (go : Goin
       let q : parts (split 38 (drop at s)) ≡ meant (take e (drop at s)) ∷ (drop (cut 59 (take e (drop at s)) + 1) (take e (drop at s)) ++ []) =
       ap parts (piece-last 38 s at e at-e in-e l) in
       going-done t₀ n₀ (parts (split 38 s)) u m []
-      (going-on t₀ n₀ (parts (split 38 s)) t n (parts (split 38 (drop at s))) (meant (take e (drop at s)) ∷ drop (cut 59 (take e (drop at s)) + 1) (take e (drop at s))) [] u m go q one-now)
+      (going-on t₀ n₀ (parts (split 38 s)) t n (parts (split 38 (drop at s)))
+      (meant (take e (drop at s)) ∷ drop (cut 59 (take e (drop at s)) + 1) (take e (drop at s))) [] u m go q one-now)
       refl
 
-  pub parts-more : (e ≡ length (take (length s - at) (drop at s)) → ⊥) → Going t₀ n₀ (parts (split 38 s)) u m (parts (split 38 (drop (at + e + 1) s)))
+  pub parts-more : (e ≡ length (take (length s - at) (drop at s)) → ⊥)
+      → Going t₀ n₀ (parts (split 38 s)) u m (parts (split 38 (drop (at + e + 1) s)))
   parts-more h =
       let q : parts (split 38 (drop at s))
-          ≡ meant (take e (drop at s)) ∷ (drop (cut 59 (take e (drop at s)) + 1) (take e (drop at s)) ++ parts (split 38 (drop (at + e + 1) s))) =
+      ≡ meant (take e (drop at s)) ∷ (drop (cut 59 (take e (drop at s)) + 1) (take e (drop at s)) ++ parts (split 38 (drop (at + e + 1) s))) =
       ap parts (piece-more 38 s at e at-e in-e h) in
-      going-on t₀ n₀ (parts (split 38 s)) t n (parts (split 38 (drop at s))) (meant (take e (drop at s)) ∷ drop (cut 59 (take e (drop at s)) + 1) (take e (drop at s)))
+      going-on t₀ n₀ (parts (split 38 s)) t n (parts (split 38 (drop at s)))
+      (meant (take e (drop at s)) ∷ drop (cut 59 (take e (drop at s)) + 1) (take e (drop at s)))
       (parts (split 38 (drop (at + e + 1) s))) u m go q one-now
 
 pub ruleset parts-laws = (going-start, parts-last, parts-more, piece-in, piece-less, front-count)
@@ -135,7 +140,8 @@ module _ (v : List ℕ) (e : ℕ) (at-e : e ≡ cut 38 v) (in-e : e ≤ length v
       let q : undo v ≡ take e v = ap plainly (split-last 38 v (sym at-e ∙ l)) ∙ append-nil v ∙ sym (rw (l, take-length)) in
       rw q front
 
-  pub words-rest : (e ≡ length v → ⊥) → (w : List ℕ) (r : ℕ) → Laid u w m r (parts (split 38 (take (length v - (e + 1)) (drop (e + 1) v)))) → Laid t w n r (undo v)
+  pub words-rest : (e ≡ length v → ⊥) → (w : List ℕ) (r : ℕ) → Laid u w m r (parts (split 38 (take (length v - (e + 1)) (drop (e + 1) v))))
+      → Laid t w n r (undo v)
   words-rest more w r l =
       let l′ : Laid u w m r (parts (split 38 (drop (e + 1) v))) = rw tail at l in
       let q : undo v ≡ take e v ++ parts (split 38 (drop (e + 1) v)) = rw at-e (ap plainly (split-more 38 v (rw (← at-e) (omega (arith, more))))) in
@@ -147,10 +153,12 @@ module _ (t u : List ℕ) (n r : ℕ) (v : List ℕ) where
   pub count-laid : (a : ℕ) → drop a v ≡ strip (unsigned v) → Laid t u n r (take (length v - a) (drop a v)) → Laid t u n r (strip (unsigned v))
   count-laid a e l = let m : Laid t u n r (drop a v) = rw tail at l in rw e at m
 
-  pub decimal-laid : (number a : ℕ) (out : List ℕ) → Spells 2 (decimal number) a out → Laid t u n r (take (22 - a) (drop a out)) → Laid t u n r (decimal number)
+  pub decimal-laid : (number a : ℕ) (out : List ℕ) → Spells 2 (decimal number) a out → Laid t u n r (take (22 - a) (drop a out))
+      → Laid t u n r (decimal number)
   decimal-laid number a out s l = let e : take (22 - a) (drop a out) ≡ decimal number = rw (← s .all) (tail out a) ∙ s .text in rw e at l
 
-  pub numeral-laid : (g : Numeral) → g ≡ numeral v → (number : ℕ) → g ≡ Is number → Laid t u n r (decimal number) → Laid t u n r (inDecimal (numeral v))
+  pub numeral-laid : (g : Numeral) → g ≡ numeral v → (number : ℕ) → g ≡ Is number → Laid t u n r (decimal number)
+      → Laid t u n r (inDecimal (numeral v))
   numeral-laid g e number q l = rw (← e, q) l
 
   pub numeral-unlaid : (g : Numeral) → g ≡ numeral v → g ≡ Not → Laid t t n n (inDecimal (numeral v))
@@ -178,7 +186,8 @@ module _ (t u : List ℕ) (n r f : ℕ) (v : List ℕ) where
   pub said-maybe : f ≡ 109 → Laid t u n r (strip (unsigned v)) → Laid t u n r (says f v)
   said-maybe q l = rw q l
 
-  pub said-flag : (f ≡ 119 → ⊥) → (f ≡ 111 → ⊥) → (f ≡ 120 → ⊥) → (f ≡ 110 → ⊥) → (f ≡ 109 → ⊥) → (d : ℕ) → d ≡ digitFor v → Laid t u n r (d ∷ [])
+  pub said-flag : (f ≡ 119 → ⊥) → (f ≡ 111 → ⊥) → (f ≡ 120 → ⊥) → (f ≡ 110 → ⊥) → (f ≡ 109 → ⊥) → (d : ℕ)
+      → d ≡ digitFor v → Laid t u n r (d ∷ [])
       → Laid t u n r (says f v)
   said-flag a b c e g d is l = rw (ne-eqb f 119 a, ne-eqb f 111 b, ne-eqb f 120 c, ne-eqb f 110 e, ne-eqb f 109 g) (rw is at l)
 
@@ -224,7 +233,8 @@ module _ (e : List ℕ) (ps : List (List ℕ)) (f : ℕ) (form : f ≡ formOf e)
         let m : Laid t v n r (told f (nameOf e) ps) = rw name at (rw tail at l) in
         rw (← form, le-ltb f 58 kept, eq-eqb f 103 q) m
 
-    pub attribute-field : (f ≡ 103 → ⊥) → (u : List ℕ) (m : ℕ) → Laid t u n m (9 ∷ []) → Laid u v m r (told f (take (length e - a) (drop a e)) ps)
+    pub attribute-field : (f ≡ 103 → ⊥) → (u : List ℕ) (m : ℕ) → Laid t u n m (9 ∷ [])
+        → Laid u v m r (told f (take (length e - a) (drop a e)) ps)
         → Laid t v n r (part (formOf e) (nameOf e) ps)
     attribute-field q u m one l =
         let k : Laid u v m r (told f (nameOf e) ps) = rw name at (rw tail at l) in
@@ -241,11 +251,13 @@ module _ (t₀ : List ℕ) (n₀ : ℕ) (row : List ℕ) (ps : List (List ℕ)) 
       going-done t₀ n₀ (fieldsOf (drop 1 (fields row)) ps) t n (fieldsOf (drop 1 (fields (drop at row))) ps) go (rw (entry-last row at r is q))
 
   pub fields-more : (a len : ℕ) → r ≡ Entry a len → (u : List ℕ) (m : ℕ)
-      → Laid t u n m (part (formOf (take (a + len - a) (drop a (take (length row - at) (drop at row))))) (nameOf (take (a + len - a) (drop a (take (length row - at) (drop at row))))) ps)
+      → Laid t u n m (part (formOf (take (a + len - a) (drop a (take (length row - at) (drop at row)))))
+      (nameOf (take (a + len - a) (drop a (take (length row - at) (drop at row))))) ps)
       → Going t₀ n₀ (fieldsOf (drop 1 (fields row)) ps) u m (fieldsOf (drop 1 (fields (drop (at + a) row))) ps)
   fields-more a len q u m l =
       going-on t₀ n₀ (fieldsOf (drop 1 (fields row)) ps) t n (fieldsOf (drop 1 (fields (drop at row))) ps)
-      (part (formOf (take (a + len - a) (drop a (take (length row - at) (drop at row))))) (nameOf (take (a + len - a) (drop a (take (length row - at) (drop at row))))) ps)
+      (part (formOf (take (a + len - a) (drop a (take (length row - at) (drop at row)))))
+      (nameOf (take (a + len - a) (drop a (take (length row - at) (drop at row))))) ps)
       (fieldsOf (drop 1 (fields (drop (at + a) row))) ps) u m go (ap (λ es. fieldsOf es ps) (entry-is row at r is a len q)) l
 
 pub ruleset fields-laws = (going-start, fields-last, fields-more, entry-laws)

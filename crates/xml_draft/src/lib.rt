@@ -14,14 +14,14 @@ use xml_values::count_start;
 use xml_values::digit_for;
 use xml_values::entity;
 use xml_values::read_numeral;
-ghost use mathlib.Core.List.{[], _∷_, _++_};
+ghost use mathlib.Core.List.{[], _∷_};
 ghost use Prim.Native.Nat.{_+_};
 ghost use lib.ListN.{drop};
 ghost use Rattle.text.specs.Text.{split, fields};
 ghost use Rattle.text.specs.Scan.{cut};
 ghost use Rattle.numerals.specs.Numerals.{decimal as decimalOf};
 ghost use Rattle.xml_schema.specs.Schema.{formOf, nameOf};
-ghost use Rattle.xml_values.specs.Values.{meant, parts, undo, unsigned, strip, numeral, inDecimal, digitFor, says, unsaid};
+ghost use Rattle.xml_values.specs.Values.{meant, parts, undo, unsigned, strip, numeral, inDecimal, says, unsaid};
 ghost use Rattle.xml_tags.specs.Tags.{told, part, fieldsOf};
 ghost use Rattle.xml_draft.specs.Draft.{Laid};
 
@@ -169,7 +169,8 @@ fn put_told(out: &mut [u8; ROOM], n: usize, f: u8, name: &[u8], body: &[u8]) -> 
 
 // Writes what the attribute of an entry says, behind a tab if it begins a field; nothing, if no line has a place for it.
 fn put_attribute(out: &mut [u8; ROOM], n: usize, entry: &[u8], body: &[u8]) -> usize
-    ensures { λ r. let e = now (entry .entry) in ⌜ Laid (now (out .entry)) (now (out .exit)) n r (part (formOf e) (nameOf e) (split 34 (now (body .entry)))) ⌝ }
+    ensures { λ r. let e = now (entry .entry) in
+        ⌜ Laid (now (out .entry)) (now (out .exit)) n r (part (formOf e) (nameOf e) (split 34 (now (body .entry)))) ⌝ }
 {
     let f = form_of(entry);
     let a = name_start(entry);

@@ -212,7 +212,7 @@ without-both : (b : ℕ) (l m : List ℕ) → without b l ≡ true → without b
 without-both b [] m p q = q
 without-both b (x ∷ xs) m p q = rw (and-left (not (eqb x b)) (without b xs) p) (without-both b xs m (and-right (not (eqb x b)) (without b xs) p) q)
 
-append-assoc : (a b c : List ℕ) → (a ++ b) ++ c ≡ a ++ (b ++ c)
+pub append-assoc : (a b c : List ℕ) → (a ++ b) ++ c ≡ a ++ (b ++ c)
 append-assoc [] b c = refl
 append-assoc (x ∷ xs) b c = ap (λ (l : List ℕ). x ∷ l) (append-assoc xs b c)
 
@@ -277,7 +277,7 @@ module _ (e : List ℕ) (es : List (List ℕ)) (s : sound (e ∷ es) ≡ true) w
   rear : (eqb (formIn es (nameOf e)) 0 && sound es) ≡ true
   rear = and-right (letters (nameOf e) && not (eqb (formOf e) 0)) (eqb (formIn es (nameOf e)) 0 && sound es) s
 
-  sound-name : letters (nameOf e) ≡ true
+  pub sound-name : letters (nameOf e) ≡ true
   sound-name = and-left (letters (nameOf e)) (not (eqb (formOf e) 0)) front
 
   sound-form : not (eqb (formOf e) 0) ≡ true
@@ -286,7 +286,7 @@ module _ (e : List ℕ) (es : List (List ℕ)) (s : sound (e ∷ es) ≡ true) w
   sound-new : formIn es (nameOf e) ≡ 0
   sound-new = eqb-true (formIn es (nameOf e)) 0 (and-left (eqb (formIn es (nameOf e)) 0) (sound es) rear)
 
-  sound-rest : sound es ≡ true
+  pub sound-rest : sound es ≡ true
   sound-rest = and-right (eqb (formIn es (nameOf e)) 0) (sound es) rear
 
 module _ (fs : List (List ℕ)) (end : List ℕ) where

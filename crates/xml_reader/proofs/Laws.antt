@@ -1,14 +1,14 @@
 -- Laws of the passes over a document. Assumes nothing.
 use mathlib.Core.Path.{_≡_, refl, sym, ap, _∙_}
-use mathlib.Core.Bool.{Bool, true, false, cond, not, _&&_}
+use mathlib.Core.Bool.{Bool, true, false, cond, not}
 use mathlib.Core.List.{List, [], _∷_, _++_, append-assoc}
-use Prim.Native.Nat.{ℕ, suc, _+_, _-_, _%_, _^_, _≤_, _<_}
+use Prim.Native.Nat.{ℕ, _+_, _-_, _%_, _^_, _≤_, _<_}
 use native.Mathlib.Nat.{add-assoc}
 use native.Mathlib.Omega.{arith}
 use mir.Val.{Fits}
 use mir.Syntax.{w8, w64}
 use lib.Dec.{eqb}
-use lib.ListN.{length, getD, take, drop, length-drop}
+use lib.ListN.{length, take, drop, length-drop}
 use lib.Seq.{drop-drop, length-take-le}
 use borrow.Author.Tests.{eqb-true, eq-eqb, ne-eqb}
 use Rattle.laws.proofs.Lists.{tail, done}
@@ -16,16 +16,16 @@ use Rattle.text.specs.Text.{split, fields}
 use Rattle.text.specs.declared.Part.{Part}
 use Rattle.text.proofs.Laws.{front-count}
 use Rattle.readers.specs.Fields.{IsField}
-use Rattle.xml_schema.specs.Schema.{table, letterOf, hasLine, entriesOf}
+use Rattle.xml_schema.specs.Schema.{table, letterOf, entriesOf}
 use Rattle.xml_schema.proofs.Laws.{row-end, row-fits, row-is}
 use Rattle.xml_values.specs.Scan.{lead, skip, wordLen, after}
 use Rattle.xml_tags.specs.Tags.{chunks, tagEnd, tagOf, piecesOf, fieldsOf}
 use Rattle.xml_tags.specs.declared.Tag.{Tag}
 use Rattle.xml_tags.specs.declared.Tag.the-variants.{Bad, Shut, Open}
-use Rattle.xml_tags.specs.declared.Fault.{Fault}
 use Rattle.xml_tags.specs.declared.Fault.the-variants.{Fine, At}
 use Rattle.xml_tags.proofs.Chunks.{chunks-last, chunks-more, chunks-some}
-use Rattle.xml_document.specs.Document.{enter, moved, faultAt, judge, start, verdict, level, lineOf, withLine, items, itemsOf, letter, owns, picked, owned, blocks, arranged, ended, textOf}
+use Rattle.xml_document.specs.Document.{enter, moved, faultAt, judge, start, verdict, level, lineOf, withLine, items, itemsOf, owns, picked}
+use Rattle.xml_document.specs.Document.{owned, blocks, ended, textOf}
 use Rattle.xml_document.specs.Steps.{isBad, Glimpsed, Goes, Standing}
 use Rattle.xml_document.proofs.Laws.{judge-next}
 use Rattle.xml_draft.specs.Draft.{Laid, Going}
@@ -48,7 +48,8 @@ module _ (c : List ℕ) (l : ℕ) (at-l : l ≡ lead c) where
       let q : drop 1 (skip c) ≡ drop (l + 1) c = rw (← at-l) (drop-drop 1 l c) in
       rw (q, ← e′) (sym (drop-drop w (l + 1) c))
 
-module _ (c : List ℕ) (l w : ℕ) (in-l : l ≤ length c) (some : l ≡ length c → ⊥) (in-w : w ≤ length (take (length c - (l + 1)) (drop (l + 1) c))) where
+module _ (c : List ℕ) (l w : ℕ) (in-l : l ≤ length c) (some : l ≡ length c → ⊥)
+    (in-w : w ≤ length (take (length c - (l + 1)) (drop (l + 1) c))) where
   pub body-in : l + 1 + w ≤ length c
   body-in = let v : w ≤ length c - (l + 1) = rw length-drop at (rw tail at in-w) in omega (arith, some)
 
@@ -204,7 +205,8 @@ owned-is x d at =
     ∙ ap (λ l. ended (picked 80 (itemsAt x d at)) ++ l) (ended-append (picked 86 (itemsAt x d at)) (picked 69 (itemsAt x d at)))
 
 -- ---- a tag of a document with which nothing is wrong
-items-next : (d : ℕ) (c : List ℕ) (cs : List (List ℕ)) → 1 ≤ length cs → items d (c ∷ cs) ≡ withLine d c (tagOf c) (items (moved d c (tagOf c)) cs)
+items-next : (d : ℕ) (c : List ℕ) (cs : List (List ℕ)) → 1 ≤ length cs
+    → items d (c ∷ cs) ≡ withLine d c (tagOf c) (items (moved d c (tagOf c)) cs)
 items-next d c [] h = absurd (omega arith)
 items-next d c (e ∷ cs) h = refl
 
@@ -243,7 +245,8 @@ module _ (x : List ℕ) (d at : ℕ) (st : Standing x d at) (e : ℕ) (at-e : e 
     pub chunk-good : isBad (tagOf chunk) ≡ false
     chunk-good = by (tagOf chunk) judged-on
       where
-        by : (t : Tag) → cond (eqb (moved d chunk t) 15) (At (faultAt at chunk t)) (judge (moved d chunk t) (at + length chunk + 1) (chunks false (drop (at + e + 1) x))) ≡ Fine
+        by : (t : Tag) → cond (eqb (moved d chunk t) 15) (At (faultAt at chunk t))
+            (judge (moved d chunk t) (at + length chunk + 1) (chunks false (drop (at + e + 1) x))) ≡ Fine
             → isBad t ≡ false
         by (Bad n) h = absurd (let z : _≡_ {A = ℕ} 0 1 = cc in omega arith)
         by (Shut k) h = refl
@@ -253,7 +256,8 @@ module _ (x : List ℕ) (d at : ℕ) (st : Standing x d at) (e : ℕ) (at-e : e 
     fine-on = rw chunk-long at (by (eqb (moved d chunk (tagOf chunk)) 15) judged-on)
       where
         by : (b : Bool)
-            → cond b (At (faultAt at chunk (tagOf chunk))) (judge (moved d chunk (tagOf chunk)) (at + length chunk + 1) (chunks false (drop (at + e + 1) x))) ≡ Fine
+            → cond b (At (faultAt at chunk (tagOf chunk)))
+            (judge (moved d chunk (tagOf chunk)) (at + length chunk + 1) (chunks false (drop (at + e + 1) x))) ≡ Fine
             → judge (moved d chunk (tagOf chunk)) (at + length chunk + 1) (chunks false (drop (at + e + 1) x)) ≡ Fine
         by true h = absurd (let z : _≡_ {A = ℕ} 0 1 = cc in omega arith)
         by false h = h
@@ -319,12 +323,14 @@ module _ (t₀ t x : List ℕ) (w d₀ at₀ n₀ d at n : ℕ) (p : Picking t�
           let z : pickedAt w x d at ≡ bytesOf w d it (tagOf it) ++ pickedAt w x d′ (at + e + 1) = rw k (picked-on ∙ rw (h .0)) in
           record {
             standing = chunk-on x d at (p .standing) e at-e in-e more d′ to;
-            going = going-on t₀ n₀ (pickedAt w x d₀ at₀) t n (pickedAt w x d at) (bytesOf w d it (tagOf it)) (pickedAt w x d′ (at + e + 1)) u m (p .going) z (h .1);
+            going = going-on t₀ n₀ (pickedAt w x d₀ at₀) t n (pickedAt w x d at) (bytesOf w d it (tagOf it)) (pickedAt w x d′ (at + e + 1)) u m
+                (p .going) z (h .1);
           }
 
 pub ruleset picking-laws = (picking-start, picking-standing, picking-last, picking-stop, picking-more, chunk-laws)
 
-pub owned-laid : (t u v s x : List ℕ) (n m q r d at : ℕ) → Laid t u n m (pickedAt 80 x d at) → Laid u v m q (pickedAt 86 x d at) → Laid v s q r (pickedAt 69 x d at)
+pub owned-laid : (t u v s x : List ℕ) (n m q r d at : ℕ) → Laid t u n m (pickedAt 80 x d at) → Laid u v m q (pickedAt 86 x d at)
+    → Laid v s q r (pickedAt 69 x d at)
     → Laid t s n r (ownedAt x d at)
 owned-laid t u v s x n m q r d at a b c =
     laid-then t u s n m r (pickedAt 80 x d at) (pickedAt 86 x d at ++ pickedAt 69 x d at) a
@@ -344,7 +350,8 @@ module _ (t x : List ℕ) (n d inside to : ℕ) (c : List ℕ) (w : ℕ) (good :
     tag-is : tagOf c ≡ Open k
     tag-is = sym (is good) ∙ q
 
-    pub block-laid : l ≡ w → inside ≡ moved d c (tagOf c) → (u v : List ℕ) (m r : ℕ) → Laid t u n m (lineBytes d k c) → Laid u v m r (ownedAt x inside to)
+    pub block-laid : l ≡ w → inside ≡ moved d c (tagOf c) → (u v : List ℕ) (m r : ℕ) → Laid t u n m (lineBytes d k c)
+        → Laid u v m r (ownedAt x inside to)
         → Laid t v n r (blockBytes w x d to c (tagOf c))
     block-laid f at u v m r a b =
         let z : blockBytes w x d to c (tagOf c) ≡ lineBytes d k c ++ ownedAt x (moved d c (tagOf c)) to =
@@ -400,7 +407,8 @@ module _ (t₀ t x : List ℕ) (w at₀ n₀ d at n : ℕ) (p : Blocking t₀ t 
         let z : blocksAt w x d at ≡ blockBytes w x d (at + e + 1) that (tagOf that) ++ blocksAt w x d′ (at + e + 1) = rw k blocks-on in
         record {
           standing = chunk-on x d at (p .standing) e at-e in-e more d′ to;
-          going = going-on t₀ n₀ (blocksAt w x 13 at₀) t n (blocksAt w x d at) (blockBytes w x d (at + e + 1) that (tagOf that)) (blocksAt w x d′ (at + e + 1)) u m (p .going) z l;
+          going = going-on t₀ n₀ (blocksAt w x 13 at₀) t n (blocksAt w x d at) (blockBytes w x d (at + e + 1) that (tagOf that))
+              (blocksAt w x d′ (at + e + 1)) u m (p .going) z l;
         }
 
 pub ruleset blocking-laws = (blocking-start, blocking-standing, blocking-last, blocking-more, chunk-laws)
@@ -409,7 +417,8 @@ pub ruleset blocking-laws = (blocking-start, blocking-standing, blocking-last, b
 pub text-standing : (x : List ℕ) (at : ℕ) → at ≡ start x → at ≤ length x → verdict x ≡ Fine → Standing x 13 at
 text-standing x at e h v = record { inside = h; fine = rw e v }
 
-pub text-laid : (x : List ℕ) (at : ℕ) → at ≡ start x → (t a b c u : List ℕ) (f g h r : ℕ) → Laid t a 0 f (blocksAt 70 x 13 at) → Laid a b f g (blocksAt 66 x 13 at)
+pub text-laid : (x : List ℕ) (at : ℕ) → at ≡ start x → (t a b c u : List ℕ) (f g h r : ℕ) → Laid t a 0 f (blocksAt 70 x 13 at)
+    → Laid a b f g (blocksAt 66 x 13 at)
     → Laid b c g h (blocksAt 72 x 13 at) → Laid c u h r (blocksAt 68 x 13 at) → Laid t u 0 r (textOf x)
 text-laid x at e t a b c u f g h r p q s v =
     let is = itemsOf x in

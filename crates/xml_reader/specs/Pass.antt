@@ -1,15 +1,15 @@
 -- X10 (docs/RULES.md): the text of a document by passes over its tags, and what the functions of a pass answer.
-use Prim.Native.Nat.{ℕ, _+_, _≤_}
+use Prim.Native.Nat.{ℕ}
 use mathlib.Core.Path.{_≡_}
-use mathlib.Core.Bool.{Bool, true, false, cond, _&&_}
+use mathlib.Core.Bool.{Bool, true, false, cond}
 use mathlib.Core.List.{List, [], _∷_, _++_}
-use lib.ListN.{length, drop}
+use lib.ListN.{drop}
 use lib.Dec.{eqb}
 use Rattle.xml_schema.specs.Schema.{letterOf}
 use Rattle.xml_tags.specs.Tags.{chunks, tagOf, piecesOf}
 use Rattle.xml_tags.specs.declared.Tag.{Tag}
 use Rattle.xml_tags.specs.declared.Tag.the-variants.{Bad, Shut, Open}
-use Rattle.xml_document.specs.Document.{enter, moved, lineOf, items, owns, picked, owned, blocks, ended}
+use Rattle.xml_document.specs.Document.{enter, moved, lineOf, items, owns, picked, blocks, ended}
 use Rattle.xml_draft.specs.Draft.{Laid}
 use Rattle.xml_reader.specs.declared.Wrote.{Wrote}
 use Rattle.xml_reader.specs.declared.Wrote.the-variants.{Stop, On}

@@ -1,5 +1,5 @@
 -- Laws of the schema's table. Assumes nothing.
-use mathlib.Core.Path.{_≡_, refl, sym, ap, _∙_}
+use mathlib.Core.Path.{_≡_, refl, sym, _∙_}
 use mathlib.Core.Bool.{Bool, true, false, cond}
 use mathlib.Core.Logic.{⊎-elim}
 use mathlib.Core.List.{List, [], _∷_}
@@ -11,7 +11,7 @@ use mir.Syntax.{w64}
 use lib.ListN.{length, getD, take, drop, length-drop}
 use lib.Seq.{drop-drop, take-length}
 use Rattle.laws.proofs.Lists.{tail}
-use Rattle.text.specs.Text.{split, fields, field, same}
+use Rattle.text.specs.Text.{fields, field, same}
 use Rattle.text.specs.Scan.{cut}
 use Rattle.text.specs.declared.Part.{Part}
 use Rattle.text.proofs.Laws.{split-last, split-more, front-count}
@@ -121,12 +121,14 @@ module _ (row n : List ℕ) (at : ℕ) (inv : formIn (drop 1 (fields row)) n ≡
   pub form-last : r ≡ Last → 0 ≡ formIn (drop 1 (fields row)) n
   form-last q = rw (inv, entry-last row at r is q)
 
-  module _ (a len : ℕ) (q : r ≡ Entry a len) (x : Bool) (named : x ≡ same n (nameOf (take (a + len - a) (drop a (take (length row - at) (drop at row)))))) where
+  module _ (a len : ℕ) (q : r ≡ Entry a len) (x : Bool)
+      (named : x ≡ same n (nameOf (take (a + len - a) (drop a (take (length row - at) (drop at row)))))) where
     form-on : formIn (drop 1 (fields row)) n
         ≡ cond x (formOf (take (a + len - a) (drop a (take (length row - at) (drop at row))))) (formIn (drop 1 (fields (drop (at + a) row))) n)
     form-on = inv ∙ rw (entry-is row at r is a len q, ← named)
 
-    pub form-here : x ≡ true → (f : ℕ) → f ≡ formOf (take (a + len - a) (drop a (take (length row - at) (drop at row)))) → f ≡ formIn (drop 1 (fields row)) n
+    pub form-here : x ≡ true → (f : ℕ) → f ≡ formOf (take (a + len - a) (drop a (take (length row - at) (drop at row))))
+        → f ≡ formIn (drop 1 (fields row)) n
     form-here t f e = e ∙ sym (form-on ∙ rw t)
 
     pub form-more : x ≡ false → formIn (drop 1 (fields row)) n ≡ formIn (drop 1 (fields (drop (at + a) row))) n
@@ -144,7 +146,8 @@ module _ (k : ℕ) (p : Part) (is : IsField 10 k table p) where
   pub row-is : fields (take (p .start + p .len - p .start) (drop (p .start) table)) ≡ rowOf k
   row-is = let d : p .start + p .len - p .start ≡ p .len = omega arith in rw (d, is .says)
 
-  pub letter-is : (l : List ℕ) → l ≡ field 0 (fields (take (p .start + p .len - p .start) (drop (p .start) table))) → (x : ℕ) → x ≡ formOf l → x ≡ letterOf k
+  pub letter-is : (l : List ℕ) → l ≡ field 0 (fields (take (p .start + p .len - p .start) (drop (p .start) table))) → (x : ℕ) → x ≡ formOf l
+      → x ≡ letterOf k
   letter-is l e x f = rw row-is at (rw e at f)
 
 pub ruleset laws = (

@@ -15,7 +15,8 @@ pub chunks-last : (q : Bool) (l : List ℕ) → tagEnd q l ≡ length l → chun
 chunks-last q [] e = refl
 chunks-last q (x ∷ xs) e = go (stops q x) e (chunks-last (turn q x) xs)
   where
-    go : (a : Bool) → cond a 0 (suc (tagEnd (turn q x) xs)) ≡ suc (length xs) → (tagEnd (turn q x) xs ≡ length xs → chunks (turn q x) xs ≡ xs ∷ [])
+    go : (a : Bool) → cond a 0 (suc (tagEnd (turn q x) xs)) ≡ suc (length xs)
+        → (tagEnd (turn q x) xs ≡ length xs → chunks (turn q x) xs ≡ xs ∷ [])
         → placed a x (chunks (turn q x) xs) ≡ (x ∷ xs) ∷ []
     go true e f = absurd (omega arith)
     go false e f = rw (f (omega arith))
@@ -34,8 +35,10 @@ chunks-more q l h = rw add-one (by-suc q l h)
     by-suc q (x ∷ xs) h = go (stops q x) refl h (by-suc (turn q x) xs)
       where
         go : (a : Bool) → stops q x ≡ a → cond a 0 (suc (tagEnd (turn q x) xs)) < suc (length xs)
-            → (tagEnd (turn q x) xs < length xs → chunks (turn q x) xs ≡ take (tagEnd (turn q x) xs) xs ∷ chunks false (drop (suc (tagEnd (turn q x) xs)) xs))
-            → placed a x (chunks (turn q x) xs) ≡ take (cond a 0 (suc (tagEnd (turn q x) xs))) (x ∷ xs) ∷ chunks false (drop (suc (cond a 0 (suc (tagEnd (turn q x) xs)))) (x ∷ xs))
+            → (tagEnd (turn q x) xs < length xs
+            → chunks (turn q x) xs ≡ take (tagEnd (turn q x) xs) xs ∷ chunks false (drop (suc (tagEnd (turn q x) xs)) xs))
+            → placed a x (chunks (turn q x) xs)
+            ≡ take (cond a 0 (suc (tagEnd (turn q x) xs))) (x ∷ xs) ∷ chunks false (drop (suc (cond a 0 (suc (tagEnd (turn q x) xs)))) (x ∷ xs))
         go true e h f = rw (stops-out q x e)
         go false e h f = rw (f (omega arith))
 

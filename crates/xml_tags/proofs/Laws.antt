@@ -6,7 +6,7 @@ use Prim.Native.Nat.{ℕ, suc, _+_, _-_, _^_, _≤_, _<_}
 use native.Mathlib.Omega.{arith}
 use mir.Val.{Fits}
 use mir.Syntax.{w64}
-use lib.Dec.{eqb, leb, ltb}
+use lib.Dec.{eqb}
 use lib.ListN.{length, getD, take, drop, length-drop}
 use lib.Seq.{drop-drop, length-take-le}
 use borrow.Author.Tests.{le-leb, lt-leb, lt-ltb, le-ltb, eq-eqb, ne-eqb}
@@ -17,13 +17,14 @@ use Rattle.text.specs.declared.Part.{Part}
 use Rattle.text.proofs.Laws.{split-last, split-more, front-count}
 use Rattle.text.proofs.Printing.{split-long}
 use Rattle.readers.specs.Fields.{IsField}
-use Rattle.xml_schema.specs.Schema.{elements, count, table, rowOf, entriesOf, elementOf, formOf, nameOf, formIn, isOptional, Follows}
+use Rattle.xml_schema.specs.Schema.{elements, table, entriesOf, elementOf, formOf, nameOf, formIn, isOptional, Follows}
 use Rattle.xml_schema.specs.declared.Next.{Next}
 use Rattle.xml_schema.specs.declared.Next.the-variants.{Last as NoEntry, Entry}
 use Rattle.xml_schema.proofs.Laws.{entry-last, entry-is, entry-laws, row-end, row-fits, row-is}
 use Rattle.xml_values.specs.Scan.{lead, skip, white, wordLen, word, after}
 use Rattle.xml_values.specs.Values.{valid}
-use Rattle.xml_tags.specs.Tags.{tagEnd, nameIn, isEquals, isName, isEnd, has, valueOf, isNew, fault, whole, judged, opened, shutting, tagFrom, tagOf, last, closed}
+use Rattle.xml_tags.specs.Tags.{tagEnd, nameIn, isEquals, isName, isEnd, has, valueOf, isNew, fault, whole, judged, opened, shutting, tagFrom}
+use Rattle.xml_tags.specs.Tags.{tagOf, last, closed}
 use Rattle.xml_tags.specs.Steps.{Lone, Halved, Spans, grade, UpTo, Inside}
 use Rattle.xml_tags.specs.declared.Tag.{Tag}
 use Rattle.xml_tags.specs.declared.Tag.the-variants.{Bad, Shut, Open}
@@ -49,7 +50,8 @@ module _ (s : List ℕ) (q : Bool) (i : ℕ) (inv : tagEnd false s ≡ i + tagEn
   pub end-hit : i < length s → (getD s i 0 ≡ 34 → ⊥) → q ≡ false → getD s i 0 ≡ 62 → i ≡ tagEnd false s
   end-hit h e t b = rw (inv, next s i h, t, eq-eqb _ _ b) (omega arith)
 
-  pub end-more : i < length s → (getD s i 0 ≡ 34 → ⊥) → q ≡ false → (getD s i 0 ≡ 62 → ⊥) → tagEnd false s ≡ i + 1 + tagEnd q (drop (i + 1) s)
+  pub end-more : i < length s → (getD s i 0 ≡ 34 → ⊥) → q ≡ false → (getD s i 0 ≡ 62 → ⊥)
+      → tagEnd false s ≡ i + 1 + tagEnd q (drop (i + 1) s)
   end-more h e t b = rw (inv, next s i h, t, ne-eqb _ _ e, ne-eqb _ _ b) (omega arith)
 
   pub end-done : i ≤ length s → length s ≤ i → i ≡ tagEnd false s
@@ -62,7 +64,8 @@ module _ (r : List ℕ) (e : ℕ) (at-e : e ≡ cut 34 r) (in-e : e ≤ length r
   pub pair-last : e ≡ length r → Halved r Last
   pair-last l = split-last 34 r (sym at-e ∙ l)
 
-  module _ (more : e ≡ length r → ⊥) (f : ℕ) (at-f : f ≡ cut 34 (take (length r - (e + 1)) (drop (e + 1) r))) (in-f : f ≤ length (take (length r - (e + 1)) (drop (e + 1) r))) where
+  module _ (more : e ≡ length r → ⊥) (f : ℕ) (at-f : f ≡ cut 34 (take (length r - (e + 1)) (drop (e + 1) r)))
+      (in-f : f ≤ length (take (length r - (e + 1)) (drop (e + 1) r))) where
     first-piece : split 34 r ≡ take e r ∷ split 34 (drop (e + 1) r)
     first-piece = rw at-e (split-more 34 r (rw (← at-e) (omega (arith, more))))
 
@@ -110,10 +113,12 @@ module _ (p : List ℕ) (l : ℕ) (at-l : l ≡ lead p) (k : ℕ) (at-k : k ≡ 
   k-is = rw s-is at at-k
 
   pub name-rest : (m : ℕ) → m ≡ lead (take (length (take (length p - l) (drop l p)) - k) (drop k (take (length p - l) (drop l p)))) → (r : Bool)
-      → r ≡ isEquals (take (length (take (length (take (length p - l) (drop l p)) - k) (drop k (take (length p - l) (drop l p)))) - m) (drop m (take (length (take (length p - l) (drop l p)) - k) (drop k (take (length p - l) (drop l p))))))
+      → r ≡ isEquals (take (length (take (length (take (length p - l) (drop l p)) - k) (drop k (take (length p - l) (drop l p)))) - m)
+      (drop m (take (length (take (length p - l) (drop l p)) - k) (drop k (take (length p - l) (drop l p))))))
       → 1 ≤ l → r ≡ isName p
   name-rest m at-m r is h =
-      let t-is : take (length (take (length p - l) (drop l p)) - k) (drop k (take (length p - l) (drop l p))) ≡ after (skip p) = tail (take (length p - l) (drop l p)) k ∙ rw (s-is, k-is) in
+      let t-is : take (length (take (length p - l) (drop l p)) - k) (drop k (take (length p - l) (drop l p)))
+      ≡ after (skip p) = tail (take (length p - l) (drop l p)) k ∙ rw (s-is, k-is) in
       let m-is : m ≡ lead (after (skip p)) = rw t-is at at-m in
       let is′ : r ≡ isEquals (drop m (after (skip p))) = rw tail at (rw t-is at is) in
       rw (le-leb 1 (lead p) (rw (← at-l) h)) (rw m-is at is′)
@@ -133,7 +138,8 @@ module _ (p : List ℕ) (l : ℕ) (at-l : l ≡ lead p) (k : ℕ) (at-k : k ≡ 
 pub ruleset name-laws = (equals-none, equals-rest, equals-not, name-none, name-rest, named-as, named-form, named-again, front-count)
 
 -- ---- one attribute after another: at stands at the start of one
-module _ (body n : List ℕ) (at : ℕ) (inv : has n (split 34 body) ≡ has n (split 34 (drop at body))) (p : Pair) (is : Halved (take (length body - at) (drop at body)) p) where
+module _ (body n : List ℕ) (at : ℕ) (inv : has n (split 34 body) ≡ has n (split 34 (drop at body))) (p : Pair)
+    (is : Halved (take (length body - at) (drop at body)) p) where
   is′ : Halved (drop at body) p
   is′ = rw tail at is
 
@@ -144,7 +150,8 @@ module _ (body n : List ℕ) (at : ℕ) (inv : has n (split 34 body) ≡ has n (
   has-odd q = let h : Lone (split 34 (drop at body)) = rw q at is′ in rw (inv, h .are)
 
   module _ (e f : ℕ) (q : p ≡ Two e f) (x : Bool) (named-n : x ≡ same (nameIn (take e (take (length body - at) (drop at body)))) n) where
-    two : (e + f + 2 ≤ length (drop at body)) × (split 34 (drop at body) ≡ take e (drop at body) ∷ take f (drop (e + 1) (drop at body)) ∷ split 34 (drop (e + f + 2) (drop at body)))
+    two : (e + f + 2 ≤ length (drop at body)) ×
+        (split 34 (drop at body) ≡ take e (drop at body) ∷ take f (drop (e + 1) (drop at body)) ∷ split 34 (drop (e + f + 2) (drop at body)))
     two = rw q at is′
 
     x-is : x ≡ same (nameIn (take e (drop at body))) n
@@ -156,8 +163,10 @@ module _ (body n : List ℕ) (at : ℕ) (inv : has n (split 34 body) ≡ has n (
 
     has-on : has n (split 34 body) ≡ (x || has n (split 34 (drop (e + f + 2) (drop at body))))
     has-on =
-        let s : has n (take e (drop at body) ∷ take f (drop (e + 1) (drop at body)) ∷ split 34 (drop (e + f + 2) (drop at body))) ≡ (same (nameIn (take e (drop at body))) n || has n (split 34 (drop (e + f + 2) (drop at body)))) =
-        has-step (split 34 (drop (e + f + 2) (drop at body))) (split-long 34 (drop (e + f + 2) (drop at body))) (take e (drop at body)) (take f (drop (e + 1) (drop at body))) in
+        let s : has n (take e (drop at body) ∷ take f (drop (e + 1) (drop at body)) ∷ split 34 (drop (e + f + 2) (drop at body)))
+        ≡ (same (nameIn (take e (drop at body))) n || has n (split 34 (drop (e + f + 2) (drop at body)))) =
+        has-step (split 34 (drop (e + f + 2) (drop at body))) (split-long 34 (drop (e + f + 2) (drop at body))) (take e (drop at body))
+        (take f (drop (e + 1) (drop at body))) in
         inv ∙ ap (has n) (two .1) ∙ rw (← x-is) at s
 
     pub has-it : x ≡ true → true ≡ has n (split 34 body)
@@ -168,7 +177,8 @@ module _ (body n : List ℕ) (at : ℕ) (inv : has n (split 34 body) ≡ has n (
         let d : at + (e + f + 2) ≡ at + e + f + 2 = omega arith in
         rw t at (rw (drop-drop, d) at has-on)
 
-module _ (body : List ℕ) (at : ℕ) (in-at : at ≤ length body) (p : Pair) (is : Halved (take (length body - at) (drop at body)) p) (e f : ℕ) (q : p ≡ Two e f) where
+module _ (body : List ℕ) (at : ℕ) (in-at : at ≤ length body) (p : Pair) (is : Halved (take (length body - at) (drop at body)) p) (e f : ℕ)
+    (q : p ≡ Two e f) where
   pair-room : e + f + 2 ≤ length body - at
   pair-room = let h : e + f + 2 ≤ length (drop at body) = pair-within (drop at body) p e f (rw tail at is) q in rw length-drop at h
 
@@ -197,7 +207,8 @@ module _ (body : List ℕ) (at : ℕ) (in-at : at ≤ length body) (p : Pair) (i
 pub ruleset has-laws = (has-last, has-odd, has-it, has-more, pair-in, pair-fits, pair-fits-2, pair-fits-3, pair-less, pair-name, pair-count)
 
 -- ---- the value of an attribute
-module _ (body n : List ℕ) (at : ℕ) (inv : valueOf n (split 34 body) ≡ valueOf n (split 34 (drop at body))) (p : Pair) (is : Halved (take (length body - at) (drop at body)) p) where
+module _ (body n : List ℕ) (at : ℕ) (inv : valueOf n (split 34 body) ≡ valueOf n (split 34 (drop at body))) (p : Pair)
+    (is : Halved (take (length body - at) (drop at body)) p) where
   is-here : Halved (drop at body) p
   is-here = rw tail at is
 
@@ -212,7 +223,8 @@ module _ (body n : List ℕ) (at : ℕ) (inv : valueOf n (split 34 body) ≡ val
     value-step [] h a v = absurd (omega arith)
     value-step (y ∷ ys) h a v = refl
 
-    two-here : (e + f + 2 ≤ length (drop at body)) × (split 34 (drop at body) ≡ take e (drop at body) ∷ take f (drop (e + 1) (drop at body)) ∷ split 34 (drop (e + f + 2) (drop at body)))
+    two-here : (e + f + 2 ≤ length (drop at body)) ×
+        (split 34 (drop at body) ≡ take e (drop at body) ∷ take f (drop (e + 1) (drop at body)) ∷ split 34 (drop (e + f + 2) (drop at body)))
     two-here = rw q at is-here
 
     x-here : x ≡ same (nameIn (take e (drop at body))) n
@@ -220,8 +232,10 @@ module _ (body n : List ℕ) (at : ℕ) (inv : valueOf n (split 34 body) ≡ val
 
     value-on : valueOf n (split 34 body) ≡ cond x (take f (drop (e + 1) (drop at body))) (valueOf n (split 34 (drop (e + f + 2) (drop at body))))
     value-on =
-        let s : valueOf n (take e (drop at body) ∷ take f (drop (e + 1) (drop at body)) ∷ split 34 (drop (e + f + 2) (drop at body))) ≡ cond (same (nameIn (take e (drop at body))) n) (take f (drop (e + 1) (drop at body))) (valueOf n (split 34 (drop (e + f + 2) (drop at body)))) =
-        value-step (split 34 (drop (e + f + 2) (drop at body))) (split-long 34 (drop (e + f + 2) (drop at body))) (take e (drop at body)) (take f (drop (e + 1) (drop at body))) in
+        let s : valueOf n (take e (drop at body) ∷ take f (drop (e + 1) (drop at body)) ∷ split 34 (drop (e + f + 2) (drop at body)))
+        ≡ cond (same (nameIn (take e (drop at body))) n) (take f (drop (e + 1) (drop at body))) (valueOf n (split 34 (drop (e + f + 2) (drop at body)))) =
+        value-step (split 34 (drop (e + f + 2) (drop at body))) (split-long 34 (drop (e + f + 2) (drop at body))) (take e (drop at body))
+        (take f (drop (e + 1) (drop at body))) in
         inv ∙ ap (valueOf n) (two-here .1) ∙ rw (← x-here) at s
 
     pub value-it : at ≤ length body → x ≡ true → Spans body n (record { start = at + e + 1; len = f })
@@ -236,7 +250,8 @@ module _ (body n : List ℕ) (at : ℕ) (inv : valueOf n (split 34 body) ≡ val
         let w : valueOf n (split 34 body) ≡ valueOf n (split 34 (drop (e + f + 2) (drop at body))) = rw t at value-on in
         rw (drop-drop, d) at w
 
-module _ (body : List ℕ) (at : ℕ) (in-at : at ≤ length body) (p : Pair) (is : Halved (take (length body - at) (drop at body)) p) (e f : ℕ) (q : p ≡ Two e f) (short : length body < 2 ^ 64) where
+module _ (body : List ℕ) (at : ℕ) (in-at : at ≤ length body) (p : Pair) (is : Halved (take (length body - at) (drop at body)) p) (e f : ℕ)
+    (q : p ≡ Two e f) (short : length body < 2 ^ 64) where
   pub pair-fits-4 : Fits w64 (at + e + 1)
   pair-fits-4 = omega (arith, pair-room body at in-at p is e f q)
 
@@ -259,7 +274,8 @@ module _ (form : ℕ) (p : List ℕ) (ps : List (List ℕ)) (a : Bool) (named : 
       new-is u = rw (← named, t, ne-eqb form 0 known, ← again, u)
 
 module _ (es : List (List ℕ)) (r : List ℕ) (e f : ℕ) (room : e + f + 2 ≤ length r) (form : ℕ) (form-is : form ≡ formIn es (nameIn (take e r)))
-    (x : Bool) (new : x ≡ isName (take e r) && (not (eqb form 0) && not (has (nameIn (take e r)) (split 34 (take (length r - (e + 1 + f + 1)) (drop (e + 1 + f + 1) r)))))) where
+    (x : Bool) (new : x ≡ isName (take e r) &&
+    (not (eqb form 0) && not (has (nameIn (take e r)) (split 34 (take (length r - (e + 1 + f + 1)) (drop (e + 1 + f + 1) r)))))) where
   new-now : x ≡ isNew es (take e r) (split 34 (drop (e + f + 2) r))
   new-now =
       let d : e + 1 + f + 1 ≡ e + f + 2 = omega arith in
@@ -285,7 +301,8 @@ grade-count r e f h = front-count r e (omega arith)
 pub end-empty : (r : List ℕ) (l : ℕ) (x : Bool) → l ≡ lead r → x ≡ same (take (length r - l) (drop l r)) [] → x ≡ true → true ≡ isEnd r
 end-empty r l x e is t = let i : x ≡ same (skip r) [] = rw e at (rw tail at is) in rw (← i, t)
 
-pub end-slash : (r : List ℕ) (l : ℕ) (x y : Bool) → l ≡ lead r → x ≡ same (take (length r - l) (drop l r)) [] → x ≡ false → y ≡ same (take (length r - l) (drop l r)) (47 ∷ []) → y ≡ isEnd r
+pub end-slash : (r : List ℕ) (l : ℕ) (x y : Bool) → l ≡ lead r → x ≡ same (take (length r - l) (drop l r)) [] → x ≡ false
+    → y ≡ same (take (length r - l) (drop l r)) (47 ∷ []) → y ≡ isEnd r
 end-slash r l x y e is t iy =
     let i : x ≡ same (skip r) [] = rw e at (rw tail at is) in
     let j : y ≡ same (skip r) (47 ∷ []) = rw e at (rw tail at iy) in
@@ -300,16 +317,20 @@ goOn es place Right a v ps = fault es (place + length a + length v + 2) ps
 goOn es place WrongName a v ps = At place
 goOn es place WrongValue a v ps = At (place + length a + 1)
 
-fault-step : (es : List (List ℕ)) (place : ℕ) (ps : List (List ℕ)) → 1 ≤ length ps → (a v : List ℕ) → fault es place (a ∷ v ∷ ps) ≡ goOn es place (grade es a v ps) a v ps
+fault-step : (es : List (List ℕ)) (place : ℕ) (ps : List (List ℕ)) → 1 ≤ length ps → (a v : List ℕ)
+    → fault es place (a ∷ v ∷ ps) ≡ goOn es place (grade es a v ps) a v ps
 fault-step es place [] h a v = absurd (omega arith)
 fault-step es place (y ∷ ys) h a v = by (isNew es a (y ∷ ys)) (valid (formIn es (nameIn a)) v)
   where
-    by : (b c : Bool) → cond b (cond c (fault es (place + length a + length v + 2) (y ∷ ys)) (At (place + length a + 1))) (At place) ≡ goOn es place (cond b (cond c Right WrongValue) WrongName) a v (y ∷ ys)
+    by : (b c : Bool) → cond b (cond c (fault es (place + length a + length v + 2) (y ∷ ys)) (At (place + length a + 1))) (At place)
+        ≡ goOn es place (cond b (cond c Right WrongValue) WrongName) a v (y ∷ ys)
     by true true = refl
     by true false = refl
     by false c = refl
 
-module _ (es : List (List ℕ)) (body : List ℕ) (inside at : ℕ) (inv : fault es inside (split 34 body) ≡ fault es (inside + at) (split 34 (drop at body))) (p : Pair) (is : Halved (take (length body - at) (drop at body)) p) where
+module _ (es : List (List ℕ)) (body : List ℕ) (inside at : ℕ)
+    (inv : fault es inside (split 34 body) ≡ fault es (inside + at) (split 34 (drop at body))) (p : Pair)
+    (is : Halved (take (length body - at) (drop at body)) p) where
   is-now : Halved (drop at body) p
   is-now = rw tail at is
 
@@ -330,8 +351,10 @@ module _ (es : List (List ℕ)) (body : List ℕ) (inside at : ℕ) (inv : fault
   fault-odd q = let h : Lone (split 34 (drop at body)) = rw q at is-now in rw (inv, h .are)
 
   module _ (e f : ℕ) (q : p ≡ Two e f) (g : Grade)
-      (said : g ≡ grade es (take e (take (length body - at) (drop at body))) (take f (drop (e + 1) (take (length body - at) (drop at body)))) (split 34 (drop (e + f + 2) (take (length body - at) (drop at body))))) where
-    two-now : (e + f + 2 ≤ length (drop at body)) × (split 34 (drop at body) ≡ take e (drop at body) ∷ take f (drop (e + 1) (drop at body)) ∷ split 34 (drop (e + f + 2) (drop at body)))
+      (said : g ≡ grade es (take e (take (length body - at) (drop at body))) (take f (drop (e + 1) (take (length body - at) (drop at body))))
+      (split 34 (drop (e + f + 2) (take (length body - at) (drop at body))))) where
+    two-now : (e + f + 2 ≤ length (drop at body)) ×
+        (split 34 (drop at body) ≡ take e (drop at body) ∷ take f (drop (e + 1) (drop at body)) ∷ split 34 (drop (e + f + 2) (drop at body)))
     two-now = rw q at is-now
 
     said-now : g ≡ grade es (take e (drop at body)) (take f (drop (e + 1) (drop at body))) (split 34 (drop (e + f + 2) (drop at body)))
@@ -343,10 +366,15 @@ module _ (es : List (List ℕ)) (body : List ℕ) (inside at : ℕ) (inv : fault
     v-long : length (take f (drop (e + 1) (drop at body))) ≡ f
     v-long = length-take-le f (drop (e + 1) (drop at body)) (rw length-drop (omega (arith, two-now .0)))
 
-    fault-on : fault es inside (split 34 body) ≡ goOn es (inside + at) g (take e (drop at body)) (take f (drop (e + 1) (drop at body))) (split 34 (drop (e + f + 2) (drop at body)))
+    fault-on : fault es inside (split 34 body)
+        ≡ goOn es (inside + at) g (take e (drop at body)) (take f (drop (e + 1) (drop at body))) (split 34 (drop (e + f + 2) (drop at body)))
     fault-on =
-        let s : fault es (inside + at) (take e (drop at body) ∷ take f (drop (e + 1) (drop at body)) ∷ split 34 (drop (e + f + 2) (drop at body))) ≡ goOn es (inside + at) (grade es (take e (drop at body)) (take f (drop (e + 1) (drop at body))) (split 34 (drop (e + f + 2) (drop at body)))) (take e (drop at body)) (take f (drop (e + 1) (drop at body))) (split 34 (drop (e + f + 2) (drop at body))) =
-        fault-step es (inside + at) (split 34 (drop (e + f + 2) (drop at body))) (split-long 34 (drop (e + f + 2) (drop at body))) (take e (drop at body)) (take f (drop (e + 1) (drop at body))) in
+        let s : fault es (inside + at) (take e (drop at body) ∷ take f (drop (e + 1) (drop at body)) ∷ split 34 (drop (e + f + 2) (drop at body)))
+        ≡ goOn es (inside + at)
+        (grade es (take e (drop at body)) (take f (drop (e + 1) (drop at body))) (split 34 (drop (e + f + 2) (drop at body)))) (take e (drop at body))
+        (take f (drop (e + 1) (drop at body))) (split 34 (drop (e + f + 2) (drop at body))) =
+        fault-step es (inside + at) (split 34 (drop (e + f + 2) (drop at body))) (split-long 34 (drop (e + f + 2) (drop at body))) (take e (drop at body))
+        (take f (drop (e + 1) (drop at body))) in
         inv ∙ ap (fault es (inside + at)) (two-now .1) ∙ rw (← said-now) at s
 
     pub fault-name : g ≡ WrongName → At (inside + at) ≡ fault es inside (split 34 body)
@@ -359,10 +387,13 @@ module _ (es : List (List ℕ)) (body : List ℕ) (inside at : ℕ) (inv : fault
     fault-more t =
         let d : at + (e + f + 2) ≡ at + e + f + 2 = omega arith in
         let m : inside + at + e + f + 2 ≡ inside + (at + e + f + 2) = omega arith in
-        let w : fault es inside (split 34 body) ≡ fault es (inside + at + length (take e (drop at body)) + length (take f (drop (e + 1) (drop at body))) + 2) (split 34 (drop (e + f + 2) (drop at body))) = rw t at fault-on in
+        let w : fault es inside (split 34 body)
+        ≡ fault es (inside + at + length (take e (drop at body)) + length (take f (drop (e + 1) (drop at body))) + 2)
+        (split 34 (drop (e + f + 2) (drop at body))) = rw t at fault-on in
         rw (drop-drop, d, m) at (rw (a-long, v-long) at w)
 
-module _ (body : List ℕ) (inside at : ℕ) (in-at : at ≤ length body) (p : Pair) (is : Halved (take (length body - at) (drop at body)) p) (e f : ℕ) (q : p ≡ Two e f) (short : inside + length body < 2 ^ 64) where
+module _ (body : List ℕ) (inside at : ℕ) (in-at : at ≤ length body) (p : Pair) (is : Halved (take (length body - at) (drop at body)) p) (e f : ℕ)
+    (q : p ≡ Two e f) (short : inside + length body < 2 ^ 64) where
   pub fault-fits : Fits w64 (inside + at + e)
   fault-fits = omega (arith, pair-room body at in-at p is e f q)
 
@@ -413,7 +444,7 @@ module _ (row : List ℕ) (ps : List (List ℕ)) (at : ℕ) (inv : whole (drop 1
 
   module _ (a len : ℕ) (q : r ≡ Entry a len) (x : Bool)
       (held : x ≡ isOptional (formOf (take (a + len - a) (drop a (take (length row - at) (drop at row)))))
-          || has (nameOf (take (a + len - a) (drop a (take (length row - at) (drop at row))))) ps) where
+      || has (nameOf (take (a + len - a) (drop a (take (length row - at) (drop at row))))) ps) where
     whole-on : whole (drop 1 (fields row)) ps ≡ x && whole (drop 1 (fields (drop (at + a) row))) ps
     whole-on = inv ∙ rw (entry-is row at r is a len q, ← held)
 
@@ -423,7 +454,19 @@ module _ (row : List ℕ) (ps : List (List ℕ)) (at : ℕ) (inv : whole (drop 1
     pub whole-more : x ≡ true → whole (drop 1 (fields row)) ps ≡ whole (drop 1 (fields (drop (at + a) row))) ps
     whole-more t = whole-on ∙ rw t
 
-pub ruleset whole-laws = (optional-words, optional-number, optional-flag, optional-further, optional-not, held-optional, held-there, whole-last, whole-not, whole-more, entry-laws)
+pub ruleset whole-laws = (
+  optional-words,
+  optional-number,
+  optional-flag,
+  optional-further,
+  optional-not,
+  held-optional,
+  held-there,
+  whole-last,
+  whole-not,
+  whole-more,
+  entry-laws,
+)
 
 -- ---- a tag
 module _ (l : List ℕ) (w : ℕ) (at-w : w ≡ wordLen l) (k : ℕ) (is-k : k ≡ elementOf (take w l)) (place : ℕ) where
@@ -457,7 +500,8 @@ module _ (l : List ℕ) (w : ℕ) (at-w : w ≡ wordLen l) (k : ℕ) (is-k : k �
         rw (← k-word, lt-ltb k 13 h) b
 
 pub start-is : (k : ℕ) (p : Part) → IsField 10 k table p → (place inside : ℕ) (ps : List (List ℕ)) (r : Tag)
-    → r ≡ judged k (drop 1 (fields (take (p .start + p .len - p .start) (drop (p .start) table)))) place inside ps → r ≡ judged k (entriesOf k) place inside ps
+    → r ≡ judged k (drop 1 (fields (take (p .start + p .len - p .start) (drop (p .start) table)))) place inside ps
+    → r ≡ judged k (entriesOf k) place inside ps
 start-is k p is place inside ps r e = e ∙ ap (λ fs. judged k (drop 1 fs) place inside ps) (row-is k p is)
 
 module _ (k : ℕ) (es : List (List ℕ)) (place inside : ℕ) (ps : List (List ℕ)) (g : Fault) (is-g : g ≡ fault es inside ps) where
@@ -480,7 +524,8 @@ inside-more m n (Bad k) h i = omega arith
 inside-more m n (Shut k) h i = tt
 inside-more m n (Open k) h i = tt
 
-pub inside-opened : (l : List ℕ) (w place : ℕ) (t : Tag) → w ≤ length l → Inside (place + 1 + w + length (take (length l - w) (drop w l))) t → Inside (place + 1 + length l) t
+pub inside-opened : (l : List ℕ) (w place : ℕ) (t : Tag) → w ≤ length l → Inside (place + 1 + w + length (take (length l - w) (drop w l))) t
+    → Inside (place + 1 + length l) t
 inside-opened l w place t h i =
     let d : place + 1 + w + length (take (length l - w) (drop w l)) ≡ place + 1 + length l = rw (tail, length-drop) (omega arith) in
     rw d at i
@@ -488,7 +533,8 @@ inside-opened l w place t h i =
 pub inside-shut : (c : List ℕ) (l : ℕ) (t : Tag) → l ≤ length c → Inside l t → Inside (length c) t
 inside-shut c l t h i = inside-more l (length c) t h i
 
-pub inside-open : (c : List ℕ) (l : ℕ) (t : Tag) → l ≤ length c → 2 ≤ length (take (length c - l) (drop l c)) → Inside (l + 1 + length (take (length (take (length c - l) (drop l c)) - 1) (drop 1 (take (length c - l) (drop l c))))) t → Inside (length c) t
+pub inside-open : (c : List ℕ) (l : ℕ) (t : Tag) → l ≤ length c → 2 ≤ length (take (length c - l) (drop l c))
+    → Inside (l + 1 + length (take (length (take (length c - l) (drop l c)) - 1) (drop 1 (take (length c - l) (drop l c))))) t → Inside (length c) t
 inside-open c l t h u i =
     let e : length (take (length c - l) (drop l c)) ≡ length c - l = rw (tail, length-drop) in
     let d : l + 1 + length (take (length (take (length c - l) (drop l c)) - 1) (drop 1 (take (length c - l) (drop l c)))) ≡ length c =
@@ -497,7 +543,8 @@ inside-open c l t h u i =
 
 pub ruleset inside-laws = (up-to-bad, inside-opened, inside-shut, inside-open)
 
-pub open-room : (l : List ℕ) (w place : ℕ) → w ≤ length l → place + 1 + length l < 2 ^ 64 → place + 1 + w + length (take (length l - w) (drop w l)) < 2 ^ 64
+pub open-room : (l : List ℕ) (w place : ℕ) → w ≤ length l → place + 1 + length l < 2 ^ 64
+    → place + 1 + w + length (take (length l - w) (drop w l)) < 2 ^ 64
 open-room l w place h s = rw (tail, length-drop) (omega arith)
 
 short-from : (place : ℕ) (s : List ℕ) → length s < 2 → Bad place ≡ tagFrom place s
@@ -524,12 +571,14 @@ module _ (c : List ℕ) (l : ℕ) (at-l : l ≡ lead c) where
   tag-none q = rw (ne-eqb (getD (take (length c - l) (drop l c)) 0 0) 60 q) at from-is
 
   module _ (q : getD (take (length c - l) (drop l c)) 0 0 ≡ 60) where
-    pub tag-shut : (r : Tag) → r ≡ shutting l (take (length (take (length c - l) (drop l c)) - 2) (drop 2 (take (length c - l) (drop l c)))) → getD (take (length c - l) (drop l c)) 1 0 ≡ 47 → r ≡ tagOf c
+    pub tag-shut : (r : Tag) → r ≡ shutting l (take (length (take (length c - l) (drop l c)) - 2) (drop 2 (take (length c - l) (drop l c))))
+        → getD (take (length c - l) (drop l c)) 1 0 ≡ 47 → r ≡ tagOf c
     tag-shut r is p =
         let i : r ≡ shutting l (drop 2 (take (length c - l) (drop l c))) = is ∙ ap (shutting l) (tail (take (length c - l) (drop l c)) 2) in
         i ∙ rw (eq-eqb (getD (take (length c - l) (drop l c)) 0 0) 60 q, eq-eqb (getD (take (length c - l) (drop l c)) 1 0) 47 p) at from-is
 
-    pub tag-open : (r : Tag) → r ≡ opened l (take (length (take (length c - l) (drop l c)) - 1) (drop 1 (take (length c - l) (drop l c)))) → (getD (take (length c - l) (drop l c)) 1 0 ≡ 47 → ⊥) → r ≡ tagOf c
+    pub tag-open : (r : Tag) → r ≡ opened l (take (length (take (length c - l) (drop l c)) - 1) (drop 1 (take (length c - l) (drop l c))))
+        → (getD (take (length c - l) (drop l c)) 1 0 ≡ 47 → ⊥) → r ≡ tagOf c
     tag-open r is p =
         let i : r ≡ opened l (drop 1 (take (length c - l) (drop l c))) = is ∙ ap (opened l) (tail (take (length c - l) (drop l c)) 1) in
         i ∙ rw (eq-eqb (getD (take (length c - l) (drop l c)) 0 0) 60 q, ne-eqb (getD (take (length c - l) (drop l c)) 1 0) 47 p) at from-is
@@ -551,7 +600,25 @@ closed-is c h e = rw (last-at c h, eq-eqb (getD c (length c - 1) 0) 47 e)
 pub closed-not : (c : List ℕ) → (length c ≡ 0 → ⊥) → (getD c (length c - 1) 0 ≡ 47 → ⊥) → false ≡ closed c
 closed-not c h e = rw (last-at c h, ne-eqb (getD c (length c - 1) 0) 47 e)
 
-pub ruleset tag-laws = (open-none, shut-none, shut-is, shut-bad, open-is, judged-fault, judged-is, judged-lacks, open-room, tag-short, tag-none, tag-shut, tag-open, closed-none, closed-is, closed-not, inside-laws)
+pub ruleset tag-laws = (
+  open-none,
+  shut-none,
+  shut-is,
+  shut-bad,
+  open-is,
+  judged-fault,
+  judged-is,
+  judged-lacks,
+  open-room,
+  tag-short,
+  tag-none,
+  tag-shut,
+  tag-open,
+  closed-none,
+  closed-is,
+  closed-not,
+  inside-laws,
+)
 
 pub ruleset start-laws = (start-is, row-end, row-fits)
 

@@ -102,7 +102,11 @@ fn is_equals(s: &[u8]) -> bool
     if s.len() < 1 {
         return false;
     }
-    if s[0] == b'=' { is_blank(&s[1..]) } else { false }
+    if s[0] == b'=' {
+        is_blank(&s[1..])
+    } else {
+        false
+    }
 }
 
 // Is p white space, a word, and `=` with white space around it?

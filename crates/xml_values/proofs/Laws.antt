@@ -1,25 +1,24 @@
 -- Laws of values. Assumes nothing.
 use mathlib.Core.Path.{_≡_, refl, sym, ap, _∙_}
-use mathlib.Core.Bool.{Bool, true, false, cond, not, _&&_, _||_}
+use mathlib.Core.Bool.{Bool, true, false, cond, not, _&&_}
 use mathlib.Core.Logic.{⊎-elim}
 use mathlib.Core.List.{List, [], _∷_}
-use Prim.Native.Nat.{ℕ, zero, suc, _+_, _-_, _*_, _^_, _≤_, _<_}
+use Prim.Native.Nat.{ℕ, suc, _+_, _-_, _*_, _^_, _≤_, _<_}
 use native.Mathlib.Nat.{add-assoc, eq-or-lt-of-le, mul-le-mul-left}
 use native.Mathlib.Omega.{arith}
 use mir.Val.{Fits}
 use mir.Syntax.{w64}
 use lib.Dec.{eqb, leb, ltb}
 use lib.ListN.{length, getD, take, drop, length-drop}
-use lib.Seq.{drop-drop, length-take-le, take-length}
+use lib.Seq.{drop-drop, take-length}
 use borrow.Author.Tests.{eqb-true, leb-true, leb-false, le-leb, lt-leb, le-ltb, lt-ltb, eq-eqb, ne-eqb}
 use Rattle.laws.proofs.Lists.{next, done, tail}
-use Rattle.text.specs.Text.{split, within, without, same, missing}
+use Rattle.text.specs.Text.{split, within, missing}
 use Rattle.text.specs.Scan.{cut, wordIn}
 use Rattle.text.proofs.Laws.{split-last, split-more, front-count, without-all, without-one}
-use Rattle.xml_schema.specs.Schema.{words, optionalWords, number, optionalNumber, hexNumber}
 use Rattle.xml_values.specs.Scan.{isWhite, lead, skip, white, isLetter, wordLen}
 use Rattle.xml_values.specs.Values.{entity, meant, isNamed, named, allNamed, loose, isWords, unsigned, isCount, strip, digitOf, run, worthIn}
-use Rattle.xml_values.specs.Values.{Capped, numeralIn, isHex, numeralFrom, numeral, isNumeral, isAmong, trues, falses, digitFor, valid}
+use Rattle.xml_values.specs.Values.{Capped, numeralIn, isHex, numeral, isNumeral, isAmong, trues, falses, digitFor, valid}
 use Rattle.xml_values.specs.declared.Numeral.{Numeral}
 use Rattle.xml_values.specs.declared.Numeral.the-variants.{Is, Not}
 
@@ -166,7 +165,8 @@ module _ (b : ℕ) (s : List ℕ) (at e : ℕ) (at-e : e ≡ cut b (take (length
     pub piece-less : at ≤ length s → length s - (at + e + 1) < length s - at
     piece-less u = omega (arith, piece-inside)
 
-module _ (s : List ℕ) (at : ℕ) (inv : named (split 38 s) ≡ named (split 38 (drop at s))) (e : ℕ) (at-e : e ≡ cut 38 (take (length s - at) (drop at s)))
+module _ (s : List ℕ) (at : ℕ) (inv : named (split 38 s) ≡ named (split 38 (drop at s))) (e : ℕ)
+    (at-e : e ≡ cut 38 (take (length s - at) (drop at s)))
     (in-e : e ≤ length (take (length s - at) (drop at s))) (x : Bool) (is : x ≡ isNamed (take e (take (length s - at) (drop at s)))) where
   begins : (ps : List (List ℕ)) → split 38 (drop at s) ≡ take e (drop at s) ∷ ps → named (split 38 s) ≡ x && named ps
   begins ps h =
@@ -402,7 +402,8 @@ module _ (base : ℕ) (s : List ℕ) (n : ℕ) (is : n ≡ run base s) where
     numeral-stray t = rw (some-now, ← blank-now, t)
 
     module _ (t : b ≡ true) (v : ℕ) (worth : Capped (worthIn base 0 s) v) where
-      by : (w : ℕ) → Capped w v → (c : Bool) → leb w 4294967295 ≡ c → (v ≤ 4294967295 → Is v ≡ cond c (Is w) Not) × (4294967295 < v → Not ≡ cond c (Is w) Not)
+      by : (w : ℕ) → Capped w v → (c : Bool) → leb w 4294967295 ≡ c
+          → (v ≤ 4294967295 → Is v ≡ cond c (Is w) Not) × (4294967295 < v → Not ≡ cond c (Is w) Not)
       by w k true q = let l : w ≤ 4294967295 = leb-true w 4294967295 q in (λ h. ap Is (k .low l), λ h. absurd (let z : v ≡ w = k .low l in omega arith))
       by w k false q = let l : 4294967295 < w = leb-false w 4294967295 q in (λ h. absurd (let z : 4294967295 < v = k .over l in omega arith), λ h. refl)
 
@@ -558,7 +559,8 @@ module _ (f : ℕ) (v : List ℕ) (r : Bool) where
   pub valid-maybe : r ≡ isCount v → f ≡ 109 → r ≡ valid f v
   valid-maybe e q = rw q e
 
-  pub valid-flag : r ≡ not (eqb (digitFor v) 0) → 58 ≤ f → (f ≡ 119 → ⊥) → (f ≡ 111 → ⊥) → (f ≡ 120 → ⊥) → (f ≡ 110 → ⊥) → (f ≡ 109 → ⊥) → r ≡ valid f v
+  pub valid-flag : r ≡ not (eqb (digitFor v) 0) → 58 ≤ f → (f ≡ 119 → ⊥) → (f ≡ 111 → ⊥) → (f ≡ 120 → ⊥)
+      → (f ≡ 110 → ⊥) → (f ≡ 109 → ⊥) → r ≡ valid f v
   valid-flag e h a b c d g = rw (le-ltb f 58 h, ne-eqb f 119 a, ne-eqb f 111 b, ne-eqb f 120 c, ne-eqb f 110 d, ne-eqb f 109 g) e
 
 pub ruleset valid-laws = (

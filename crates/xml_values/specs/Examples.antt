@@ -1,7 +1,7 @@
 -- Worked examples of values. Assumes nothing.
 use mathlib.Core.Path.{_≡_, refl}
 use mathlib.Core.Bool.{true, false}
-use mathlib.Core.List.{List, [], _∷_}
+use mathlib.Core.List.{[], _∷_}
 use Rattle.numerals.specs.Numerals.{spelled}
 use Rattle.xml_schema.specs.Schema.{words, optionalWords, number, optionalNumber, hexNumber, flag}
 use Rattle.xml_values.specs.Values.{valid, says, unsaid, trues, falses, numeral}

@@ -11,7 +11,8 @@ ghost use lib.Dec.{eqb};
 ghost use lib.ListN.{length, drop};
 ghost use Rattle.text.specs.Text.{split, missing};
 ghost use Rattle.xml_values.specs.Scan.{isWhite, isLetter, lead as leadOf, white, wordLen};
-ghost use Rattle.xml_values.specs.Values.{entity as entityOf, isNamed, named, allNamed, loose, isWords, unsigned, isCount, strip, digitOf, run as runOf};
+ghost use Rattle.xml_values.specs.Values.{entity as entityOf, isNamed, named, allNamed, loose, isWords, unsigned, isCount, strip, digitOf};
+ghost use Rattle.xml_values.specs.Values.{run as runOf};
 ghost use Rattle.xml_values.specs.Values.{worthIn, numeralIn, isHex, numeral as numeralOf, isAmong, trues, falses, digitFor, isNumeral, valid, Capped};
 
 // A number of at most 32 bits, or none.

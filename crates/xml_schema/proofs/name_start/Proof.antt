@@ -4,13 +4,5 @@ use borrow.Author.Needs.{needs}
 use Rattle.xml_schema.proofs.name_start.Statement.{statement}
 use Rattle.xml_schema.proofs.name_start.Tie as tie
 
--- src/lib.rt:90:9
-returns : tie.Need-returns
-returns c = search (needs, laws)
-
--- src/lib.rt:86:1
-returns-2 : tie.Need-returns-2
-returns-2 c = search (needs, laws)
-
 pub name-start-spec : {M : Type 1} → statement M
-name-start-spec = tie.close (tie.spec returns returns-2)
+name-start-spec = tie.close (tie.spec (λ c. search (needs, laws)) (λ c. search (needs, laws)))
