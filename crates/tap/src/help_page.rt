@@ -187,7 +187,7 @@ fn help_xml() {
 line and field is written. bin/tap puts the XML on standard output and the last line on standard
 error, so it can go into a file, and what tap text makes of that is FILE, byte by byte:
 
-  bin/tap xml definitions/frames.txt >frames.xml
+  bin/tap xml ours.txt >ours.xml
 
 XML has an order of its own, so the text has to be in plain form: all F lines, then each B line with
 its P lines, then each H line with its P lines and behind them its V lines, then each D line with its

@@ -58,7 +58,7 @@ pub const KINDS: &[Kind] = &[
 ];
 
 /// What `today` stands for: what the replay program answers so far.
-pub const TODAY: &str = "rate,count,body,record,frames,frametable,recordby,framesby,frametableby,frametext,commandtext,header,command,commandby,bits,checksum,tidy,headernodes,commandnodes,listing,headervalue,commandvalue,totals,bad";
+pub const TODAY: &str = "rate,count,body,record,frames,frametable,recordby,framesby,frametableby,frametext,commandtext,header,command,commandby,bits,checksum,tidy,headernodes,commandnodes,listing,headervalue,commandvalue,totals,xml,unxml,bad";
 
 /// Draws requests of some kinds under a seed.
 #[derive(Clone)]
