@@ -9,7 +9,7 @@
  *   - A table that is lent overlaps nothing else that the same call is lent: no bytes, no other table. Bytes may overlap bytes.
  *   - While a call runs nobody else writes what it is lent, or reads a table that it is lent.
  *
- * Refusals (docs/RULES.md, R1 to R9, TO5, BM3, U5, FV2 and LS2), and the `value` that each carries:
+ * Refusals (docs/RULES.md, R1 to R9, TO5, BM3, U5, FV2, LS2, X1 and X2), and the `value` that each carries:
  *
  *   0  none
  *   1  a line of the text has none of the forms                                     its number, from 1
@@ -27,6 +27,9 @@
  *  11  there is no such row, or it is no mask of nodes                              its number
  *  12  the text does not fit into the buffer                                        how many bytes it has
  *  13  there is no such capture firmware                                            its number
+ *  14  a byte of an XML is outside of what is read (docs/XML.md)                    its place, from 0: at
+ *                                                                                  most the XML's length
+ *  15  a line of the text is out of plain form                                     its number, from 1
  *  16  a line of a listing is not of its form                                       its number, from 1
  */
 #ifndef LIBTAP_H
@@ -115,6 +118,14 @@ TapAnswer tap_check_command_text(const uint8_t *text, size_t text_length);
 /* A command text with each U line as an S line, into the buffer; nothing else of it is moved. Answers its length, which is that of the text. A
  * refusal writes nothing, an answer nothing behind the text. Refuses by 1 to 3, then 12. */
 TapAnswer tap_tidy_command_text(const uint8_t *text, size_t text_length, uint8_t *buffer, size_t buffer_length);
+
+/* A frame text as XML (docs/XML.md), into the buffer; the text has to be in plain form. Answers the XML's length. A refusal writes nothing, an answer
+ * nothing behind the XML. Refuses by 1 to 3, then 15, then 12: a first call with no room tells by 12 how much is needed. */
+TapAnswer tap_frame_text_to_xml(const uint8_t *text, size_t text_length, uint8_t *buffer, size_t buffer_length);
+
+/* The frame text that an XML says, in plain form, into the buffer, the same. 60,000 bytes are enough for every text. Refuses by 14, then by 1 to 3 for the
+ * text that would be written, with its line, then 12. The call has that text on its stack: some 60 KB (docs/HANDHELD.md). */
+TapAnswer tap_xml_to_frame_text(const uint8_t *xml, size_t xml_length, uint8_t *buffer, size_t buffer_length);
 
 /* ---- masks of nodes ---- */
 

@@ -217,6 +217,25 @@ static void show_totals(size_t frame_text_length, size_t payload_length) {
     printf("totals of %llu bytes\n%.*s", (unsigned long long)printed.value, (int)printed.value, (const char *)page);
 }
 
+/* Another maker's XML as our text, that text as XML again, by the room that a first call asks for, and an XML with a comment, which is not read. */
+static void show_xml(void) {
+    static const char theirs[] = "<FrameDefinition>\n <DefineSet Name=\"Kinds\"><Define Text=\"Ack &amp; more\" Name=\"ACK\" Key=\"0x03\"/></DefineSet>\n"
+                                 " <RadioFrequency Name=\"EU\" Text=\"Europe\" BaseHeader=\"0\" Code=\"1\"/>\n</FrameDefinition>\n";
+    static const char noted[] = "<FrameDefinition><!-- none --></FrameDefinition>";
+    static uint8_t text[LONGEST_TEXT];
+    static uint8_t xml[1024];
+    TapAnswer read = tap_xml_to_frame_text((const uint8_t *)theirs, sizeof theirs - 1, text, sizeof text);
+    printf("text of %llu bytes\n%.*s", (unsigned long long)read.value, (int)read.value, (const char *)text);
+    TapAnswer wanted = tap_frame_text_to_xml(text, read.value, xml, 0);
+    if (wanted.refusal == 12 && wanted.value <= sizeof xml) {
+        TapAnswer written = tap_frame_text_to_xml(text, read.value, xml, wanted.value);
+        printf("XML of %llu bytes\n%.*s", (unsigned long long)written.value, (int)written.value, (const char *)xml);
+    }
+    TapAnswer unread = tap_xml_to_frame_text((const uint8_t *)noted, sizeof noted - 1, text, sizeof text);
+    printf("XML with a comment ");
+    print_refusal(unread.refusal, unread.value);
+}
+
 int main(int count, char **words) {
     if (count != 4) {
         fprintf(stderr, "usage: decode FRAME-TEXT COMMAND-TEXT PAYLOAD\n");
@@ -242,6 +261,7 @@ int main(int count, char **words) {
         show_frame(frames + i * TAP_FRAME_WIDTH, frame_text_length, command_text_length);
     }
     show_totals(frame_text_length, payload_length);
+    show_xml();
     printf("ok\n");
     return 0;
 }

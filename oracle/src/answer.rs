@@ -86,6 +86,8 @@ pub fn full_answer(line: &[u8]) -> Answer {
             let run = Run { start: *start, by: *by, region: *region, text, payloads };
             return run.answer(Reader::Source);
         }
+        Request::Xml { cap, text } => xml(*cap, text),
+        Request::Unxml { cap, xml } => unxml(*cap, xml),
     };
     answer.into()
 }
@@ -288,9 +290,6 @@ fn checksum(speed: u64, mpdu: &[u8]) -> String {
 /// U2, U3: a command text with S for the letter of each U line, if the buffer has room for it.
 fn tidy(cap: u64, text: &[u8]) -> Result<String, Refusal> {
     definition::read::<CommandDefinition>(text)?;
-    if text.len() as u64 > cap {
-        return Err(Refusal { number: 12, carried: text.len() });
-    }
     let mut tidied = Vec::with_capacity(text.len());
     for line in text.split_inclusive(|&byte| byte == b'\n') {
         match line.strip_prefix(b"U\t") {
@@ -298,9 +297,7 @@ fn tidy(cap: u64, text: &[u8]) -> Result<String, Refusal> {
             None => tidied.extend(line),
         }
     }
-    let mut answer = "tidy ".to_string();
-    push_hex(&tidied, &mut answer);
-    Ok(answer)
+    in_buffer("tidy", &tidied, cap)
 }
 
 /// BM4: the nodes of a header's row, by the second reading: the Rust lists none.
@@ -378,10 +375,34 @@ fn commandvalue(
 pub fn written(word: &str, values: &[String], row: u64, cap: u64) -> Result<String, Refusal> {
     let value = usize::try_from(row).ok().and_then(|row| values.get(row));
     let value = value.ok_or(Refusal { number: 11, carried: row as usize })?;
-    if value.len() as u64 > cap {
-        return Err(Refusal { number: 12, carried: value.len() });
+    in_buffer(word, value.as_bytes(), cap)
+}
+
+/// X2: a text as XML, by the second reading: the Rust writes none. Its schema must read the same text out of it.
+fn xml(cap: u64, text: &[u8]) -> Result<String, Refusal> {
+    let xml = reading::xml::xml_of(text)?;
+    let read = source::xml::text_of(xml.as_bytes());
+    assert_eq!(read.as_deref(), Some(text), "the Rust reads otherwise: {xml}");
+    in_buffer("xml", xml.as_bytes(), cap)
+}
+
+/// X1: the text that an XML says, by the second reading. Where the Rust's schema takes an XML that says an accepted text,
+/// it must read that text; it takes no list of elements with others between them, and some XML that is outside of ours.
+fn unxml(cap: u64, xml: &[u8]) -> Result<String, Refusal> {
+    let text = reading::xml::text_of(xml).map_err(|place| Refusal { number: 14, carried: place })?;
+    definition::read::<FrameDefinition>(&text)?;
+    if let Some(read) = source::xml::text_of(xml) {
+        assert_eq!(read, text, "the Rust reads otherwise: {}", xml.escape_ascii());
+    }
+    in_buffer("unxml", &text, cap)
+}
+
+/// Bytes, if a buffer has room for them.
+fn in_buffer(word: &str, bytes: &[u8], cap: u64) -> Result<String, Refusal> {
+    if bytes.len() as u64 > cap {
+        return Err(Refusal { number: 12, carried: bytes.len() });
     }
     let mut answer = format!("{word} ");
-    push_hex(value.as_bytes(), &mut answer);
+    push_hex(bytes, &mut answer);
     Ok(answer)
 }

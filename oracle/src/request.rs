@@ -31,6 +31,8 @@ pub enum Request {
     Headervalue { cap: u64, row: u64, region: u64, speed: u64, text: Vec<u8>, mpdu: Vec<u8> },
     Commandvalue { offsets: Offsets, cap: u64, row: u64, text: Vec<u8>, payload: Vec<u8> },
     Totals { start: u64, by: By, region: u64, text: Vec<u8>, payloads: Vec<Vec<u8>> },
+    Xml { cap: u64, text: Vec<u8> },
+    Unxml { cap: u64, xml: Vec<u8> },
 }
 
 impl Request {
@@ -126,6 +128,8 @@ impl Request {
                 text: words.bytes()?,
                 payloads: words.all_bytes()?,
             },
+            b"xml" => Request::Xml { cap: words.buffer()?, text: words.bytes()? },
+            b"unxml" => Request::Unxml { cap: words.buffer()?, xml: words.bytes()? },
             _ => return None,
         };
         words.end()?;
@@ -180,6 +184,8 @@ impl Request {
                 let texts = std::iter::once(text).chain(payloads).map(Vec::as_slice);
                 ("totals", numbers, texts.collect())
             }
+            Request::Xml { cap, text } => ("xml", vec![*cap], vec![text]),
+            Request::Unxml { cap, xml } => ("unxml", vec![*cap], vec![xml]),
         }
     }
 

@@ -5,6 +5,7 @@ use crate::limits;
 use crate::random::Random;
 use crate::reading::command::Offsets;
 use crate::reading::pti::{Beams, By};
+use crate::reading::xml::xml_of;
 use crate::request::{Request, push_hex};
 use crate::shape::{Body, LONGEST_BODY, PAIRS_BY_RATE, PAIRS_OF_FIVE_BITS, enclose};
 
@@ -13,7 +14,7 @@ const DRAWN: usize = 2_000;
 const DRAWN_LENGTH: usize = 300;
 /// The same of each walk, whose requests have a text.
 const WALKS: &[(&str, usize, usize)] =
-    &[("header", 300, 1_600), ("command", 300, 800), ("commandby", 200, 800), ("headernodes", 200, 900), ("commandnodes", 200, 900), ("listing", 200, 1_600), ("headervalue", 300, 1_200), ("commandvalue", 300, 900), ("totals", 30, 1_100)];
+    &[("header", 300, 1_600), ("command", 300, 800), ("commandby", 200, 800), ("headernodes", 200, 900), ("commandnodes", 200, 900), ("listing", 200, 1_600), ("headervalue", 300, 1_200), ("commandvalue", 300, 900), ("totals", 30, 1_100), ("xml", 200, 700), ("unxml", 300, 1_400)];
 
 /// The sample of a seed, line by line: requests of those kinds, and lines that are no request.
 pub fn sample(seed: u64, kinds: &str) -> Result<Vec<Vec<u8>>, String> {
@@ -33,6 +34,7 @@ pub fn sample(seed: u64, kinds: &str) -> Result<Vec<Vec<u8>>, String> {
     requests.extend(about_commands());
     requests.extend(about_bits());
     requests.extend(about_tidied());
+    requests.extend(about_xml());
     requests.extend(about_nodes());
     requests.extend(about_command_nodes());
     requests.extend(about_listings());
@@ -523,6 +525,46 @@ fn about_tidied() -> Vec<Request> {
         tidy(0, &text[1..]),
         tidy(0, b""),
     ]
+}
+
+/// A text with every kind of line and its XML, in buffers of its length, a byte more and a byte less, the largest, and none; the XML cut at every byte; and a
+/// little that is not read.
+fn about_xml() -> Vec<Request> {
+    let text = "F|1|2\nB|0\nP|0|0|8|HEX|a|-|-|-\nP|1|0|4|HEX|x|s|a|-\nH|1|-|0101|<&>\"'\nP|0|0|0|HEX|y|-|-|a\nV|a.x|31\nD|s\nE|255|e\n"
+        .replace('|', "\t");
+    let written = xml_of(text.as_bytes()).expect("a text in plain form");
+    let about = |length: usize| [length, length + 1, length - 1, 0].map(|n| n as u64).into_iter().chain([limits::BUFFER]);
+    let xml = |cap: u64, text: &str| Request::Xml { cap, text: text.as_bytes().to_vec() };
+    let unxml = |cap: u64, xml: &[u8]| Request::Unxml { cap, xml: xml.to_vec() };
+    let mut requests: Vec<Request> = about(written.len()).map(|cap| xml(cap, &text)).collect();
+    requests.extend(about(text.len()).map(|cap| unxml(cap, written.as_bytes())));
+    requests.extend(["", "D|s\nF|1|2\n", "H|1|-|0000|n\nV|a|1\nP|0|0|8|HEX|a|-|-|-\n", "F|1\n"].map(|text| xml(0, &text.replace('|', "\t"))));
+    requests.extend((0..written.len()).step_by(7).map(|length| unxml(0, &written.as_bytes()[..length])));
+    let deep = |levels: usize| {
+        let param = r#"<Param Order="0" Bits="1" Type="HEX" Name="a" Text="a">"#;
+        let inside = param.repeat(levels) + &"</Param>".repeat(levels);
+        format!(r#"<FrameDefinition><BaseHeader Key="0" Name="0" Text="0">{inside}</BaseHeader></FrameDefinition>"#)
+    };
+    requests.extend([8, 9].map(|levels| unxml(4_096, deep(levels).as_bytes())));
+    let define = |attributes: &str| format!(r#"<FrameDefinition><DefineSet Name="s"><Define {attributes}/></DefineSet></FrameDefinition>"#);
+    let defines = [
+        r#"Key="0xFFFFFFFF" Text="e" Name="n""#,
+        r#"Key="0x100000000" Text="e" Name="n""#,
+        r#"Key="4294967295" Text="&lt;&gt;&amp;&quot;&apos;" Name="n""#,
+        r#"Key="4294967296" Text="e" Name="n""#,
+        r#"Key=" +007 " Text="e" Name="n""#,
+        r#"Key="" Text="e" Name="n""#,
+        r#"Key="1" Text="" Name="n""#,
+        r#"Key="1" Text="&#65;" Name="n""#,
+        r#"Key="1" Text="<" Name="n""#,
+        r#"Key="1" Text="e""#,
+        r#"Key="1" Text="e" Name="n" Name="n""#,
+        r#"Key='1' Text="e" Name="n""#,
+    ];
+    requests.extend(defines.map(|attributes| unxml(64, define(attributes).as_bytes())));
+    let others = ["<FrameDefinition/>", " <FrameDefinition />\n", "\u{feff}<FrameDefinition/>", "<FrameDefinition><!-- --></FrameDefinition>", "<frameDefinition/>", "a"];
+    requests.extend(others.map(|xml| unxml(0, xml.as_bytes())));
+    requests
 }
 
 /// Masks of eight, nine and 255 bytes, tables of as many nodes, one more and one less, and rows that are none.

@@ -8,7 +8,7 @@ use lib.Dec.{eqb, leb, ltb}
 use lib.ListN.{length}
 use borrow.Author.Tests.{eqb-false, leb-true, ltb-false}
 use Rattle.refusal.specs.declared.Refusal.{Refusal}
-use Rattle.refusal.specs.declared.Refusal.the-variants.{NoSuchField, TooLong, MoreRows, MoreBytes}
+use Rattle.refusal.specs.declared.Refusal.the-variants.{NoSuchField, TooLong, MoreRows, MoreBytes, Xml, NotPlain}
 use Rattle.refusal.specs.Refusal.{numberOf, carriedBy}
 use Rattle.refusal.proofs.Numbers.{numbered}
 use Rattle.text.specs.declared.Verdict.{Verdict}
@@ -17,6 +17,7 @@ use Rattle.frame.specs.declared.Reading.{Reading}
 use Rattle.frame.specs.Frame.{regionBits, rulesOf}
 use Rattle.pti.specs.Payload as pti
 use Rattle.command_text.specs.Rules.{verdict}
+use Rattle.frame_text.specs.Rules.{verdict as frameVerdict}
 use Rattle.tidy.specs.declared.Tidied.the-variants as tidied
 use Rattle.tidy.specs.Tidy as tidy
 use Rattle.header.specs.declared.Decoded.{Decoded}
@@ -55,6 +56,14 @@ use Rattle.libtap.specs.Nodes.{toldListed, ToldHeaderNodes, ToldCommandN
 use Rattle.totals_text.specs.Text.{textOf}
 use Rattle.libtap.specs.Values.{toldWritten, ToldHeaderValue, ToldCommandValue}
 use Rattle.libtap.specs.Totals.{ToldTotals}
+use Rattle.plain_form.specs.PlainForm.{outOfOrder, isPlain}
+use Rattle.xml_elements.specs.Elements.{xmlOf}
+use Rattle.xml_writer.specs.Writer as writer
+use Rattle.xml_tags.specs.declared.Fault.{Fault}
+use Rattle.xml_tags.specs.declared.Fault.the-variants.{Fine, At}
+use Rattle.xml_document.specs.Document as document
+use Rattle.xml.specs.Call as reader
+use Rattle.libtap.specs.Xml.{ToldXml, ToldText}
 
 refused-stands : (t : List ℕ) (x : Refusal) → Stands t (record { refusal = numberOf x; value = carriedBy x })
 refused-stands t x z = absurd (eqb-false (numberOf x) 0 (numbered x) z)
@@ -217,6 +226,34 @@ command-value-stands offsets t p k b r b′ told same = rw (told .told-so, told 
 pub totals-stand : (totals b : List ℕ) (r : TapAnswer) (b′ : List ℕ) → ToldTotals totals b r b′ → length b′ ≡ length b → Stands b′ r
 totals-stand totals b r b′ p same = rw (p .told-so, p .writes .answer) (written-stands (length (textOf totals)) b b′ same)
 
+-- ---- a frame text as XML
+pub xml-stands : (t b : List ℕ) (r : TapAnswer) (b′ : List ℕ) → ToldXml t b r b′ → length b′ ≡ length b → Stands b′ r
+xml-stands t b r b′ p same = rw (p .told-so, p .writes .answer) (by-verdict (frameVerdict t))
+  where
+    by-plain : (x : Bool) → Stands b′ (toldWritten (cond x (answerIn (length (xmlOf t)) (length b)) (written.Refused (NotPlain (outOfOrder t)))))
+    by-plain true = written-stands (length (xmlOf t)) b b′ same
+    by-plain false = refused-stands b′ (NotPlain (outOfOrder t))
+
+    by-verdict : (v : Verdict) → Stands b′ (toldWritten (writer.answerBy v (writer.plainAnswer t (length b))))
+    by-verdict Accepted = by-plain (isPlain t)
+    by-verdict (Unfit x) = refused-stands b′ x
+
+-- ---- XML as a frame text
+pub text-stands : (x b : List ℕ) (r : TapAnswer) (b′ : List ℕ) → ToldText x b r b′ → length b′ ≡ length b → Stands b′ r
+text-stands x b r b′ p same = rw (p .told-so, p .turns .answer) (by-fault (document.verdict x))
+  where
+    said : List ℕ
+    said = document.textOf x
+
+    by-text : (v : Verdict) → Stands b′ (toldWritten (reader.byText v (answerIn (length said) (length b))))
+    by-text Accepted = written-stands (length said) b b′ same
+    by-text (Unfit y) = refused-stands b′ y
+
+    by-fault : (f : Fault)
+        → Stands b′ (toldWritten (reader.byFault f (reader.byText (frameVerdict said) (answerIn (length said) (length b)))))
+    by-fault Fine = by-text (frameVerdict said)
+    by-fault (At place) = refused-stands b′ (Xml place)
+
 pub ruleset standing-laws = (stands-in, frames-stand, tidied-stands, header-stands, params-stand)
 
 pub ruleset node-standing = (stands-in, nodes-stand, command-nodes-stand)
@@ -224,3 +261,5 @@ pub ruleset node-standing = (stands-in, nodes-stand, command-nodes-stand)
 pub ruleset value-standing = (stands-in, value-stands, command-value-stands)
 
 pub ruleset totals-standing = (stands-in, totals-stand)
+
+pub ruleset xml-standing = (stands-in, xml-stands, text-stands)

@@ -8,8 +8,9 @@ pub mod listings;
 pub mod nodes;
 pub mod texts;
 pub mod values;
+pub mod xml_texts;
 
-// An answer as C has it: `refusal` is 0 and `value` the number that the call answers, or `refusal` is one of R1 to R9, TO5, BM3, U5, FV2 and LS2
+// An answer as C has it: `refusal` is 0 and `value` the number that the call answers, or `refusal` is one of R1 to R9, TO5, BM3, U5, FV2, LS2, X1 and X2
 // (docs/RULES.md) and `value` what it carries.
 #[repr(C)]
 pub struct TapAnswer {

@@ -31,6 +31,7 @@ use writer::Buffer;
 use writer::flush;
 use writer::put;
 use writer::put_byte;
+use xml_requests::turned;
 ghost use Rattle.answer.specs.Table.{Ample};
 ghost use Rattle.replay.specs.Input.{In};
 ghost use Rattle.replay.specs.Serve.{Goes};
@@ -78,6 +79,8 @@ fn answer(line: &[u8], bytes: &mut [u8], rows: &mut [u64], out: &mut Buffer, use
         Word::Headervalue => headervalue(words, bytes, out, used),
         Word::Commandvalue => commandvalue(words, bytes, out, used),
         Word::Totals => totals(words, bytes, out, used),
+        Word::Xml => turned(words, false, bytes, out, used),
+        Word::Unxml => turned(words, true, bytes, out, used),
         Word::Unknown => Answer::Bad,
     }
 }

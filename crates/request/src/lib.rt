@@ -31,6 +31,8 @@ pub enum Word {
     Headervalue,
     Commandvalue,
     Totals,
+    Xml,
+    Unxml,
     Unknown,
 }
 
@@ -81,7 +83,7 @@ pub fn find(s: &[u8], b: u8) -> usize
 // The words of the requests that came after the base.
 fn later_word_of(word: &[u8]) -> Word {
     let words: &[u8] =
-        b"recordby\tframesby\tframetableby\ttidy\tcommandby\theadernodes\tlisting\theadervalue\tcommandnodes\tcommandvalue\ttotals";
+        b"recordby\tframesby\tframetableby\ttidy\tcommandby\theadernodes\tlisting\theadervalue\tcommandnodes\tcommandvalue\ttotals\txml\tunxml";
     match find_field(words, word) {
         0 => Word::Recordby,
         1 => Word::Framesby,
@@ -94,6 +96,8 @@ fn later_word_of(word: &[u8]) -> Word {
         8 => Word::Commandnodes,
         9 => Word::Commandvalue,
         10 => Word::Totals,
+        11 => Word::Xml,
+        12 => Word::Unxml,
         _ => Word::Unknown,
     }
 }

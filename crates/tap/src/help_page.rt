@@ -19,6 +19,8 @@ fn help_all() {
                      is a dealer's listing ours, and if not, which line differs
   tap totals FILE ..
                      what captures come to: frames by kind and rate, beams, what was refused
+  tap xml FILE       a frame text as the XML that other makers exchange
+  tap text FILE      such an XML as a frame text
   tap help           this page
   tap help WORD      what a word does, and what its FILE is
 
@@ -179,10 +181,46 @@ output is for the first of them. It takes --definitions, --firmware and --beams 
     succeed();
 }
 
+fn help_xml() {
+    say(
+        b"tap xml FILE: an accepted frame text as FrameDefinition XML, one tag a line. docs/XML.md says how each
+line and field is written. bin/tap puts the XML on standard output and the last line on standard
+error, so it can go into a file, and what tap text makes of that is FILE, byte by byte:
+
+  bin/tap xml ours.txt >ours.xml
+
+XML has an order of its own, so the text has to be in plain form: all F lines, then each B line with
+its P lines, then each H line with its P lines and behind them its V lines, then each D line with its
+E lines. The last line is 'refused 15 L' where line L is the first out of that order. A text that is
+not accepted is refused as tap check says it. A refusal and its reason go to standard error.
+",
+    );
+    succeed();
+}
+
+fn help_text() {
+    say(
+        b"tap text FILE: a FrameDefinition XML, as other makers write it, as a frame text in plain form.
+Elements and attributes may come in any order, self-closing or not, with white space between them and
+the five named escapes in values; an XML declaration may come first. Comments, CDATA, other
+references, single quotes, and elements and attributes that the schema does not have are not read.
+bin/tap puts the text on standard output and the last line on standard error:
+
+  bin/tap text theirs.xml >frames.txt
+
+What is not read is refused by 14: the last line is 'refused 14 N', N the byte's place from 0, and
+before it come line, column and what may be wrong there. An XML that says a text that is not accepted
+is refused by 1, 2 or 3 with the line of that text, as tap check says it. A refusal and its reason go
+to standard error. At most 524287 bytes of XML are read. docs/XML.md has every element and attribute.
+",
+    );
+    succeed();
+}
+
 // The page of a word.
 fn help_word(word: &[u8]) {
     match find_field(
-        b"frames\tshow\tcheck\ttidy\tlist\tjudge\ttotals\thelp",
+        b"frames\tshow\tcheck\ttidy\tlist\tjudge\ttotals\txml\ttext\thelp",
         word,
     ) {
         0 => help_frames(),
@@ -192,7 +230,9 @@ fn help_word(word: &[u8]) {
         4 => help_list(),
         5 => help_judge(),
         6 => help_totals(),
-        7 => help_all(),
+        7 => help_xml(),
+        8 => help_text(),
+        9 => help_all(),
         _ => fail_word(word),
     }
 }

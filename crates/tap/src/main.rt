@@ -14,11 +14,13 @@ use readers::line_fields::find_field;
 use show_word::show_file::show_frame;
 use tidy_word::tidy_file::tidy_definition;
 use totals_word::totals_file::show_totals;
+use xml_word::text_file::write_text;
+use xml_word::xml_file::write_xml;
 
 // Does what a word asks for.
 fn obey(word: &[u8]) {
     match find_field(
-        b"frames\tshow\tcheck\ttidy\tlist\tjudge\ttotals\thelp",
+        b"frames\tshow\tcheck\ttidy\tlist\tjudge\ttotals\txml\ttext\thelp",
         word,
     ) {
         0 => show_frames(),
@@ -28,7 +30,9 @@ fn obey(word: &[u8]) {
         4 => list_frame(),
         5 => judge_frame(),
         6 => show_totals(),
-        7 => help(),
+        7 => write_xml(),
+        8 => write_text(),
+        9 => help(),
         _ => fail_word(word),
     }
 }

@@ -12,6 +12,7 @@ mod pti;
 mod texts;
 mod totals;
 mod values;
+mod xml;
 
 use crate::random::Random;
 
@@ -51,11 +52,13 @@ pub const KINDS: &[Kind] = &[
     Kind { name: "headervalue", weight: 30, draw: values::headervalue },
     Kind { name: "commandvalue", weight: 30, draw: values::commandvalue },
     Kind { name: "totals", weight: 30, draw: totals::totals },
+    Kind { name: "xml", weight: 30, draw: xml::xml },
+    Kind { name: "unxml", weight: 30, draw: xml::unxml },
     Kind { name: "bad", weight: 5, draw: bad::line },
 ];
 
 /// What `today` stands for: what the replay program answers so far.
-pub const TODAY: &str = "rate,count,body,record,frames,frametable,recordby,framesby,frametableby,frametext,commandtext,header,command,commandby,bits,checksum,tidy,headernodes,commandnodes,listing,headervalue,commandvalue,totals,bad";
+pub const TODAY: &str = "rate,count,body,record,frames,frametable,recordby,framesby,frametableby,frametext,commandtext,header,command,commandby,bits,checksum,tidy,headernodes,commandnodes,listing,headervalue,commandvalue,totals,xml,unxml,bad";
 
 /// Draws requests of some kinds under a seed.
 #[derive(Clone)]

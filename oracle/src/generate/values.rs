@@ -42,7 +42,7 @@ fn row(random: &mut Random, rows: usize) -> u64 {
 }
 
 /// For a text of so many bytes: mostly enough; else a byte short, few or none.
-fn room(random: &mut Random, length: usize) -> u64 {
+pub fn room(random: &mut Random, length: usize) -> u64 {
     let room = match random.below(100) {
         0..=54 => length,
         55..=69 => length + 1,

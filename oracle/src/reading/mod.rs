@@ -9,6 +9,7 @@ pub mod listing;
 pub mod nodes;
 pub mod pti;
 pub mod values;
+pub mod xml;
 
 use crate::answer::{push_frame, written};
 use crate::definition;

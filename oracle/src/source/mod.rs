@@ -5,6 +5,7 @@
 
 pub mod command;
 pub mod header;
+pub mod xml;
 
 use std::any::Any;
 use std::cell::Cell;

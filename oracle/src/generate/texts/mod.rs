@@ -8,6 +8,7 @@ mod frame;
 
 use crate::limits;
 use crate::random::Random;
+use crate::generate::values::room;
 use crate::request::Request;
 use field::{Form, name_of_length};
 
@@ -22,17 +23,8 @@ pub fn commandtext(random: &mut Random) -> Vec<u8> {
 /// A command text, and a buffer that mostly has room for it.
 pub fn tidy(random: &mut Random) -> Vec<u8> {
     let text = text(random, &command::COMMAND);
-    let length = text.len();
-    let cap = match random.below(100) {
-        0..=59 => length,
-        60..=69 => length + 1,
-        70..=79 => length + random.below(100),
-        80..=89 => length.saturating_sub(1),
-        90..=94 => random.below(length + 1),
-        95..=98 => 0,
-        _ => limits::BUFFER as usize,
-    };
-    Request::Tidy { cap: limits::BUFFER.min(cap as u64), text }.line()
+    let cap = room(random, text.len());
+    Request::Tidy { cap, text }.line()
 }
 
 /// A frame text without damage.

@@ -1,0 +1,11 @@
+-- `xml_document::leave` meets its contract, by the laws of the crate. Assumes nothing.
+use Rattle.xml_document.proofs.Laws.{moved-laws}
+use borrow.Author.Needs.{needs}
+use Rattle.xml_document.proofs.leave.Statement.{statement}
+use Rattle.xml_document.proofs.leave.Tie as tie
+
+pub leave-spec : {M : Type 1} → statement M
+leave-spec =
+    tie.close
+    (tie.spec (λ c κs. search (needs, moved-laws)) (λ c. search (needs, moved-laws)) (λ c. search (needs, moved-laws))
+    (λ c κs. search (needs, moved-laws)) (λ c. search (needs, moved-laws)) (λ c. search (needs, moved-laws)))

@@ -1,0 +1,3 @@
+pub mod Document
+pub mod Steps
+pub mod Examples

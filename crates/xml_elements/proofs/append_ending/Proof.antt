@@ -1,0 +1,19 @@
+-- `xml_elements::append_ending` meets its contract, by the laws of the crate. Assumes nothing.
+use Rattle.xml_elements.proofs.Laws.{laws}
+use borrow.Author.Needs.{needs}
+use Rattle.xml_elements.proofs.append_ending.Statement.{statement}
+use Rattle.xml_elements.proofs.append_ending.Tie as tie
+
+pub append-ending-spec : {M : Type 1} → statement M
+append-ending-spec =
+    tie.close
+    (tie.spec
+    (λ c κs. search (needs, laws))
+    (λ c. search (needs, laws))
+    (λ c κs. search (needs, laws))
+    (λ c. search (needs, laws))
+    (λ c. search (needs, laws))
+    (λ c. search (needs, laws))
+    (λ c κs. search (needs, laws))
+    (λ c. search (needs, laws))
+    (λ c. search (needs, laws)))

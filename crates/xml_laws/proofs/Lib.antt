@@ -1,0 +1,6 @@
+pub mod Values
+pub mod Attributes
+pub mod Tags
+pub mod Document
+pub mod Lines
+pub mod Body

@@ -1,0 +1,3 @@
+pub mod Scan
+pub mod Values
+pub mod Examples
