@@ -2,3 +2,4 @@ pub mod Values
 pub mod Attributes
 pub mod Tags
 pub mod Document
+pub mod Lines
