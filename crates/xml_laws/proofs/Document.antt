@@ -54,7 +54,7 @@ shut-shape : (d : ℕ) (rest : List ℕ)
     → 0x0a ∷ (shut d ++ rest) ≡ (0x0a ∷ head (depth d) (0x3c ∷ 0x2f ∷ []) (innermost d)) ++ 0x3e ∷ (0x0a ∷ rest)
 shut-shape d rest = ap (λ (l : List ℕ). 0x0a ∷ l) (append-assoc (head (depth d) (0x3c ∷ 0x2f ∷ []) (innermost d)) (0x3e ∷ 0x0a ∷ []) rest)
 
-says-shut : (d e : ℕ) (rest : List ℕ) (ls : List (List ℕ)) → Element (innermost d) → leave d (innermost d) ≡ e → (e ≡ 15 → ⊥) → Says e (0x0a ∷ rest) ls
+pub says-shut : (d e : ℕ) (rest : List ℕ) (ls : List (List ℕ)) → Element (innermost d) → leave d (innermost d) ≡ e → (e ≡ 15 → ⊥) → Says e (0x0a ∷ rest) ls
     → Says d (0x0a ∷ (shut d ++ rest)) ls
 says-shut d e rest ls el m n s =
     let tag : tagOf (0x0a ∷ head (depth d) (0x3c ∷ 0x2f ∷ []) (innermost d)) ≡ Shut (innermost d) = shut-tag (depth d) (innermost d) el in
@@ -92,7 +92,7 @@ inside-base = record { element = element-is 2 (omega arith); leads = refl; somew
 inside-header : Inside 3
 inside-header = record { element = element-is 3 (omega arith); leads = refl; somewhere = λ e. omega arith }
 
-inside-set : Inside 6
+pub inside-set : Inside 6
 inside-set = record { element = element-is 6 (omega arith); leads = refl; somewhere = λ e. omega arith }
 
 pub inside-owner : (h : Bool) → Inside (owner h)

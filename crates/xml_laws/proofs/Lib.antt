@@ -3,3 +3,4 @@ pub mod Attributes
 pub mod Tags
 pub mod Document
 pub mod Lines
+pub mod Body
