@@ -86,3 +86,200 @@ says-element : (d d′ e k n lev : ℕ) (fs : List (List ℕ)) (l rest : List �
 says-element d d′ e k n lev fs l rest ls el fits is count climbs to m s has line after =
     rw (← is, ← count, append-assoc (closings n d) (tagFor k lev fs) rest)
     (says-closings n d (tagFor k lev fs ++ rest) (l ∷ ls) climbs (rw to (says-start k (standsIn k lev) fs el fits d′ e l rest ls m s has line after)))
+
+-- ---- where the records before leave us
+abbrev inHeader : List Record → Bool
+inHeader rs = eqb (owner rs) 0x48
+
+abbrev pub placeOf : List Record → ℕ
+placeOf [] = 0
+placeOf (frequency code key ∷ rs) = 0
+placeOf (base key ∷ rs) = 2
+placeOf (header h ∷ rs) = 3
+placeOf (param p ∷ rs) = deep (inHeader rs) (p .level)
+placeOf (validation path value ∷ rs) = 3
+placeOf (set name ∷ rs) = 6
+placeOf (entry key text ∷ rs) = 6
+
+-- how far they have come in plain form
+abbrev pub farOf : List Record → ℕ
+farOf [] = 0
+farOf (frequency code key ∷ rs) = 0
+farOf (base key ∷ rs) = 1
+farOf (header h ∷ rs) = 2
+farOf (param p ∷ rs) = cond (inHeader rs) 2 1
+farOf (validation path value ∷ rs) = 3
+farOf (set name ∷ rs) = 4
+farOf (entry key text ∷ rs) = 4
+
+-- the latest has its owner, and a level that there is
+abbrev pub Kept : List Record → Type 0
+Kept [] = Unit {0}
+Kept (frequency code key ∷ rs) = Unit {0}
+Kept (base key ∷ rs) = Unit {0}
+Kept (header h ∷ rs) = Unit {0}
+Kept (param p ∷ rs) = (p .level ≤ 7) × (holdsParams rs ≡ true)
+Kept (validation path value ∷ rs) = owner rs ≡ 0x48
+Kept (set name ∷ rs) = Unit {0}
+Kept (entry key text ∷ rs) = owner rs ≡ 0x44
+
+-- from each of these places the root is so many ends away
+record Out (d n e : ℕ) : Type 0 where
+  climbs : Climbs n d
+  to : climb n d ≡ e
+
+out-of : (before : List Record) → Kept before → Out (placeOf before) (depth (placeOf before)) 0
+out-of [] k = record { climbs = tt; to = refl }
+out-of (frequency code key ∷ rs) k = record { climbs = tt; to = refl }
+out-of (base key ∷ rs) k = record { climbs = (inside-owner false, tt); to = refl }
+out-of (header h ∷ rs) k = record { climbs = (inside-owner true, tt); to = refl }
+out-of (param p ∷ rs) k =
+    let z : 2 + p .level ≡ suc (suc (p .level)) = omega arith in
+    rw (depth-deep (inHeader rs) (p .level) (k .0), z)
+    (record { climbs = climbs-root (inHeader rs) (p .level) (k .0) .0; to = climbs-root (inHeader rs) (p .level) (k .0) .1 })
+out-of (validation path value ∷ rs) k = record { climbs = (inside-owner true, tt); to = refl }
+out-of (set name ∷ rs) k = record { climbs = (inside-set, tt); to = refl }
+out-of (entry key text ∷ rs) k = record { climbs = (inside-set, tt); to = refl }
+
+-- in a Header it is so many ends away
+header-of : (before : List Record) → Kept before → owner before ≡ 0x48 → Out (placeOf before) (depth (placeOf before) - 1) 3
+header-of [] k o = absurd (omega arith)
+header-of (frequency code key ∷ rs) k o = absurd (omega arith)
+header-of (base key ∷ rs) k o = absurd (omega arith)
+header-of (header h ∷ rs) k o = record { climbs = tt; to = refl }
+header-of (param p ∷ rs) k o =
+    let z : 2 + p .level - 1 ≡ suc (p .level) = omega arith in
+    rw (eq-eqb (owner rs) 0x48 o, depth-deep true (p .level) (k .0), z)
+    (record { climbs = climbs-out true (p .level) (k .0) .0; to = climbs-out true (p .level) (k .0) .1 })
+header-of (validation path value ∷ rs) k o = record { climbs = tt; to = refl }
+header-of (set name ∷ rs) k o = absurd (omega arith)
+header-of (entry key text ∷ rs) k o = absurd (omega (arith, k, o))
+
+holds-none : (rs : List Record) (n : ℕ) → owner rs ≡ n → (n ≡ 0x42 → ⊥) → (n ≡ 0x48 → ⊥) → holdsParams rs ≡ true → ⊥
+holds-none rs n o a b h =
+    let z : holdsParams rs ≡ false = rw (o, ne-eqb n 0x42 a, ne-eqb n 0x48 b) in
+    let y : _≡_ {A = Bool} true false = sym h ∙ z in
+    let w : _≡_ {A = ℕ} 0 1 = cc in omega arith
+
+-- in a DefineSet we are in it
+set-of : (before : List Record) → Kept before → owner before ≡ 0x44 → (placeOf before ≡ 6) × (farOf before ≡ 4)
+set-of [] k o = absurd (omega arith)
+set-of (frequency code key ∷ rs) k o = absurd (omega arith)
+set-of (base key ∷ rs) k o = absurd (omega arith)
+set-of (header h ∷ rs) k o = absurd (omega arith)
+set-of (param p ∷ rs) k o = absurd (holds-none rs 0x44 o (λ e. omega arith) (λ e. omega arith) (k .1))
+set-of (validation path value ∷ rs) k o = absurd (omega (arith, k, o))
+set-of (set name ∷ rs) k o = (refl, refl)
+set-of (entry key text ∷ rs) k o = (refl, refl)
+
+-- ---- one line more
+pub record Step (before : List Record) (r : Record) (fs : List (List ℕ)) (l : List ℕ) : Type 0 where
+  pub on : (rest : List ℕ) (ls : List (List ℕ)) → Says (placeOf (r ∷ before)) (0x0a ∷ rest) ls
+      → Says (placeOf before) (0x0a ∷ (element (placeOf before) (kindFor fs) fs ++ rest)) (l ∷ ls)
+  pub leads : leadsTo (placeOf before) (kindFor fs) (levelIn (kindFor fs) fs) ≡ placeOf (r ∷ before)
+  pub kept : Kept (r ∷ before)
+  pub far : farther (farOf before) (kindOf fs) ≡ farOf (r ∷ before)
+
+not-false : (b : Bool) → not b ≡ false → b ≡ true
+not-false true e = refl
+not-false false e = absurd (let z : _≡_ {A = ℕ} 0 1 = cc in omega arith)
+
+module _ (before : List Record) (kept : Kept before) (fs : List (List ℕ)) (l : List ℕ) (whole : joined 0x09 fs ≡ l) where
+  abbrev d : ℕ
+  d = placeOf before
+
+  root-away : d ≡ d → depth d ≡ depth d - 0
+  root-away e = omega arith
+
+  step-f : (code key : ℕ) → View fs (frequency code key) → Step before (frequency code key) fs l
+  unfolding table
+  step-f code key v =
+      let f : Fitted 1 1 fs (0x46 ∷ []) = fitted-f fs (v .0) (v .1) in
+      let o : Out d (depth d) 0 = out-of before kept in
+      record {
+        on = λ rest ls s.
+            rw (v .0)
+            (says-element d 0 0 1 (depth d) 0 fs l rest ls (element-is 1 (omega arith)) (f .fits) refl (root-away refl) (o .climbs) (o .to) refl (λ e. omega arith) refl
+            (f .line ∙ whole) s);
+        leads = rw (v .0);
+        kept = tt;
+        far = rw (v .0);
+      }
+
+  step-b : (key : ℕ) → View fs (base key) → Step before (base key) fs l
+  unfolding table
+  step-b key v =
+      let f : Fitted 2 1 fs (0x42 ∷ []) = fitted-b fs (v .0) (v .1) in
+      let o : Out d (depth d) 0 = out-of before kept in
+      record {
+        on = λ rest ls s.
+            rw (v .0)
+            (says-element d 0 2 2 (depth d) 0 fs l rest ls (element-is 2 (omega arith)) (f .fits) refl (root-away refl) (o .climbs) (o .to) refl (λ e. omega arith) refl
+            (f .line ∙ whole) s);
+        leads = rw (v .0);
+        kept = tt;
+        far = rw (v .0);
+      }
+
+  step-h : (h : Header) → View fs (header h) → Step before (header h) fs l
+  unfolding table
+  step-h h v =
+      let f : Fitted 3 1 fs (0x48 ∷ []) = fitted-h fs (v .0) (v .1) in
+      let o : Out d (depth d) 0 = out-of before kept in
+      record {
+        on = λ rest ls s.
+            rw (v .0)
+            (says-element d 0 3 3 (depth d) 0 fs l rest ls (element-is 3 (omega arith)) (f .fits) refl (root-away refl) (o .climbs) (o .to) refl (λ e. omega arith) refl
+            (f .line ∙ whole) s);
+        leads = rw (v .0);
+        kept = tt;
+        far = rw (v .0);
+      }
+
+  step-d : (name : List ℕ) → View fs (set name) → Step before (set name) fs l
+  unfolding table
+  step-d name v =
+      let f : Fitted 6 1 fs (0x44 ∷ []) = fitted-d fs (v .0) (v .1) in
+      let o : Out d (depth d) 0 = out-of before kept in
+      record {
+        on = λ rest ls s.
+            rw (v .0)
+            (says-element d 0 6 6 (depth d) 0 fs l rest ls (element-is 6 (omega arith)) (f .fits) refl (root-away refl) (o .climbs) (o .to) refl (λ e. omega arith) refl
+            (f .line ∙ whole) s);
+        leads = rw (v .0);
+        kept = tt;
+        far = rw (v .0);
+      }
+
+  step-v : (path : List (List ℕ)) (value : ℕ) → View fs (validation path value) → lost before (validation path value) ≡ false
+      → Step before (validation path value) fs l
+  unfolding table
+  step-v path value v lost =
+      let f : Fitted 5 1 fs (0x56 ∷ []) = fitted-v fs (v .0) (v .1) in
+      let h : owner before ≡ 0x48 = eqb-true (owner before) 0x48 (not-false (eqb (owner before) 0x48) lost) in
+      let o : Out d (depth d - 1) 3 = header-of before kept h in
+      record {
+        on = λ rest ls s.
+            rw (v .0)
+            (says-element d 3 3 5 (depth d - 1) 0 fs l rest ls (element-is 5 (omega arith)) (f .fits) refl refl (o .climbs) (o .to) refl (λ e. omega arith) refl
+            (f .line ∙ whole) s);
+        leads = rw (v .0);
+        kept = h;
+        far = rw (v .0);
+      }
+
+  step-e : (key : ℕ) (text : List ℕ) → View fs (entry key text) → lost before (entry key text) ≡ false → Step before (entry key text) fs l
+  unfolding table
+  step-e key text v lost =
+      let f : Fitted 7 1 fs (0x45 ∷ []) = fitted-e fs (v .0) (v .1) in
+      let h : owner before ≡ 0x44 = eqb-true (owner before) 0x44 (not-false (eqb (owner before) 0x44) lost) in
+      let at : placeOf before ≡ 6 = set-of before kept h .0 in
+      let so : farOf before ≡ 4 = set-of before kept h .1 in
+      record {
+        on = λ rest ls s.
+            rw (v .0, at)
+            (says-element 6 6 6 7 0 0 fs l rest ls (element-is 7 (omega arith)) (f .fits) refl refl tt refl refl (λ e. omega arith) refl (f .line ∙ whole) s);
+        leads = rw (v .0);
+        kept = h;
+        far = rw (v .0) so;
+      }
