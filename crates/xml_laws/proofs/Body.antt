@@ -15,6 +15,7 @@ use Rattle.text.specs.Place.{kindOf}
 use Rattle.text.specs.Judge.{sentence, judge}
 use Rattle.text.specs.declared.Verdict.the-variants.{Accepted, Refused}
 use Rattle.text.proofs.Printing.{joined-split}
+use Rattle.text.proofs.Tests.{value-of, or-left, or-right}
 use Rattle.text.proofs.Reading.{Allowed, accepted-line}
 use Rattle.frame_text.specs.Form.{Record, frequency, base, header, param, validation, set, entry, Header, Param, form, said, paramSaid, ofType, typeOf}
 use Rattle.frame_text.specs.Form.{frequencyForm, baseForm, headerForm, paramNumbers, paramWords, paramForm, validationForm, setForm, entryForm}
@@ -32,7 +33,7 @@ use Rattle.xml_laws.proofs.Attributes.{fitting, lineFrom, append-assoc}
 use Rattle.xml_laws.proofs.Tags.{Element, element-is}
 use Rattle.xml_laws.proofs.Lines.{Fitted, fitted-f, fitted-b, fitted-h, fitted-p, fitted-v, fitted-d, fitted-e}
 use Rattle.xml_laws.proofs.Document.{Says, climb, Climbs, says-closings, says-shut, says-start, deep, inside-owner, inside-set, climbs-to, climbs-out, climbs-root}
-use Rattle.xml_laws.proofs.Document.{depth-deep, enter-first, enter-next, leads-first, leads-next, level-deep}
+use Rattle.xml_laws.proofs.Document.{owner as home, depth-deep, enter-first, enter-next, leads-first, leads-next, level-deep}
 
 append-nil : (l : List ℕ) → l ++ [] ≡ l
 append-nil [] = refl
@@ -283,3 +284,145 @@ module _ (before : List Record) (kept : Kept before) (fs : List (List ℕ)) (l :
         kept = h;
         far = rw (v .0) so;
       }
+
+-- ---- a P
+record From (before : List Record) (lev : ℕ) : Type 0 where
+  stood : ℕ
+  climbs : Climbs (depth (placeOf before) - (1 + lev)) (placeOf before)
+  to : climb (depth (placeOf before) - (1 + lev)) (placeOf before) ≡ stood
+  enters : enter stood 4 ≡ deep (inHeader before) lev
+  leads : leadsTo (placeOf before) 4 lev ≡ deep (inHeader before) lev
+  far : farOf before ≡ cond (inHeader before) 2 1
+
+parent-least : (n m : ℕ) (b : Bool) → cond (eqb m n) true (cond (ltb m n) false b) ≡ true → n ≤ m
+parent-least n m b e = go (eqb m n) (ltb m n) refl refl e
+  where
+    go : (s t : Bool) → eqb m n ≡ s → ltb m n ≡ t → cond s true (cond t false b) ≡ true → n ≤ m
+    go true t p q h = let i : m ≡ n = eqb-true m n p in omega arith
+    go false true p q h = absurd (let z : _≡_ {A = ℕ} 0 1 = cc in omega arith)
+    go false false p q h = ltb-false m n q
+
+from-param : (h : Bool) (m lev : ℕ) → m ≤ 7 → lev ≤ 7 → lev ≤ suc m
+    → (stood : ℕ) × (Climbs (2 + m - (1 + lev)) (deep h m)) × (climb (2 + m - (1 + lev)) (deep h m) ≡ stood) × (enter stood 4 ≡ deep h lev)
+from-param h m zero a b c =
+    let z : 2 + m - (1 + 0) ≡ suc m = omega arith in
+    (home h, rw z (climbs-out h m a .0), rw z (climbs-out h m a .1), enter-first h)
+from-param h m (suc n) a b c =
+    let z : 2 + m - (1 + suc n) ≡ m - n = omega arith in
+    let y : m - (m - n) ≡ n = omega arith in
+    (deep h n, rw z (climbs-to h (m - n) m (omega arith) a .0), rw z (climbs-to h (m - n) m (omega arith) a .1 ∙ ap (deep h) y), enter-next h n b)
+
+from-of : (before : List Record) (lev : ℕ) → Kept before → lev ≤ 7 → holdsParams before ≡ true → inside lev before ≡ true → (farOf before ≡ 3 → ⊥)
+    → From before lev
+from-of [] lev k low holds ins far = absurd (holds-none [] 0 refl (λ e. omega arith) (λ e. omega arith) holds)
+from-of (frequency code key ∷ rs) lev k low holds ins far =
+    absurd (holds-none (frequency code key ∷ rs) 0x46 refl (λ e. omega arith) (λ e. omega arith) holds)
+from-of (base key ∷ rs) zero k low holds ins far = record { stood = 2; climbs = tt; to = refl; enters = refl; leads = refl; far = refl }
+from-of (base key ∷ rs) (suc n) k low holds ins far = absurd (let z : _≡_ {A = ℕ} 0 1 = cc in omega arith)
+from-of (header h ∷ rs) zero k low holds ins far = record { stood = 3; climbs = tt; to = refl; enters = refl; leads = refl; far = refl }
+from-of (header h ∷ rs) (suc n) k low holds ins far = absurd (let z : _≡_ {A = ℕ} 0 1 = cc in omega arith)
+from-of (param p ∷ rs) lev k low holds ins far =
+    let found = from-param (inHeader rs) (p .level) lev (k .0) low (least lev ins) in
+    record {
+      stood = found .0;
+      climbs = rw (depth-deep (inHeader rs) (p .level) (k .0)) (found .1);
+      to = rw (depth-deep (inHeader rs) (p .level) (k .0)) (found .2);
+      enters = found .3;
+      leads = leads-next (inHeader rs) (p .level) lev (k .0);
+      far = refl;
+    }
+  where
+    least : (lev : ℕ) → inside lev (param p ∷ rs) ≡ true → lev ≤ suc (p .level)
+    least zero i = omega arith
+    least (suc n) i = let w : n ≤ p .level = parent-least n (p .level) (parent n rs) i in omega arith
+from-of (validation path value ∷ rs) lev k low holds ins far = absurd (far refl)
+from-of (set name ∷ rs) lev k low holds ins far = absurd (holds-none (set name ∷ rs) 0x44 refl (λ e. omega arith) (λ e. omega arith) holds)
+from-of (entry key text ∷ rs) lev k low holds ins far = absurd (holds-none rs 0x44 k (λ e. omega arith) (λ e. omega arith) holds)
+
+not-three : (n : ℕ) → not (eqb n 3) ≡ true → n ≡ 3 → ⊥
+not-three n e q =
+    let z : not (eqb n 3) ≡ false = rw (eq-eqb n 3 q) in
+    let y : _≡_ {A = Bool} true false = sym e ∙ z in
+    let w : _≡_ {A = ℕ} 0 1 = cc in omega arith
+
+deep-somewhere : (h : Bool) (m : ℕ) → deep h m ≡ 15 → ⊥
+deep-somewhere false m e = omega arith
+deep-somewhere true m e = omega arith
+
+module _ (before : List Record) (kept : Kept before) (fs : List (List ℕ)) (l : List ℕ) (whole : joined 0x09 fs ≡ l) where
+  step-p : (p : Param) → View fs (param p) → over before (param p) ≡ false → lost before (param p) ≡ false → stands (farOf before) (kindOf fs) ≡ true
+      → Step before (param p) fs l
+  unfolding table
+  step-p p v over lost ordered =
+      let low : p .level ≤ 7 = ltb-false 7 (p .level) (or-left (ltb 7 (p .level)) _ over) in
+      let holds : holdsParams before ≡ true = not-false (holdsParams before) (or-left (not (holdsParams before)) _ lost) in
+      let ins : inside (p .level) before ≡ true =
+          not-false (inside (p .level) before) (or-left (not (inside (p .level) before)) _ (or-right (not (holdsParams before)) _ lost)) in
+      let apart : farOf before ≡ 3 → ⊥ = not-three (farOf before) (rw (v .0) at ordered) in
+      let f : From before (p .level) = from-of before (p .level) kept low holds ins apart in
+      let small : worth 0 (field 1 fs) ≤ 7 = rw (v .2) at low in
+      let fitted : Fitted 4 2 fs (0x50 ∷ 0x09 ∷ (0x30 + worth 0 (field 1 fs)) ∷ []) = fitted-p fs (v .0) (v .1) small in
+      let numbers : paramNumbers fs ≡ true = and-left (paramNumbers fs) (paramWords fs) (and-right (eqb (length fs) 9) (paramNumbers fs && paramWords fs) (v .1)) in
+      let digits : decimal (field 1 fs) ≡ true = and-left (decimal (field 1 fs)) (upTo 65535 (field 2 fs) && upTo 255 (field 3 fs)) numbers in
+      let lev : p .level ≡ value 7 (field 1 fs) = v .2 ∙ sym (value-of 7 (field 1 fs) (rw (digits, le-leb (worth 0 (field 1 fs)) 7 small))) in
+      let digit : enter (f .stood) 4 % 8 ≡ worth 0 (field 1 fs) =
+          ap (λ (x : ℕ). x % 8) (f .enters) ∙ level-deep (inHeader before) (p .level) low ∙ v .2 in
+      let shown : 0x50 ∷ 0x09 ∷ (0x30 + enter (f .stood) 4 % 8) ∷ lineFrom fs (entriesOf 4) 2 1 ≡ l =
+          ap (λ (x : ℕ). 0x50 ∷ 0x09 ∷ (0x30 + x) ∷ lineFrom fs (entriesOf 4) 2 1) digit ∙ fitted .line ∙ whole in
+      record {
+        on = λ rest ls s.
+            rw (v .0)
+            (says-element (placeOf before) (f .stood) (deep (inHeader before) (p .level)) 4 (depth (placeOf before) - (1 + p .level)) (p .level) fs l rest ls
+            (element-is 4 (omega arith)) (fitted .fits) lev refl (f .climbs) (f .to) (f .enters) (deep-somewhere (inHeader before) (p .level)) refl shown s);
+        leads = rw (v .0) (rw (← lev) (f .leads));
+        kept = (low, holds);
+        far = rw (v .0) (f .far);
+      }
+
+  pub step-of : (r : Record) → View fs r → over before r ≡ false → lost before r ≡ false → stands (farOf before) (kindOf fs) ≡ true → Step before r fs l
+  step-of (frequency code key) v o s t = step-f before kept fs l whole code key v
+  step-of (base key) v o s t = step-b before kept fs l whole key v
+  step-of (header h) v o s t = step-h before kept fs l whole h v
+  step-of (param p) v o s t = step-p p v o s t
+  step-of (validation path value) v o s t = step-v before kept fs l whole path value v s
+  step-of (set name) v o s t = step-d before kept fs l whole name v
+  step-of (entry key text) v o s t = step-e before kept fs l whole key text v s
+
+-- ---- all lines
+abbrev pub front : List (List ℕ) → List (List ℕ)
+front [] = []
+front (l ∷ []) = []
+front (l ∷ m ∷ ms) = l ∷ front (m ∷ ms)
+
+says-end : (n d : ℕ) → Climbs n d → climb n d ≡ 0 → Says d (0x0a ∷ (closings (suc n) d ++ [])) []
+unfolding closings
+says-end zero d c e = rw (e, append-assoc (shut 0) [] []) (says-shut 0 14 [] [] (element-is 0 (omega arith)) refl (λ q. omega arith) (record { lines = refl; fine = λ place. refl }))
+says-end (suc n) d c e =
+    rw (append-assoc (shut d) (closings (suc n) (up d)) [])
+    (says-shut d (up d) (closings (suc n) (up d) ++ []) [] (c .0 .element) (c .0 .leads) (c .0 .somewhere) (says-end n (up d) (c .1) e))
+
+says-last : (before : List Record) → Kept before → Says (placeOf before) (0x0a ∷ closings (suc (depth (placeOf before))) (placeOf before)) []
+says-last before kept =
+    let o : Out (placeOf before) (depth (placeOf before)) 0 = out-of before kept in
+    rw (append-nil (closings (suc (depth (placeOf before))) (placeOf before))) at (says-end (depth (placeOf before)) (placeOf before) (o .climbs) (o .to))
+
+-- the order of a line, and of the lines behind it
+ordered-line : (b : Bool) (m n : ℕ) → cond b m (suc n) ≡ 0 → (b ≡ true) × (m ≡ 0)
+ordered-line true m n e = (refl, e)
+ordered-line false m n e = absurd (omega arith)
+
+pub says-body : (before : List Record) (n m : ℕ) (ls : List (List ℕ)) → Kept before → judge rules before n ls ≡ Accepted
+    → misplaced (farOf before) (suc m) ls ≡ 0 → Says (placeOf before) (0x0a ∷ body (placeOf before) ls) (front ls)
+unfolding body
+says-body before n m [] kept good ordered = says-last before kept
+says-body before n m (l ∷ []) kept good ordered = says-last before kept
+says-body before n m (l ∷ k ∷ ks) kept good ordered =
+    let a = accepted-line rules before n (form (fields l)) _ good in
+    let o : (stands (farOf before) (kindOf (fields l)) ≡ true)
+        × (misplaced (farther (farOf before) (kindOf (fields l))) (suc (suc m)) (k ∷ ks) ≡ 0) =
+        ordered-line (stands (farOf before) (kindOf (fields l))) (misplaced (farther (farOf before) (kindOf (fields l))) (suc (suc m)) (k ∷ ks)) m ordered in
+    let s : Step before (a .said) (fields l) l =
+        step-of before kept (fields l) l (joined-split 0x09 l) (a .said) (view-of (fields l) (a .said) (a .is)) (a .within) (a .owned) (o .0) in
+    rw (s .leads)
+    (s .on (body (placeOf (a .said ∷ before)) (k ∷ ks)) (front (k ∷ ks))
+    (says-body (a .said ∷ before) (suc n) (suc m) (k ∷ ks) (s .kept) (a .on) (rw (s .far) at (o .1))))
