@@ -4,3 +4,4 @@ pub mod Tags
 pub mod Document
 pub mod Lines
 pub mod Body
+pub mod Plain
