@@ -89,7 +89,7 @@ says-element d d′ e k n lev fs l rest ls el fits is count climbs to m s has li
     (says-closings n d (tagFor k lev fs ++ rest) (l ∷ ls) climbs (rw to (says-start k (standsIn k lev) fs el fits d′ e l rest ls m s has line after)))
 
 -- ---- where the records before leave us
-abbrev inHeader : List Record → Bool
+abbrev pub inHeader : List Record → Bool
 inHeader rs = eqb (owner rs) 0x48
 
 abbrev pub placeOf : List Record → ℕ
@@ -163,7 +163,7 @@ holds-none rs n o a b h =
     let w : _≡_ {A = ℕ} 0 1 = cc in omega arith
 
 -- in a DefineSet we are in it
-set-of : (before : List Record) → Kept before → owner before ≡ 0x44 → (placeOf before ≡ 6) × (farOf before ≡ 4)
+pub set-of : (before : List Record) → Kept before → owner before ≡ 0x44 → (placeOf before ≡ 6) × (farOf before ≡ 4)
 set-of [] k o = absurd (omega arith)
 set-of (frequency code key ∷ rs) k o = absurd (omega arith)
 set-of (base key ∷ rs) k o = absurd (omega arith)
@@ -181,7 +181,7 @@ pub record Step (before : List Record) (r : Record) (fs : List (List ℕ)) (l : 
   pub kept : Kept (r ∷ before)
   pub far : farther (farOf before) (kindOf fs) ≡ farOf (r ∷ before)
 
-not-false : (b : Bool) → not b ≡ false → b ≡ true
+pub not-false : (b : Bool) → not b ≡ false → b ≡ true
 not-false true e = refl
 not-false false e = absurd (let z : _≡_ {A = ℕ} 0 1 = cc in omega arith)
 
@@ -286,13 +286,13 @@ module _ (before : List Record) (kept : Kept before) (fs : List (List ℕ)) (l :
       }
 
 -- ---- a P
-record From (before : List Record) (lev : ℕ) : Type 0 where
-  stood : ℕ
-  climbs : Climbs (depth (placeOf before) - (1 + lev)) (placeOf before)
-  to : climb (depth (placeOf before) - (1 + lev)) (placeOf before) ≡ stood
-  enters : enter stood 4 ≡ deep (inHeader before) lev
-  leads : leadsTo (placeOf before) 4 lev ≡ deep (inHeader before) lev
-  far : farOf before ≡ cond (inHeader before) 2 1
+pub record From (before : List Record) (lev : ℕ) : Type 0 where
+  pub stood : ℕ
+  pub climbs : Climbs (depth (placeOf before) - (1 + lev)) (placeOf before)
+  pub to : climb (depth (placeOf before) - (1 + lev)) (placeOf before) ≡ stood
+  pub enters : enter stood 4 ≡ deep (inHeader before) lev
+  pub leads : leadsTo (placeOf before) 4 lev ≡ deep (inHeader before) lev
+  pub far : farOf before ≡ cond (inHeader before) 2 1
 
 parent-least : (n m : ℕ) (b : Bool) → cond (eqb m n) true (cond (ltb m n) false b) ≡ true → n ≤ m
 parent-least n m b e = go (eqb m n) (ltb m n) refl refl e
@@ -312,7 +312,7 @@ from-param h m (suc n) a b c =
     let y : m - (m - n) ≡ n = omega arith in
     (deep h n, rw z (climbs-to h (m - n) m (omega arith) a .0), rw z (climbs-to h (m - n) m (omega arith) a .1 ∙ ap (deep h) y), enter-next h n b)
 
-from-of : (before : List Record) (lev : ℕ) → Kept before → lev ≤ 7 → holdsParams before ≡ true → inside lev before ≡ true → (farOf before ≡ 3 → ⊥)
+pub from-of : (before : List Record) (lev : ℕ) → Kept before → lev ≤ 7 → holdsParams before ≡ true → inside lev before ≡ true → (farOf before ≡ 3 → ⊥)
     → From before lev
 from-of [] lev k low holds ins far = absurd (holds-none [] 0 refl (λ e. omega arith) (λ e. omega arith) holds)
 from-of (frequency code key ∷ rs) lev k low holds ins far =
@@ -339,7 +339,7 @@ from-of (validation path value ∷ rs) lev k low holds ins far = absurd (far ref
 from-of (set name ∷ rs) lev k low holds ins far = absurd (holds-none (set name ∷ rs) 0x44 refl (λ e. omega arith) (λ e. omega arith) holds)
 from-of (entry key text ∷ rs) lev k low holds ins far = absurd (holds-none rs 0x44 k (λ e. omega arith) (λ e. omega arith) holds)
 
-not-three : (n : ℕ) → not (eqb n 3) ≡ true → n ≡ 3 → ⊥
+pub not-three : (n : ℕ) → not (eqb n 3) ≡ true → n ≡ 3 → ⊥
 not-three n e q =
     let z : not (eqb n 3) ≡ false = rw (eq-eqb n 3 q) in
     let y : _≡_ {A = Bool} true false = sym e ∙ z in
@@ -407,7 +407,7 @@ says-last before kept =
     rw (append-nil (closings (suc (depth (placeOf before))) (placeOf before))) at (says-end (depth (placeOf before)) (placeOf before) (o .climbs) (o .to))
 
 -- the order of a line, and of the lines behind it
-ordered-line : (b : Bool) (m n : ℕ) → cond b m (suc n) ≡ 0 → (b ≡ true) × (m ≡ 0)
+pub ordered-line : (b : Bool) (m n : ℕ) → cond b m (suc n) ≡ 0 → (b ≡ true) × (m ≡ 0)
 ordered-line true m n e = (refl, e)
 ordered-line false m n e = absurd (omega arith)
 

@@ -5,3 +5,4 @@ pub mod Document
 pub mod Lines
 pub mod Body
 pub mod Plain
+pub mod RoundTrip
