@@ -42,7 +42,8 @@ ordered-none (suc (suc (suc (suc far)))) =
 module _ (l : List ℕ) (g : List (List ℕ)) where
   pub ordered-f : letter l ≡ 0x46 → Ordered 0 g → Ordered 0 (l ∷ g)
   ordered-f e o = record {
-    whole = rw e (ap (λ (m : List (List ℕ)). l ∷ m) (lines-assoc (owned g) (blocks 0x46 g) (blocks 0x42 g ++ (blocks 0x48 g ++ blocks 0x44 g)) ∙ o .whole));
+    whole = rw e (ap (λ (m : List (List ℕ)). l ∷ m) (lines-assoc (owned g) (blocks 0x46 g) (blocks 0x42 g ++ (blocks 0x48 g ++ blocks 0x44 g))
+        ∙ o .whole));
     none-f = λ h. absurd (omega arith);
     none-b = λ h. absurd (omega arith);
     none-h = λ h. absurd (omega arith);

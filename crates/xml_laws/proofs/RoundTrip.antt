@@ -30,7 +30,8 @@ use Rattle.xml_document.specs.Document.{letter, owns, picked, owned, blocks, ar
 use Rattle.xml_elements.specs.Elements.{body, opening, xmlOf}
 use Rattle.xml_laws.proofs.Tags.{chunk-of}
 use Rattle.xml_laws.proofs.Document.{Says, one-more}
-use Rattle.xml_laws.proofs.Body.{View, view-of, Step, step-of, placeOf, farOf, inHeader, Kept, front, says-body, set-of, from-of, not-false, not-three, ordered-line}
+use Rattle.xml_laws.proofs.Body.{View, view-of, Step, step-of, placeOf, farOf, inHeader}
+use Rattle.xml_laws.proofs.Body.{Kept, front, says-body, set-of, from-of, not-false, not-three, ordered-line}
 use Rattle.xml_laws.proofs.Plain.{tailOf, Ordered, ordered-none, ordered-f, ordered-b, ordered-h, ordered-d, ordered-p, ordered-v, ordered-e}
 
 -- ---- the lines of a text in plain form
@@ -51,7 +52,8 @@ two-or-one : (b : Bool) → (1 ≤ cond b 2 1) × (cond b 2 1 ≤ 2)
 two-or-one true = (omega arith, omega arith)
 two-or-one false = (omega arith, omega arith)
 
-ordered-step : (before : List Record) (r : Record) (l : List ℕ) (g : List (List ℕ)) → Kept before → View (fields l) r → over before r ≡ false → lost before r ≡ false
+ordered-step : (before : List Record) (r : Record) (l : List ℕ) (g : List (List ℕ)) → Kept before → View (fields l) r → over before r ≡ false
+    → lost before r ≡ false
     → stands (farOf before) (kindOf (fields l)) ≡ true → Ordered (farOf (r ∷ before)) g → Ordered (farOf before) (l ∷ g)
 ordered-step before (frequency code key) l g kept v o s t h =
     let z : farOf before ≡ 0 = eqb-true (farOf before) 0 (rw (v .0) at t) in
@@ -64,11 +66,12 @@ ordered-step before (param p) l g kept v o s t h =
     let low : p .level ≤ 7 = ltb-false 7 (p .level) (or-left (ltb 7 (p .level)) _ o) in
     let holds : holdsParams before ≡ true = not-false (holdsParams before) (or-left (not (holdsParams before)) _ s) in
     let ins : inside (p .level) before ≡ true =
-        not-false (inside (p .level) before) (or-left (not (inside (p .level) before)) _ (or-right (not (holdsParams before)) _ s)) in
+    not-false (inside (p .level) before) (or-left (not (inside (p .level) before)) _ (or-right (not (holdsParams before)) _ s)) in
     let f : farOf before ≡ cond (inHeader before) 2 1 =
-        from-of before (p .level) kept low holds ins (not-three (farOf before) (rw (v .0) at t)) .far in
+    from-of before (p .level) kept low holds ins (not-three (farOf before) (rw (v .0) at t)) .far in
     rw f
-    (ordered-p l g (letter-of l 0x50 (v .0) (λ e. omega arith)) (cond (inHeader before) 2 1) (two-or-one (inHeader before) .0) (two-or-one (inHeader before) .1) h)
+    (ordered-p l g (letter-of l 0x50 (v .0) (λ e. omega arith)) (cond (inHeader before) 2 1) (two-or-one (inHeader before) .0)
+    (two-or-one (inHeader before) .1) h)
 ordered-step before (validation path value) l g kept v o s t h =
     let own : owner before ≡ 0x48 = eqb-true (owner before) 0x48 (not-false (eqb (owner before) 0x48) s) in
     let f : (2 ≤ farOf before) × (farOf before ≤ 3) = header-far before kept own in
@@ -78,15 +81,16 @@ ordered-step before (entry key text) l g kept v o s t h =
     let own : owner before ≡ 0x44 = eqb-true (owner before) 0x44 (not-false (eqb (owner before) 0x44) s) in
     rw (set-of before kept own .1) (ordered-e l g (letter-of l 0x45 (v .0) (λ e. omega arith)) h)
 
-ordered-lines : (before : List Record) (n m : ℕ) (ls : List (List ℕ)) → Kept before → judge rules before n ls ≡ Accepted → misplaced (farOf before) (suc m) ls ≡ 0
+ordered-lines : (before : List Record) (n m : ℕ) (ls : List (List ℕ)) → Kept before → judge rules before n ls ≡ Accepted
+    → misplaced (farOf before) (suc m) ls ≡ 0
     → Ordered (farOf before) (front ls)
 ordered-lines before n m [] kept good ordered = ordered-none (farOf before)
 ordered-lines before n m (l ∷ []) kept good ordered = ordered-none (farOf before)
 ordered-lines before n m (l ∷ k ∷ ks) kept good ordered =
     let a = accepted-line rules before n (form (fields l)) _ good in
     let o : (stands (farOf before) (kindOf (fields l)) ≡ true)
-        × (misplaced (farther (farOf before) (kindOf (fields l))) (suc (suc m)) (k ∷ ks) ≡ 0) =
-        ordered-line (stands (farOf before) (kindOf (fields l))) (misplaced (farther (farOf before) (kindOf (fields l))) (suc (suc m)) (k ∷ ks)) m ordered in
+    × (misplaced (farther (farOf before) (kindOf (fields l))) (suc (suc m)) (k ∷ ks) ≡ 0) =
+    ordered-line (stands (farOf before) (kindOf (fields l))) (misplaced (farther (farOf before) (kindOf (fields l))) (suc (suc m)) (k ∷ ks)) m ordered in
     let v : View (fields l) (a .said) = view-of (fields l) (a .said) (a .is) in
     let s : Step before (a .said) (fields l) l = step-of before kept (fields l) l (joined-split 0x09 l) (a .said) v (a .within) (a .owned) (o .0) in
     ordered-step before (a .said) l (front (k ∷ ks)) kept v (a .within) (a .owned) (o .0)
@@ -124,11 +128,14 @@ lines-ended before n (l ∷ k ∷ ks) good =
 -- ---- the document
 -- `<?xml version="1.0" encoding="utf-8"?` and `<FrameDefinition`
 abbrev declaration : List ℕ
-declaration = 0x3c ∷ 0x3f ∷ 0x78 ∷ 0x6d ∷ 0x6c ∷ 0x20 ∷ 0x76 ∷ 0x65 ∷ 0x72 ∷ 0x73 ∷ 0x69 ∷ 0x6f ∷ 0x6e ∷ 0x3d ∷ 0x22 ∷ 0x31 ∷ 0x2e ∷ 0x30 ∷ 0x22
-    ∷ 0x20 ∷ 0x65 ∷ 0x6e ∷ 0x63 ∷ 0x6f ∷ 0x64 ∷ 0x69 ∷ 0x6e ∷ 0x67 ∷ 0x3d ∷ 0x22 ∷ 0x75 ∷ 0x74 ∷ 0x66 ∷ 0x2d ∷ 0x38 ∷ 0x22 ∷ 0x3f ∷ []
+declaration = 0x3c ∷ 0x3f ∷ 0x78 ∷ 0x6d ∷ 0x6c ∷ 0x20 ∷ 0x76 ∷ 0x65 ∷ 0x72 ∷ 0x73 ∷ 0x69 ∷ 0x6f ∷ 0x6e ∷ 0x3d ∷ 0x22
+    ∷ 0x31 ∷ 0x2e ∷ 0x30 ∷ 0x22
+    ∷ 0x20 ∷ 0x65 ∷ 0x6e ∷ 0x63 ∷ 0x6f ∷ 0x64 ∷ 0x69 ∷ 0x6e ∷ 0x67 ∷ 0x3d ∷ 0x22 ∷ 0x75 ∷ 0x74 ∷ 0x66 ∷ 0x2d ∷ 0x38
+    ∷ 0x22 ∷ 0x3f ∷ []
 
 abbrev rootTag : List ℕ
-rootTag = 0x0a ∷ 0x3c ∷ 0x46 ∷ 0x72 ∷ 0x61 ∷ 0x6d ∷ 0x65 ∷ 0x44 ∷ 0x65 ∷ 0x66 ∷ 0x69 ∷ 0x6e ∷ 0x69 ∷ 0x74 ∷ 0x69 ∷ 0x6f ∷ 0x6e ∷ []
+rootTag = 0x0a ∷ 0x3c ∷ 0x46 ∷ 0x72 ∷ 0x61 ∷ 0x6d ∷ 0x65 ∷ 0x44 ∷ 0x65 ∷ 0x66 ∷ 0x69 ∷ 0x6e ∷ 0x69 ∷ 0x74 ∷ 0x69 ∷ 0x6f
+    ∷ 0x6e ∷ []
 
 root-tag : tagOf rootTag ≡ Open 0
 unfolding elements table
