@@ -6,7 +6,7 @@ use Prim.Native.Nat.{ℕ, zero, suc, _+_, _%_}
 use native.Mathlib.Omega.{arith}
 use lib.Dec.{eqb, ltb}
 use lib.ListN.{length, getD, drop}
-use borrow.Author.Tests.{eqb-true, ne-eqb}
+use borrow.Author.Tests.{eqb-true, ne-eqb, not-true}
 use Rattle.laws.proofs.Bools.{and-left, and-right}
 use Rattle.text.specs.Text.{lines, fields, without, same}
 use Rattle.text.specs.Place.{kindOf}
@@ -138,17 +138,13 @@ level-tabbed k e rest h = by (eqb k 4)
     by true = refl
     by false = h
 
-not-not : (b : Bool) → not b ≡ true → b ≡ false
-not-not true e = absurd (let z : _≡_ {A = ℕ} 0 1 = cc in omega arith)
-not-not false e = refl
-
 kind-is : (x : ℕ) (rest : List ℕ) → eqb x 9 ≡ false → isTabbed rest ≡ true → kindOf (fields (x ∷ rest)) ≡ x
 kind-is x [] n t = rw n
 kind-is x (y ∷ ys) n t = rw (n, t)
 
 lettered : (k e : ℕ) (ps : List (List ℕ)) → kindOf (fields (lineOf k e ps)) ≡ letterOf k
 lettered k e ps =
-    kind-is (letterOf k) (level k e ++ fieldsOf (entriesOf k) ps) (not-not (eqb (letterOf k) 9) (letter-field k))
+    kind-is (letterOf k) (level k e ++ fieldsOf (entriesOf k) ps) (not-true (eqb (letterOf k) 9) (letter-field k))
     (level-tabbed k e (fieldsOf (entriesOf k) ps) (fields-tabbed (entriesOf k) ps (and-left (begins (entriesOf k)) _ (tabbed k))))
 
 -- ---- a line
@@ -259,7 +255,7 @@ module _ (X : List ℕ → Type 0) where
 lines-append : (l rest : List ℕ) → whole-line l ≡ true → lines (l ++ 0x0a ∷ rest) ≡ l ∷ lines rest
 lines-append [] rest e = refl
 lines-append (x ∷ xs) rest e =
-    rw (not-not (eqb x 10) (and-left (not (eqb x 10)) (without 10 xs) e), lines-append xs rest (and-right (not (eqb x 10)) (without 10 xs) e))
+    rw (not-true (eqb x 10) (and-left (not (eqb x 10)) (without 10 xs) e), lines-append xs rest (and-right (not (eqb x 10)) (without 10 xs) e))
 
 lines-ended : (ls : List (List ℕ)) → Every Line ls → lines (ended ls) ≡ ls ++ ([] ∷ [])
 lines-ended [] p = refl
