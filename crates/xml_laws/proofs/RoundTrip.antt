@@ -1,4 +1,5 @@
--- X15 (docs/RULES.md): a text that is accepted and in plain form, to XML and back, is the same bytes; and its XML has no fault. Assumes nothing.
+-- X15 (docs/RULES.md): a text that is accepted and in plain form, to XML and back, is the same bytes; what XML says, to text and back, is the same text.
+-- Assumes nothing.
 use mathlib.Core.Path.{_≡_, refl, sym, ap, _∙_}
 use mathlib.Core.Bool.{Bool, true, false, cond, not, _&&_, _||_}
 use mathlib.Core.List.{List, [], _∷_, _++_}
@@ -27,6 +28,7 @@ use Rattle.xml_tags.specs.declared.Fault.the-variants.{Fine, At}
 use Rattle.xml_tags.proofs.Chunks.{chunks-some}
 use Rattle.xml_document.specs.Document as document
 use Rattle.xml_document.specs.Document.{letter, owns, picked, owned, blocks, arranged, ended, textOf, itemsOf, start, declared, isDeclaration}
+use Rattle.xml_plain.proofs.Plain.{text-plain}
 use Rattle.xml_elements.specs.Elements.{body, opening, xmlOf}
 use Rattle.xml_laws.proofs.Tags.{chunk-of}
 use Rattle.xml_laws.proofs.Document.{Says, one-more}
@@ -189,3 +191,11 @@ module _ (t : List ℕ) where
         ∙ ap ended (lines-arranged 1 (lines t) judged ordered)
         ∙ lines-ended [] 1 (lines t) judged
         ∙ joined-split 0x0a t
+
+-- X15: XML that is read and whose text is accepted, to text and to XML again, says the same text, and has no fault
+module _ (x : List ℕ) (fine : document.verdict x ≡ Fine) (good : verdict (textOf x) ≡ Accepted) where
+  pub xml-text-xml : textOf (xmlOf (textOf x)) ≡ textOf x
+  xml-text-xml = text-xml-text (textOf x) good (text-plain x fine)
+
+  pub again-fine : document.verdict (xmlOf (textOf x)) ≡ Fine
+  again-fine = xml-fine (textOf x) good (text-plain x fine)
