@@ -7,7 +7,7 @@ use native.Mathlib.Omega.{arith}
 use lib.Dec.{eqb, ltb}
 use borrow.Author.Tests.{eqb-true}
 use lib.ListN.{length, getD, drop, length-append, length-drop}
-use Rattle.text.specs.Text.{onto, split}
+use Rattle.text.specs.Text.{split}
 use Rattle.text.specs.Print.{joined}
 use Rattle.text.proofs.Printing.{joined-split}
 use Rattle.xml_schema.specs.Schema.{count, elementOf, entriesOf, formIn, nowhere, before, behind}
@@ -20,7 +20,7 @@ use Rattle.xml_tags.specs.declared.Tag.the-variants.{Bad, Shut, Open}
 use Rattle.xml_tags.specs.declared.Fault.{Fault}
 use Rattle.xml_tags.specs.declared.Fault.the-variants.{Fine, At}
 use Rattle.xml_tags.proofs.Chunks.{chunks-some}
-use Rattle.xml_document.specs.Document.{moved, faultAt, lastFault, judge, isDeclaration, declared, start, verdict}
+use Rattle.xml_document.specs.Document.{moved, faultAt, judge, isDeclaration, declared, start, verdict}
 
 -- ---- a place that is inside stays inside
 more : (m n : ℕ) (f : Fault) → m ≤ n → UpTo m f → UpTo n f
@@ -34,7 +34,8 @@ within m n (Open k) h u = tt
 
 -- pieces that are joined by a byte
 two-long : (b : ℕ) (p q : List ℕ) (ps : List (List ℕ)) → length (joined b (p ∷ q ∷ ps)) ≡ length p + 1 + length (joined b (q ∷ ps))
-two-long b p q ps = let e : length (p ++ b ∷ joined b (q ∷ ps)) ≡ length p + length (b ∷ joined b (q ∷ ps)) = length-append p (b ∷ joined b (q ∷ ps)) in omega arith
+two-long b p q ps = let e : length (p ++ b ∷ joined b (q ∷ ps))
+    ≡ length p + length (b ∷ joined b (q ∷ ps)) = length-append p (b ∷ joined b (q ∷ ps)) in omega arith
 
 -- ---- among attributes
 fault-inside : (es : List (List ℕ)) (place : ℕ) (ps : List (List ℕ)) → UpTo (place + length (joined 34 ps)) (fault es place ps)
@@ -52,7 +53,8 @@ fault-inside es place (p ∷ v ∷ q ∷ ps) =
     long = two-long 34 p v (q ∷ ps) ∙ ap (λ n. length p + 1 + n) (two-long 34 v q ps)
 
     by : (a b : Bool) → UpTo (place + length p + length v + 2 + length (joined 34 (q ∷ ps))) (fault es (place + length p + length v + 2) (q ∷ ps))
-        → UpTo (place + length (joined 34 (p ∷ v ∷ q ∷ ps))) (cond a (cond b (fault es (place + length p + length v + 2) (q ∷ ps)) (At (place + length p + 1))) (At place))
+        → UpTo (place + length (joined 34 (p ∷ v ∷ q ∷ ps)))
+        (cond a (cond b (fault es (place + length p + length v + 2) (q ∷ ps)) (At (place + length p + 1))) (At place))
     by true true u =
         more (place + length p + length v + 2 + length (joined 34 (q ∷ ps))) (place + length (joined 34 (p ∷ v ∷ q ∷ ps)))
         (fault es (place + length p + length v + 2) (q ∷ ps)) (omega (arith, long)) u
@@ -99,7 +101,8 @@ opened-inside place l = by (ltb (elementOf (word l)) count)
         → Inside (place + 1 + length l)
         (cond b (judged (elementOf (word l)) (entriesOf (elementOf (word l))) place (place + 1 + wordLen l) (split 34 (after l))) (Bad place))
     by true =
-        judged-inside (elementOf (word l)) (entriesOf (elementOf (word l))) place (place + 1 + wordLen l) (split 34 (after l)) (place + 1 + length l) (omega arith)
+        judged-inside (elementOf (word l)) (entriesOf (elementOf (word l))) place (place + 1 + wordLen l) (split 34 (after l)) (place + 1 + length l)
+        (omega arith)
         found
     by false = omega arith
 
@@ -124,7 +127,8 @@ tag-inside c =
     within (lead c + length (skip c)) (length c) (tagOf c) (omega (arith, lead-inside c, length-drop (lead c) c)) (from-inside (lead c) (skip c))
 
 -- ---- in a document
-placed-joined : (b : Bool) (x : ℕ) (ps : List (List ℕ)) → 1 ≤ length ps → (b ≡ true → x ≡ 62) → joined 62 (placed b x ps) ≡ x ∷ joined 62 ps
+placed-joined : (b : Bool) (x : ℕ) (ps : List (List ℕ)) → 1 ≤ length ps → (b ≡ true → x ≡ 62)
+    → joined 62 (placed b x ps) ≡ x ∷ joined 62 ps
 placed-joined b x [] h q = absurd (omega arith)
 placed-joined true x (p ∷ ps) h q = ap (λ y. y ∷ joined 62 (p ∷ ps)) (sym (q refl))
 placed-joined false x (p ∷ []) h q = refl
@@ -175,6 +179,7 @@ declared-inside (c ∷ e ∷ cs) = by (isDeclaration c)
 pub place-inside : (x : List ℕ) → UpTo (length x) (verdict x)
 place-inside x =
     let s : start x ≤ length x = rw (chunks-joined false x) at (declared-inside (chunks false x)) in
-    let l : length (joined 62 (chunks false (drop (start x) x))) ≡ length x - start x = ap length (chunks-joined false (drop (start x) x)) ∙ length-drop (start x) x in
+    let l : length (joined 62 (chunks false (drop (start x) x))) ≡ length x - start x = ap length (chunks-joined false (drop (start x) x))
+    ∙ length-drop (start x) x in
     more (start x + length (joined 62 (chunks false (drop (start x) x)))) (length x) (verdict x) (omega arith)
     (judge-inside before (start x) (chunks false (drop (start x) x)))

@@ -18,7 +18,8 @@ use Rattle.xml_tags.specs.declared.Fault.{Fault}
 use Rattle.xml_tags.specs.declared.Fault.the-variants.{Fine, At}
 use Rattle.xml_spelling.specs.Spelling.{escaped, hexed, flagged}
 use Rattle.xml_attributes.specs.Attributes.{valueFor, isAbsent, label, attribute, written, fieldAfter, digitAfter, attributes}
-use Rattle.xml_laws.proofs.Values.{undo-escaped, quotes-escaped, loose-escaped, words-escaped, decimal-says, decimal-valid, hex-valid, hex-says, quotes-hexed}
+use Rattle.xml_laws.proofs.Values.{undo-escaped, quotes-escaped, loose-escaped, words-escaped}
+use Rattle.xml_laws.proofs.Values.{decimal-says, decimal-valid, hex-valid, hex-says, quotes-hexed}
 use Rattle.xml_laws.proofs.Values.{isBit, flag-says, flag-valid, quotes-flagged, given-escaped}
 
 -- ---- what a field must be for its attribute, by the form
@@ -99,7 +100,8 @@ module _ (fs : List (List ℕ)) (k j : ℕ) where
       go (isDropped f) (eqb f words) (eqb f optionalWords) (eqb f number) (eqb f optionalNumber) (eqb f hexNumber) (eqb f flag) (eqb f furtherFlag)
       refl refl refl refl refl refl refl refl fits
     where
-      go : (a b c d e g h i : Bool) → isDropped f ≡ a → eqb f words ≡ b → eqb f optionalWords ≡ c → eqb f number ≡ d → eqb f optionalNumber ≡ e
+      go : (a b c d e g h i : Bool) → isDropped f ≡ a → eqb f words ≡ b → eqb f optionalWords ≡ c → eqb f number ≡ d
+          → eqb f optionalNumber ≡ e
           → eqb f hexNumber ≡ g → eqb f flag ≡ h → eqb f furtherFlag ≡ i
           → cond a true
           (cond b (within 0x20 0xff (field k fs))
@@ -216,13 +218,16 @@ pub append-assoc : (a b c : List ℕ) → (a ++ b) ++ c ≡ a ++ (b ++ c)
 append-assoc [] b c = refl
 append-assoc (x ∷ xs) b c = ap (λ (l : List ℕ). x ∷ l) (append-assoc xs b c)
 
-attribute-pieces : (n v rest : List ℕ) → letters n ≡ true → without 0x22 v ≡ true → split 0x22 (attribute n v ++ rest) ≡ labelled n ∷ v ∷ split 0x22 rest
+attribute-pieces : (n v rest : List ℕ) → letters n ≡ true → without 0x22 v ≡ true
+    → split 0x22 (attribute n v ++ rest) ≡ labelled n ∷ v ∷ split 0x22 rest
 attribute-pieces n v rest l q =
     let shape : attribute n v ++ rest ≡ labelled n ++ 0x22 ∷ (v ++ 0x22 ∷ rest) =
-        append-assoc (label n) (v ++ (0x22 ∷ [])) rest ∙ rw (append-assoc v (0x22 ∷ []) rest)
-        (ap (λ (l : List ℕ). 0x20 ∷ l) (append-assoc n (0x3d ∷ 0x22 ∷ []) (v ++ 0x22 ∷ rest) ∙ sym (append-assoc n (0x3d ∷ []) (0x22 ∷ (v ++ 0x22 ∷ rest))))) in
+    append-assoc (label n) (v ++ (0x22 ∷ [])) rest ∙ rw (append-assoc v (0x22 ∷ []) rest)
+    (ap (λ (l : List ℕ). 0x20 ∷ l) (append-assoc n (0x3d ∷ 0x22 ∷ []) (v ++ 0x22 ∷ rest) ∙ sym
+    (append-assoc n (0x3d ∷ []) (0x22 ∷ (v ++ 0x22 ∷ rest))))) in
     let quiet : without 0x22 (labelled n) ≡ true = without-both 0x22 n (0x3d ∷ []) (letter-unquoted n l) refl in
-    ap (split 0x22) shape ∙ split-append 0x22 (labelled n) (v ++ 0x22 ∷ rest) quiet ∙ ap (λ (ps : List (List ℕ)). labelled n ∷ ps) (split-append 0x22 v rest q)
+    ap (split 0x22) shape ∙ split-append 0x22 (labelled n) (v ++ 0x22 ∷ rest) quiet ∙ ap (λ (ps : List (List ℕ)). labelled n ∷ ps)
+    (split-append 0x22 v rest q)
 
 module _ (fs : List (List ℕ)) (end : List ℕ) where
   abbrev pub pieces : List (List ℕ) → ℕ → ℕ → List (List ℕ)
@@ -323,8 +328,8 @@ module _ (fs : List (List ℕ)) (end : List ℕ) where
       go true q ih = ih
       go false q ih =
           let r : Reads (formOf e) fs k j =
-              reads-form fs k j (formOf e)
-              (and-left (fitsAt (formOf e) fs k j) (fitting fs es (fieldAfter (formOf e) k) (digitAfter (formOf e) j)) f) q in
+          reads-form fs k j (formOf e)
+          (and-left (fitsAt (formOf e) fs k j) (fitting fs es (fieldAfter (formOf e) k) (digitAfter (formOf e) j)) f) q in
           ap (split 0x22) (append-assoc (attribute (nameOf e) (valueFor (formOf e) fs k j)) more end)
           ∙ attribute-pieces (nameOf e) (valueFor (formOf e) fs k j) (more ++ end) (sound-name e es s) (r .quiet)
           ∙ ap (λ (ps : List (List ℕ)). labelled (nameOf e) ∷ valueFor (formOf e) fs k j ∷ ps) ih
@@ -354,10 +359,12 @@ agreeing all (e ∷ es) = eqb (formIn all (nameOf e)) (formOf e) && agreeing all
 
 module _ (fs : List (List ℕ)) (end : List ℕ) (all : List (List ℕ)) where
   -- no fault is among them
-  pub fault-none : (es : List (List ℕ)) (k j place : ℕ) → sound es ≡ true → fitting fs es k j ≡ true → agreeing all es ≡ true → isEnd end ≡ true
+  pub fault-none : (es : List (List ℕ)) (k j place : ℕ) → sound es ≡ true → fitting fs es k j ≡ true → agreeing all es ≡ true
+      → isEnd end ≡ true
       → fault all place (pieces fs end es k j) ≡ Fine
   fault-none [] k j place s f a d = rw d
-  fault-none (e ∷ es) k j place s f a d = go (isAbsent (formOf e) fs k) refl (λ (p : ℕ). fault-none es (fieldAfter (formOf e) k) (digitAfter (formOf e) j) p
+  fault-none (e ∷ es) k j place s f a d = go (isAbsent (formOf e) fs k) refl
+      (λ (p : ℕ). fault-none es (fieldAfter (formOf e) k) (digitAfter (formOf e) j) p
       (sound-rest e es s) (and-right (fitsAt (formOf e) fs k j) (fitting fs es (fieldAfter (formOf e) k) (digitAfter (formOf e) j)) f)
       (and-right (eqb (formIn all (nameOf e)) (formOf e)) (agreeing all es) a) d)
     where
@@ -369,13 +376,13 @@ module _ (fs : List (List ℕ)) (end : List ℕ) (all : List (List ℕ)) where
       go true q ih = ih place
       go false q ih =
           let r : Reads (formOf e) fs k j =
-              reads-form fs k j (formOf e)
-              (and-left (fitsAt (formOf e) fs k j) (fitting fs es (fieldAfter (formOf e) k) (digitAfter (formOf e) j)) f) q in
+          reads-form fs k j (formOf e)
+          (and-left (fitsAt (formOf e) fs k j) (fitting fs es (fieldAfter (formOf e) k) (digitAfter (formOf e) j)) f) q in
           let is : formIn all (nameOf e) ≡ formOf e =
-              eqb-true (formIn all (nameOf e)) (formOf e) (and-left (eqb (formIn all (nameOf e)) (formOf e)) (agreeing all es) a) in
+          eqb-true (formIn all (nameOf e)) (formOf e) (and-left (eqb (formIn all (nameOf e)) (formOf e)) (agreeing all es) a) in
           let name : nameIn (labelled (nameOf e)) ≡ nameOf e = name-label (nameOf e) (sound-name e es s) in
           let once : has (nameOf e) (pieces fs end es (fieldAfter (formOf e) k) (digitAfter (formOf e) j)) ≡ false =
-              none-has fs end es (fieldAfter (formOf e) k) (digitAfter (formOf e) j) (nameOf e) (sound-rest e es s) (sound-new e es s) in
+          none-has fs end es (fieldAfter (formOf e) k) (digitAfter (formOf e) j) (nameOf e) (sound-rest e es s) (sound-new e es s) in
           fault-more all place (labelled (nameOf e)) (valueFor (formOf e) fs k j) (pieces fs end es (fieldAfter (formOf e) k) (digitAfter (formOf e) j))
           (pieces-some fs end es (fieldAfter (formOf e) k) (digitAfter (formOf e) j))
           ∙ rw (is-label (nameOf e) (sound-name e es s), name, is, sound-form e es s, once, r .good)
@@ -390,7 +397,8 @@ module _ (fs : List (List ℕ)) (end : List ℕ) where
   pub alike-start : (es : List (List ℕ)) (k j : ℕ) → Alike fs end (pieces fs end es k j) es k j
   alike-start es k j = record { there = λ n h. refl; value = λ n h. refl }
 
-  module _ (ps : List (List ℕ)) (e : List ℕ) (es : List (List ℕ)) (k j : ℕ) (alike : Alike fs end ps (e ∷ es) k j) (s : sound (e ∷ es) ≡ true) where
+  module _ (ps : List (List ℕ)) (e : List ℕ) (es : List (List ℕ)) (k j : ℕ) (alike : Alike fs end ps (e ∷ es) k j)
+      (s : sound (e ∷ es) ≡ true) where
     abbrev rest : List (List ℕ)
     rest = pieces fs end es (fieldAfter (formOf e) k) (digitAfter (formOf e) j)
 
@@ -479,7 +487,8 @@ lineFrom fs [] k j = []
 lineFrom fs (e ∷ es) k j = partAt (formOf e) fs k j ++ lineFrom fs es (fieldAfter (formOf e) k) (digitAfter (formOf e) j)
 
 module _ (fs : List (List ℕ)) (end : List ℕ) where
-  part-is : (f : ℕ) (n : List ℕ) (ps : List (List ℕ)) (k j : ℕ) → (isDropped f ≡ false → told f n ps ≡ saidAt f fs k j) → part f n ps ≡ partAt f fs k j
+  part-is : (f : ℕ) (n : List ℕ) (ps : List (List ℕ)) (k j : ℕ) → (isDropped f ≡ false → told f n ps ≡ saidAt f fs k j)
+      → part f n ps ≡ partAt f fs k j
   part-is f n ps k j h = go (isDropped f) refl
     where
       go : (t : Bool) → isDropped f ≡ t → cond t [] (cond (eqb f furtherFlag) (told f n ps) (0x09 ∷ told f n ps))
@@ -487,19 +496,20 @@ module _ (fs : List (List ℕ)) (end : List ℕ) where
       go true q = refl
       go false q = rw (h q)
 
-  pub fields-are : (ps es : List (List ℕ)) (k j : ℕ) → Alike fs end ps es k j → sound es ≡ true → fitting fs es k j ≡ true → fieldsOf es ps ≡ lineFrom fs es k j
+  pub fields-are : (ps es : List (List ℕ)) (k j : ℕ) → Alike fs end ps es k j → sound es ≡ true → fitting fs es k j ≡ true
+      → fieldsOf es ps ≡ lineFrom fs es k j
   fields-are ps [] k j alike s f = refl
   fields-are ps (e ∷ es) k j alike s f =
       let here : part (formOf e) (nameOf e) ps ≡ partAt (formOf e) fs k j = part-is (formOf e) (nameOf e) ps k j (go (isAbsent (formOf e) fs k) refl) in
       let on : fieldsOf es ps ≡ lineFrom fs es (fieldAfter (formOf e) k) (digitAfter (formOf e) j) =
-          fields-are ps es (fieldAfter (formOf e) k) (digitAfter (formOf e) j) (alike-next fs end ps e es k j alike s) (sound-rest e es s)
-          (and-right (fitsAt (formOf e) fs k j) (fitting fs es (fieldAfter (formOf e) k) (digitAfter (formOf e) j)) f) in
+      fields-are ps es (fieldAfter (formOf e) k) (digitAfter (formOf e) j) (alike-next fs end ps e es k j alike s) (sound-rest e es s)
+      (and-right (fitsAt (formOf e) fs k j) (fitting fs es (fieldAfter (formOf e) k) (digitAfter (formOf e) j)) f) in
       rw (here, on)
     where
       go : (t : Bool) → isAbsent (formOf e) fs k ≡ t → isDropped (formOf e) ≡ false → told (formOf e) (nameOf e) ps ≡ saidAt (formOf e) fs k j
       go true q n = rw (own-not fs end ps e es k j alike s q) (absent-says fs k j (formOf e) q)
       go false q n =
           let r : Reads (formOf e) fs k j =
-              reads-form fs k j (formOf e)
-              (and-left (fitsAt (formOf e) fs k j) (fitting fs es (fieldAfter (formOf e) k) (digitAfter (formOf e) j)) f) q in
+          reads-form fs k j (formOf e)
+          (and-left (fitsAt (formOf e) fs k j) (fitting fs es (fieldAfter (formOf e) k) (digitAfter (formOf e) j)) f) q in
           rw (own-has fs end ps e es k j alike s q, own-value fs end ps e es k j alike s q) (r .tells n)

@@ -27,12 +27,14 @@ use Rattle.xml_schema.specs.Schema.{table, entriesOf, hasLine, letterOf}
 use Rattle.xml_document.specs.Document as document
 use Rattle.xml_document.specs.Document.{enter, leave, level}
 use Rattle.xml_attributes.specs.Attributes.{attributes}
-use Rattle.xml_elements.specs.Elements.{nameFor, blanks, head, depth, innermost, up, shut, closings, elementFor, levelIn, standsIn, isAlone, ending, firstField}
+use Rattle.xml_elements.specs.Elements.{nameFor, blanks, head, depth, innermost, up, shut}
+use Rattle.xml_elements.specs.Elements.{closings, elementFor, levelIn, standsIn, isAlone, ending, firstField}
 use Rattle.xml_elements.specs.Elements.{restFor, tagFor, leadsTo, element, kindFor, body}
 use Rattle.xml_laws.proofs.Attributes.{fitting, lineFrom, append-assoc}
 use Rattle.xml_laws.proofs.Tags.{Element, element-is}
 use Rattle.xml_laws.proofs.Lines.{Fitted, fitted-f, fitted-b, fitted-h, fitted-p, fitted-v, fitted-d, fitted-e}
-use Rattle.xml_laws.proofs.Document.{Says, climb, Climbs, says-closings, says-shut, says-start, deep, inside-owner, inside-set, climbs-to, climbs-out, climbs-root}
+use Rattle.xml_laws.proofs.Document.{Says, climb, Climbs, says-closings, says-shut, says-start}
+use Rattle.xml_laws.proofs.Document.{deep, inside-owner, inside-set, climbs-to, climbs-out, climbs-root}
 use Rattle.xml_laws.proofs.Document.{owner as home, depth-deep, enter-first, enter-next, leads-first, leads-next, level-deep}
 
 append-nil : (l : List ℕ) → l ++ [] ≡ l
@@ -53,7 +55,8 @@ said-view : (fs : List (List ℕ)) (r s : Record) (b : Bool) → (b ≡ true →
 said-view fs r s true f e = let q : s ≡ r = cc in rw (← q) (f refl)
 said-view fs r s false f e = absurd (let z : _≡_ {A = ℕ} 0 1 = cc in omega arith)
 
-param-view : (fs : List (List ℕ)) (r : Record) → kindOf fs ≡ 0x50 → (b : Bool) → paramForm fs ≡ b → (t : Typed) → said b (ofType fs t) ≡ some r → View fs r
+param-view : (fs : List (List ℕ)) (r : Record) → kindOf fs ≡ 0x50 → (b : Bool) → paramForm fs ≡ b → (t : Typed)
+    → said b (ofType fs t) ≡ some r → View fs r
 param-view fs r k true q (Is type) e = said-view fs r _ true (λ w. (k, q, refl)) e
 param-view fs r k true q Not e = absurd (let z : _≡_ {A = ℕ} 0 1 = cc in omega arith)
 param-view fs r k false q t e = absurd (let z : _≡_ {A = ℕ} 0 1 = cc in omega arith)
@@ -79,7 +82,8 @@ view-of fs r e =
         absurd (let y : _≡_ {A = Option Record} none (some r) = rw (p, q, s, t, u, v, w) at e in let z : _≡_ {A = ℕ} 0 1 = cc in omega arith)
 
 -- ---- a line, from the place d
-says-element : (d d′ e k n lev : ℕ) (fs : List (List ℕ)) (l rest : List ℕ) (ls : List (List ℕ)) → Element k → fitting fs (entriesOf k) (firstField k) 1 ≡ true
+says-element : (d d′ e k n lev : ℕ) (fs : List (List ℕ)) (l rest : List ℕ) (ls : List (List ℕ)) → Element k
+    → fitting fs (entriesOf k) (firstField k) 1 ≡ true
     → lev ≡ levelIn k fs → n ≡ depth d - standsIn k lev → Climbs n d → climb n d ≡ d′
     → cond (isAlone k) (leave (enter d′ k) k) (enter d′ k) ≡ e → (e ≡ 15 → ⊥) → hasLine k ≡ true
     → letterOf k ∷ (level k (enter d′ k) ++ lineFrom fs (entriesOf k) (firstField k) 1) ≡ l → Says e (0x0a ∷ rest) ls
@@ -89,7 +93,7 @@ says-element d d′ e k n lev fs l rest ls el fits is count climbs to m s has li
     (says-closings n d (tagFor k lev fs ++ rest) (l ∷ ls) climbs (rw to (says-start k (standsIn k lev) fs el fits d′ e l rest ls m s has line after)))
 
 -- ---- where the records before leave us
-abbrev inHeader : List Record → Bool
+abbrev pub inHeader : List Record → Bool
 inHeader rs = eqb (owner rs) 0x48
 
 abbrev pub placeOf : List Record → ℕ
@@ -163,7 +167,7 @@ holds-none rs n o a b h =
     let w : _≡_ {A = ℕ} 0 1 = cc in omega arith
 
 -- in a DefineSet we are in it
-set-of : (before : List Record) → Kept before → owner before ≡ 0x44 → (placeOf before ≡ 6) × (farOf before ≡ 4)
+pub set-of : (before : List Record) → Kept before → owner before ≡ 0x44 → (placeOf before ≡ 6) × (farOf before ≡ 4)
 set-of [] k o = absurd (omega arith)
 set-of (frequency code key ∷ rs) k o = absurd (omega arith)
 set-of (base key ∷ rs) k o = absurd (omega arith)
@@ -181,7 +185,7 @@ pub record Step (before : List Record) (r : Record) (fs : List (List ℕ)) (l : 
   pub kept : Kept (r ∷ before)
   pub far : farther (farOf before) (kindOf fs) ≡ farOf (r ∷ before)
 
-not-false : (b : Bool) → not b ≡ false → b ≡ true
+pub not-false : (b : Bool) → not b ≡ false → b ≡ true
 not-false true e = refl
 not-false false e = absurd (let z : _≡_ {A = ℕ} 0 1 = cc in omega arith)
 
@@ -200,7 +204,8 @@ module _ (before : List Record) (kept : Kept before) (fs : List (List ℕ)) (l :
       record {
         on = λ rest ls s.
             rw (v .0)
-            (says-element d 0 0 1 (depth d) 0 fs l rest ls (element-is 1 (omega arith)) (f .fits) refl (root-away refl) (o .climbs) (o .to) refl (λ e. omega arith) refl
+            (says-element d 0 0 1 (depth d) 0 fs l rest ls (element-is 1 (omega arith)) (f .fits) refl (root-away refl) (o .climbs) (o .to) refl
+            (λ e. omega arith) refl
             (f .line ∙ whole) s);
         leads = rw (v .0);
         kept = tt;
@@ -215,7 +220,8 @@ module _ (before : List Record) (kept : Kept before) (fs : List (List ℕ)) (l :
       record {
         on = λ rest ls s.
             rw (v .0)
-            (says-element d 0 2 2 (depth d) 0 fs l rest ls (element-is 2 (omega arith)) (f .fits) refl (root-away refl) (o .climbs) (o .to) refl (λ e. omega arith) refl
+            (says-element d 0 2 2 (depth d) 0 fs l rest ls (element-is 2 (omega arith)) (f .fits) refl (root-away refl) (o .climbs) (o .to) refl
+            (λ e. omega arith) refl
             (f .line ∙ whole) s);
         leads = rw (v .0);
         kept = tt;
@@ -230,7 +236,8 @@ module _ (before : List Record) (kept : Kept before) (fs : List (List ℕ)) (l :
       record {
         on = λ rest ls s.
             rw (v .0)
-            (says-element d 0 3 3 (depth d) 0 fs l rest ls (element-is 3 (omega arith)) (f .fits) refl (root-away refl) (o .climbs) (o .to) refl (λ e. omega arith) refl
+            (says-element d 0 3 3 (depth d) 0 fs l rest ls (element-is 3 (omega arith)) (f .fits) refl (root-away refl) (o .climbs) (o .to) refl
+            (λ e. omega arith) refl
             (f .line ∙ whole) s);
         leads = rw (v .0);
         kept = tt;
@@ -245,7 +252,8 @@ module _ (before : List Record) (kept : Kept before) (fs : List (List ℕ)) (l :
       record {
         on = λ rest ls s.
             rw (v .0)
-            (says-element d 0 6 6 (depth d) 0 fs l rest ls (element-is 6 (omega arith)) (f .fits) refl (root-away refl) (o .climbs) (o .to) refl (λ e. omega arith) refl
+            (says-element d 0 6 6 (depth d) 0 fs l rest ls (element-is 6 (omega arith)) (f .fits) refl (root-away refl) (o .climbs) (o .to) refl
+            (λ e. omega arith) refl
             (f .line ∙ whole) s);
         leads = rw (v .0);
         kept = tt;
@@ -262,7 +270,8 @@ module _ (before : List Record) (kept : Kept before) (fs : List (List ℕ)) (l :
       record {
         on = λ rest ls s.
             rw (v .0)
-            (says-element d 3 3 5 (depth d - 1) 0 fs l rest ls (element-is 5 (omega arith)) (f .fits) refl refl (o .climbs) (o .to) refl (λ e. omega arith) refl
+            (says-element d 3 3 5 (depth d - 1) 0 fs l rest ls (element-is 5 (omega arith)) (f .fits) refl refl (o .climbs) (o .to) refl
+            (λ e. omega arith) refl
             (f .line ∙ whole) s);
         leads = rw (v .0);
         kept = h;
@@ -279,20 +288,21 @@ module _ (before : List Record) (kept : Kept before) (fs : List (List ℕ)) (l :
       record {
         on = λ rest ls s.
             rw (v .0, at)
-            (says-element 6 6 6 7 0 0 fs l rest ls (element-is 7 (omega arith)) (f .fits) refl refl tt refl refl (λ e. omega arith) refl (f .line ∙ whole) s);
+            (says-element 6 6 6 7 0 0 fs l rest ls (element-is 7 (omega arith)) (f .fits) refl refl tt refl refl (λ e. omega arith) refl
+            (f .line ∙ whole) s);
         leads = rw (v .0);
         kept = h;
         far = rw (v .0) so;
       }
 
 -- ---- a P
-record From (before : List Record) (lev : ℕ) : Type 0 where
-  stood : ℕ
-  climbs : Climbs (depth (placeOf before) - (1 + lev)) (placeOf before)
-  to : climb (depth (placeOf before) - (1 + lev)) (placeOf before) ≡ stood
-  enters : enter stood 4 ≡ deep (inHeader before) lev
-  leads : leadsTo (placeOf before) 4 lev ≡ deep (inHeader before) lev
-  far : farOf before ≡ cond (inHeader before) 2 1
+pub record From (before : List Record) (lev : ℕ) : Type 0 where
+  pub stood : ℕ
+  pub climbs : Climbs (depth (placeOf before) - (1 + lev)) (placeOf before)
+  pub to : climb (depth (placeOf before) - (1 + lev)) (placeOf before) ≡ stood
+  pub enters : enter stood 4 ≡ deep (inHeader before) lev
+  pub leads : leadsTo (placeOf before) 4 lev ≡ deep (inHeader before) lev
+  pub far : farOf before ≡ cond (inHeader before) 2 1
 
 parent-least : (n m : ℕ) (b : Bool) → cond (eqb m n) true (cond (ltb m n) false b) ≡ true → n ≤ m
 parent-least n m b e = go (eqb m n) (ltb m n) refl refl e
@@ -312,7 +322,8 @@ from-param h m (suc n) a b c =
     let y : m - (m - n) ≡ n = omega arith in
     (deep h n, rw z (climbs-to h (m - n) m (omega arith) a .0), rw z (climbs-to h (m - n) m (omega arith) a .1 ∙ ap (deep h) y), enter-next h n b)
 
-from-of : (before : List Record) (lev : ℕ) → Kept before → lev ≤ 7 → holdsParams before ≡ true → inside lev before ≡ true → (farOf before ≡ 3 → ⊥)
+pub from-of : (before : List Record) (lev : ℕ) → Kept before → lev ≤ 7 → holdsParams before ≡ true → inside lev before ≡ true
+    → (farOf before ≡ 3 → ⊥)
     → From before lev
 from-of [] lev k low holds ins far = absurd (holds-none [] 0 refl (λ e. omega arith) (λ e. omega arith) holds)
 from-of (frequency code key ∷ rs) lev k low holds ins far =
@@ -339,7 +350,7 @@ from-of (validation path value ∷ rs) lev k low holds ins far = absurd (far ref
 from-of (set name ∷ rs) lev k low holds ins far = absurd (holds-none (set name ∷ rs) 0x44 refl (λ e. omega arith) (λ e. omega arith) holds)
 from-of (entry key text ∷ rs) lev k low holds ins far = absurd (holds-none rs 0x44 k (λ e. omega arith) (λ e. omega arith) holds)
 
-not-three : (n : ℕ) → not (eqb n 3) ≡ true → n ≡ 3 → ⊥
+pub not-three : (n : ℕ) → not (eqb n 3) ≡ true → n ≡ 3 → ⊥
 not-three n e q =
     let z : not (eqb n 3) ≡ false = rw (eq-eqb n 3 q) in
     let y : _≡_ {A = Bool} true false = sym e ∙ z in
@@ -350,25 +361,27 @@ deep-somewhere false m e = omega arith
 deep-somewhere true m e = omega arith
 
 module _ (before : List Record) (kept : Kept before) (fs : List (List ℕ)) (l : List ℕ) (whole : joined 0x09 fs ≡ l) where
-  step-p : (p : Param) → View fs (param p) → over before (param p) ≡ false → lost before (param p) ≡ false → stands (farOf before) (kindOf fs) ≡ true
+  step-p : (p : Param) → View fs (param p) → over before (param p) ≡ false → lost before (param p) ≡ false
+      → stands (farOf before) (kindOf fs) ≡ true
       → Step before (param p) fs l
   unfolding table
   step-p p v over lost ordered =
       let low : p .level ≤ 7 = ltb-false 7 (p .level) (or-left (ltb 7 (p .level)) _ over) in
       let holds : holdsParams before ≡ true = not-false (holdsParams before) (or-left (not (holdsParams before)) _ lost) in
       let ins : inside (p .level) before ≡ true =
-          not-false (inside (p .level) before) (or-left (not (inside (p .level) before)) _ (or-right (not (holdsParams before)) _ lost)) in
+      not-false (inside (p .level) before) (or-left (not (inside (p .level) before)) _ (or-right (not (holdsParams before)) _ lost)) in
       let apart : farOf before ≡ 3 → ⊥ = not-three (farOf before) (rw (v .0) at ordered) in
       let f : From before (p .level) = from-of before (p .level) kept low holds ins apart in
       let small : worth 0 (field 1 fs) ≤ 7 = rw (v .2) at low in
       let fitted : Fitted 4 2 fs (0x50 ∷ 0x09 ∷ (0x30 + worth 0 (field 1 fs)) ∷ []) = fitted-p fs (v .0) (v .1) small in
-      let numbers : paramNumbers fs ≡ true = and-left (paramNumbers fs) (paramWords fs) (and-right (eqb (length fs) 9) (paramNumbers fs && paramWords fs) (v .1)) in
+      let numbers : paramNumbers fs ≡ true = and-left (paramNumbers fs) (paramWords fs)
+      (and-right (eqb (length fs) 9) (paramNumbers fs && paramWords fs) (v .1)) in
       let digits : decimal (field 1 fs) ≡ true = and-left (decimal (field 1 fs)) (upTo 65535 (field 2 fs) && upTo 255 (field 3 fs)) numbers in
       let lev : p .level ≡ value 7 (field 1 fs) = v .2 ∙ sym (value-of 7 (field 1 fs) (rw (digits, le-leb (worth 0 (field 1 fs)) 7 small))) in
       let digit : enter (f .stood) 4 % 8 ≡ worth 0 (field 1 fs) =
-          ap (λ (x : ℕ). x % 8) (f .enters) ∙ level-deep (inHeader before) (p .level) low ∙ v .2 in
+      ap (λ (x : ℕ). x % 8) (f .enters) ∙ level-deep (inHeader before) (p .level) low ∙ v .2 in
       let shown : 0x50 ∷ 0x09 ∷ (0x30 + enter (f .stood) 4 % 8) ∷ lineFrom fs (entriesOf 4) 2 1 ≡ l =
-          ap (λ (x : ℕ). 0x50 ∷ 0x09 ∷ (0x30 + x) ∷ lineFrom fs (entriesOf 4) 2 1) digit ∙ fitted .line ∙ whole in
+      ap (λ (x : ℕ). 0x50 ∷ 0x09 ∷ (0x30 + x) ∷ lineFrom fs (entriesOf 4) 2 1) digit ∙ fitted .line ∙ whole in
       record {
         on = λ rest ls s.
             rw (v .0)
@@ -379,7 +392,8 @@ module _ (before : List Record) (kept : Kept before) (fs : List (List ℕ)) (l :
         far = rw (v .0) (f .far);
       }
 
-  pub step-of : (r : Record) → View fs r → over before r ≡ false → lost before r ≡ false → stands (farOf before) (kindOf fs) ≡ true → Step before r fs l
+  pub step-of : (r : Record) → View fs r → over before r ≡ false → lost before r ≡ false → stands (farOf before) (kindOf fs) ≡ true
+      → Step before r fs l
   step-of (frequency code key) v o s t = step-f before kept fs l whole code key v
   step-of (base key) v o s t = step-b before kept fs l whole key v
   step-of (header h) v o s t = step-h before kept fs l whole h v
@@ -396,7 +410,8 @@ front (l ∷ m ∷ ms) = l ∷ front (m ∷ ms)
 
 says-end : (n d : ℕ) → Climbs n d → climb n d ≡ 0 → Says d (0x0a ∷ (closings (suc n) d ++ [])) []
 unfolding closings
-says-end zero d c e = rw (e, append-assoc (shut 0) [] []) (says-shut 0 14 [] [] (element-is 0 (omega arith)) refl (λ q. omega arith) (record { lines = refl; fine = λ place. refl }))
+says-end zero d c e = rw (e, append-assoc (shut 0) [] []) (says-shut 0 14 [] [] (element-is 0 (omega arith)) refl (λ q. omega arith)
+    (record { lines = refl; fine = λ place. refl }))
 says-end (suc n) d c e =
     rw (append-assoc (shut d) (closings (suc n) (up d)) [])
     (says-shut d (up d) (closings (suc n) (up d) ++ []) [] (c .0 .element) (c .0 .leads) (c .0 .somewhere) (says-end n (up d) (c .1) e))
@@ -407,7 +422,7 @@ says-last before kept =
     rw (append-nil (closings (suc (depth (placeOf before))) (placeOf before))) at (says-end (depth (placeOf before)) (placeOf before) (o .climbs) (o .to))
 
 -- the order of a line, and of the lines behind it
-ordered-line : (b : Bool) (m n : ℕ) → cond b m (suc n) ≡ 0 → (b ≡ true) × (m ≡ 0)
+pub ordered-line : (b : Bool) (m n : ℕ) → cond b m (suc n) ≡ 0 → (b ≡ true) × (m ≡ 0)
 ordered-line true m n e = (refl, e)
 ordered-line false m n e = absurd (omega arith)
 
@@ -419,10 +434,10 @@ says-body before n m (l ∷ []) kept good ordered = says-last before kept
 says-body before n m (l ∷ k ∷ ks) kept good ordered =
     let a = accepted-line rules before n (form (fields l)) _ good in
     let o : (stands (farOf before) (kindOf (fields l)) ≡ true)
-        × (misplaced (farther (farOf before) (kindOf (fields l))) (suc (suc m)) (k ∷ ks) ≡ 0) =
-        ordered-line (stands (farOf before) (kindOf (fields l))) (misplaced (farther (farOf before) (kindOf (fields l))) (suc (suc m)) (k ∷ ks)) m ordered in
+    × (misplaced (farther (farOf before) (kindOf (fields l))) (suc (suc m)) (k ∷ ks) ≡ 0) =
+    ordered-line (stands (farOf before) (kindOf (fields l))) (misplaced (farther (farOf before) (kindOf (fields l))) (suc (suc m)) (k ∷ ks)) m ordered in
     let s : Step before (a .said) (fields l) l =
-        step-of before kept (fields l) l (joined-split 0x09 l) (a .said) (view-of (fields l) (a .said) (a .is)) (a .within) (a .owned) (o .0) in
+    step-of before kept (fields l) l (joined-split 0x09 l) (a .said) (view-of (fields l) (a .said) (a .is)) (a .within) (a .owned) (o .0) in
     rw (s .leads)
     (s .on (body (placeOf (a .said ∷ before)) (k ∷ ks)) (front (k ∷ ks))
     (says-body (a .said ∷ before) (suc n) (suc m) (k ∷ ks) (s .kept) (a .on) (rw (s .far) at (o .1))))

@@ -26,7 +26,8 @@ pub record Says (d : ℕ) (x : List ℕ) (ls : List (List ℕ)) : Type 0 where
   pub lines : items d (chunks false x) ≡ ls
   pub fine : (place : ℕ) → judge d place (chunks false x) ≡ Fine
 
-items-step : (d : ℕ) (c : List ℕ) (cs : List (List ℕ)) → 1 ≤ length cs → items d (c ∷ cs) ≡ withLine d c (tagOf c) (items (moved d c (tagOf c)) cs)
+items-step : (d : ℕ) (c : List ℕ) (cs : List (List ℕ)) → 1 ≤ length cs
+    → items d (c ∷ cs) ≡ withLine d c (tagOf c) (items (moved d c (tagOf c)) cs)
 items-step d c [] h = absurd (omega arith)
 items-step d c (b ∷ cs) h = refl
 
@@ -54,7 +55,8 @@ shut-shape : (d : ℕ) (rest : List ℕ)
     → 0x0a ∷ (shut d ++ rest) ≡ (0x0a ∷ head (depth d) (0x3c ∷ 0x2f ∷ []) (innermost d)) ++ 0x3e ∷ (0x0a ∷ rest)
 shut-shape d rest = ap (λ (l : List ℕ). 0x0a ∷ l) (append-assoc (head (depth d) (0x3c ∷ 0x2f ∷ []) (innermost d)) (0x3e ∷ 0x0a ∷ []) rest)
 
-pub says-shut : (d e : ℕ) (rest : List ℕ) (ls : List (List ℕ)) → Element (innermost d) → leave d (innermost d) ≡ e → (e ≡ 15 → ⊥) → Says e (0x0a ∷ rest) ls
+pub says-shut : (d e : ℕ) (rest : List ℕ) (ls : List (List ℕ)) → Element (innermost d) → leave d (innermost d) ≡ e → (e ≡ 15 → ⊥)
+    → Says e (0x0a ∷ rest) ls
     → Says d (0x0a ∷ (shut d ++ rest)) ls
 says-shut d e rest ls el m n s =
     let tag : tagOf (0x0a ∷ head (depth d) (0x3c ∷ 0x2f ∷ []) (innermost d)) ≡ Shut (innermost d) = shut-tag (depth d) (innermost d) el in
@@ -70,7 +72,8 @@ abbrev pub Climbs : ℕ → ℕ → Type 0
 Climbs zero d = Unit {0}
 Climbs (suc n) d = Inside d × Climbs n (up d)
 
-pub says-closings : (n d : ℕ) (rest : List ℕ) (ls : List (List ℕ)) → Climbs n d → Says (climb n d) (0x0a ∷ rest) ls → Says d (0x0a ∷ (closings n d ++ rest)) ls
+pub says-closings : (n d : ℕ) (rest : List ℕ) (ls : List (List ℕ)) → Climbs n d → Says (climb n d) (0x0a ∷ rest) ls
+    → Says d (0x0a ∷ (closings n d ++ rest)) ls
 unfolding closings
 says-closings zero d rest ls c s = s
 says-closings (suc n) d rest ls c s =
@@ -115,14 +118,20 @@ up-next true m l =
 
 leave-next : (h : Bool) (m : ℕ) → suc m ≤ 7 → shallower (deep h (suc m)) ≡ deep h m
 leave-next false m l =
-    rw
-    (ne-eqb (16 + suc m) 16 (λ e. omega arith), ne-eqb (16 + suc m) 24 (λ e. omega arith), le-leb 17 (16 + suc m) (omega arith)
-    , le-leb (16 + suc m) 31 (omega arith))
+    rw (
+      ne-eqb (16 + suc m) 16 (λ e. omega arith),
+      ne-eqb (16 + suc m) 24 (λ e. omega arith),
+      le-leb 17 (16 + suc m) (omega arith),
+      le-leb (16 + suc m) 31 (omega arith),
+    )
     (omega arith)
 leave-next true m l =
-    rw
-    (ne-eqb (24 + suc m) 16 (λ e. omega arith), ne-eqb (24 + suc m) 24 (λ e. omega arith), le-leb 17 (24 + suc m) (omega arith)
-    , le-leb (24 + suc m) 31 (omega arith))
+    rw (
+      ne-eqb (24 + suc m) 16 (λ e. omega arith),
+      ne-eqb (24 + suc m) 24 (λ e. omega arith),
+      le-leb 17 (24 + suc m) (omega arith),
+      le-leb (24 + suc m) 31 (omega arith),
+    )
     (omega arith)
 
 deep-low : (h : Bool) (m : ℕ) → 16 ≤ deep h m
@@ -176,14 +185,22 @@ enter-first true = refl
 
 pub enter-next : (h : Bool) (m : ℕ) → suc m ≤ 7 → enter (deep h m) 4 ≡ deep h (suc m)
 enter-next false m l =
-    rw
-    (ne-eqb (16 + m) 2 (λ e. omega arith), ne-eqb (16 + m) 3 (λ e. omega arith), le-leb 16 (16 + m) (omega arith), le-leb (16 + m) 30 (omega arith)
-    , ne-eqb (16 + m) 23 (λ e. omega arith))
+    rw (
+      ne-eqb (16 + m) 2 (λ e. omega arith),
+      ne-eqb (16 + m) 3 (λ e. omega arith),
+      le-leb 16 (16 + m) (omega arith),
+      le-leb (16 + m) 30 (omega arith),
+      ne-eqb (16 + m) 23 (λ e. omega arith),
+    )
     (omega arith)
 enter-next true m l =
-    rw
-    (ne-eqb (24 + m) 2 (λ e. omega arith), ne-eqb (24 + m) 3 (λ e. omega arith), le-leb 16 (24 + m) (omega arith), le-leb (24 + m) 30 (omega arith)
-    , ne-eqb (24 + m) 23 (λ e. omega arith))
+    rw (
+      ne-eqb (24 + m) 2 (λ e. omega arith),
+      ne-eqb (24 + m) 3 (λ e. omega arith),
+      le-leb 16 (24 + m) (omega arith),
+      le-leb (24 + m) 30 (omega arith),
+      ne-eqb (24 + m) 23 (λ e. omega arith),
+    )
     (omega arith)
 
 pub leads-first : (h : Bool) (l : ℕ) → leadsTo (owner h) 4 l ≡ deep h l
@@ -222,7 +239,8 @@ module _ (k s : ℕ) (fs : List (List ℕ)) where
       (append-assoc (head (suc s) (0x3c ∷ []) k) (restFor k fs) rest
       ∙ append-assoc (blanks (suc s)) (0x3c ∷ names) (restFor k fs ++ rest)
       ∙ ap (λ (l : List ℕ). blanks (suc s) ++ (0x3c ∷ (names ++ l)))
-      (append-assoc attrs (ending k) rest ∙ ap (λ (l : List ℕ). attrs ++ (l ++ rest)) (ending-is k) ∙ ap (λ (l : List ℕ). attrs ++ l) (append-assoc (endOf k) ends rest)
+      (append-assoc attrs (ending k) rest ∙ ap (λ (l : List ℕ). attrs ++ (l ++ rest)) (ending-is k) ∙ ap (λ (l : List ℕ). attrs ++ l)
+      (append-assoc (endOf k) ends rest)
       ∙ sym (append-assoc attrs (endOf k) (0x3e ∷ 0x0a ∷ rest)))
       ∙ ap (λ (l : List ℕ). blanks (suc s) ++ (0x3c ∷ l)) (sym (append-assoc names (attrs ++ endOf k) (0x3e ∷ 0x0a ∷ rest)))
       ∙ sym (append-assoc (blanks (suc s)) (0x3c ∷ (names ++ (attrs ++ endOf k))) (0x3e ∷ 0x0a ∷ rest)))
@@ -231,7 +249,9 @@ module _ (k s : ℕ) (fs : List (List ℕ)) where
     start-tag : tagOf start ≡ Open k
     start-tag = go (isAlone k)
       where
-        go : (t : Bool) → tagOf (0x0a ∷ (blanks (suc s) ++ (0x3c ∷ (nameFor k ++ (attributes (entriesOf k) fs (firstField k) 1 ++ cond t (0x2f ∷ []) []))))) ≡ Open k
+        go : (t : Bool)
+            → tagOf (0x0a ∷ (blanks (suc s) ++ (0x3c ∷ (nameFor k ++
+            (attributes (entriesOf k) fs (firstField k) 1 ++ cond t (0x2f ∷ []) []))))) ≡ Open k
         go true = open-tag (suc s) k el fs (firstField k) (0x2f ∷ []) fits refl refl refl
         go false = open-tag (suc s) k el fs (firstField k) [] fits refl refl refl
 
@@ -247,7 +267,9 @@ module _ (k s : ℕ) (fs : List (List ℕ)) where
     start-quiet : quiet false start ≡ true
     start-quiet = go (isAlone k)
       where
-        go : (t : Bool) → quiet false (0x0a ∷ (blanks (suc s) ++ (0x3c ∷ (nameFor k ++ (attributes (entriesOf k) fs (firstField k) 1 ++ cond t (0x2f ∷ []) []))))) ≡ true
+        go : (t : Bool)
+            → quiet false (0x0a ∷ (blanks (suc s) ++ (0x3c ∷
+            (nameFor k ++ (attributes (entriesOf k) fs (firstField k) 1 ++ cond t (0x2f ∷ []) []))))) ≡ true
         go true = open-quiet (suc s) k el fs (firstField k) (0x2f ∷ []) fits refl
         go false = open-quiet (suc s) k el fs (firstField k) [] fits refl
 
@@ -258,10 +280,12 @@ module _ (k s : ℕ) (fs : List (List ℕ)) where
             ≡ (0x0a ∷ (blanks (suc s) ++ (0x3c ∷ (nameFor k ++ attributes (entriesOf k) fs (firstField k) 1)))) ++ (0x2f ∷ [])
         shape =
             ap (λ (l : List ℕ). 0x0a ∷ l)
-            (ap (λ (l : List ℕ). blanks (suc s) ++ (0x3c ∷ l)) (sym (append-assoc (nameFor k) (attributes (entriesOf k) fs (firstField k) 1) (0x2f ∷ [])))
+            (ap (λ (l : List ℕ). blanks (suc s) ++ (0x3c ∷ l))
+            (sym (append-assoc (nameFor k) (attributes (entriesOf k) fs (firstField k) 1) (0x2f ∷ [])))
             ∙ sym (append-assoc (blanks (suc s)) (0x3c ∷ (nameFor k ++ attributes (entriesOf k) fs (firstField k) 1)) (0x2f ∷ [])))
 
-        go : (t : Bool) → closed (0x0a ∷ (blanks (suc s) ++ (0x3c ∷ (nameFor k ++ (attributes (entriesOf k) fs (firstField k) 1 ++ cond t (0x2f ∷ []) []))))) ≡ t
+        go : (t : Bool)
+            → closed (0x0a ∷ (blanks (suc s) ++ (0x3c ∷ (nameFor k ++ (attributes (entriesOf k) fs (firstField k) 1 ++ cond t (0x2f ∷ []) []))))) ≡ t
         go true = ap closed shape ∙ open-closed (0x0a ∷ (blanks (suc s) ++ (0x3c ∷ (nameFor k ++ attributes (entriesOf k) fs (firstField k) 1))))
         go false = open-left (suc s) k el fs (firstField k)
 

@@ -4,3 +4,5 @@ pub mod Tags
 pub mod Document
 pub mod Lines
 pub mod Body
+pub mod Plain
+pub mod RoundTrip

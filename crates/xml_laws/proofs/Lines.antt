@@ -69,7 +69,8 @@ type-bytes l e =
     go false false false false true g p q r s t u = at Boolean t refl
     go false false false false false true p q r s t u = at Bitmask u refl
     go false false false false false false p q r s t u =
-        absurd (let k : known (typeOf l) ≡ false = rw (p, q, r, s, t, u) in let z : _≡_ {A = Bool} true false = sym e ∙ k in let y : _≡_ {A = ℕ} 0 1 = cc in omega arith)
+        absurd (let k : known (typeOf l) ≡ false = rw (p, q, r, s, t, u) in let z : _≡_ {A = Bool} true false = sym e ∙ k in
+        let y : _≡_ {A = ℕ} 0 1 = cc in omega arith)
 
 up-to-decimal : (n : ℕ) (l : List ℕ) → upTo n l ≡ true → decimal l ≡ true
 up-to-decimal n l e = and-left (decimal l) (leb (worth 0 l) n) e
@@ -131,7 +132,7 @@ module _ (fs : List (List ℕ)) where
         fits = let z : (decimal (field 1 fs) && (decimal (field 2 fs) && (true && (true && true)))) ≡ true = rw (a, b) in z;
         line =
             let walked : 0x46 ∷ 0x09 ∷ (field 1 fs ++ 0x09 ∷ (field 2 fs ++ [])) ≡ joined 0x09 fs =
-                rw (append-nil (field 2 fs)) (whole 2 0x46 k (omega arith) n) in
+            rw (append-nil (field 2 fs)) (whole 2 0x46 k (omega arith) n) in
             walked;
       }
 
@@ -157,67 +158,73 @@ module _ (fs : List (List ℕ)) where
       let t : t₃ ≡ true = and-right (optionalUpTo 255 (field 2 fs)) t₃ s in
       let a : decimal (field 1 fs) ≡ true = up-to-decimal 255 (field 1 fs) (and-left (upTo 255 (field 1 fs)) t₂ r) in
       let b : (missing (field 2 fs) || decimal (field 2 fs)) ≡ true =
-          or-else (missing (field 2 fs)) (upTo 255 (field 2 fs)) (decimal (field 2 fs)) (and-left (optionalUpTo 255 (field 2 fs)) t₃ s)
-          (up-to-decimal 255 (field 2 fs)) in
+      or-else (missing (field 2 fs)) (upTo 255 (field 2 fs)) (decimal (field 2 fs)) (and-left (optionalUpTo 255 (field 2 fs)) t₃ s)
+      (up-to-decimal 255 (field 2 fs)) in
       let f : Four (field 3 fs) = four-of (field 3 fs) (and-left (flags (field 3 fs)) t₄ t) in
       let d : within 0x20 0xff (field 4 fs) ≡ true = name-bytes (field 4 fs) (and-right (flags (field 3 fs)) t₄ t) in
       record {
         fits =
             let z : (decimal (field 1 fs) && ((missing (field 2 fs) || decimal (field 2 fs))
-                && (isBit (getD (field 3 fs) 0 0) && (isBit (getD (field 3 fs) 1 0) && (isBit (getD (field 3 fs) 2 0) && (isBit (getD (field 3 fs) 3 0)
-                && (within 0x20 0xff (field 4 fs) && (true && true)))))))) ≡ true =
-                rw (a, b, f .bits 0 (omega arith), f .bits 1 (omega arith), f .bits 2 (omega arith), f .bits 3 (omega arith), d) in
+            && (isBit (getD (field 3 fs) 0 0) && (isBit (getD (field 3 fs) 1 0) && (isBit (getD (field 3 fs) 2 0) && (isBit (getD (field 3 fs) 3 0)
+            && (within 0x20 0xff (field 4 fs) && (true && true)))))))) ≡ true =
+            rw (a, b, f .bits 0 (omega arith), f .bits 1 (omega arith), f .bits 2 (omega arith), f .bits 3 (omega arith), d) in
             z;
         line =
             let digits : List ℕ = getD (field 3 fs) 0 0 ∷ getD (field 3 fs) 1 0 ∷ getD (field 3 fs) 2 0 ∷ getD (field 3 fs) 3 0 ∷ [] in
             let walked : 0x48 ∷ 0x09 ∷ (field 1 fs ++ 0x09 ∷ (field 2 fs ++ 0x09 ∷ (digits ++ 0x09 ∷ (field 4 fs ++ [])))) ≡ joined 0x09 fs =
-                rw (append-nil (field 4 fs))
-                (ap (λ (l : List ℕ). 0x48 ∷ 0x09 ∷ (field 1 fs ++ 0x09 ∷ (field 2 fs ++ 0x09 ∷ (l ++ 0x09 ∷ field 4 fs)))) (sym (f .all))
-                ∙ whole 4 0x48 k (omega arith) n) in
+            rw (append-nil (field 4 fs))
+            (ap (λ (l : List ℕ). 0x48 ∷ 0x09 ∷ (field 1 fs ++ 0x09 ∷ (field 2 fs ++ 0x09 ∷ (l ++ 0x09 ∷ field 4 fs)))) (sym (f .all))
+            ∙ whole 4 0x48 k (omega arith) n) in
             walked;
       }
 
-  pub fitted-p : kindOf fs ≡ 0x50 → paramForm fs ≡ true → worth 0 (field 1 fs) ≤ 7 → Fitted 4 2 fs (0x50 ∷ 0x09 ∷ (0x30 + worth 0 (field 1 fs)) ∷ [])
+  pub fitted-p : kindOf fs ≡ 0x50 → paramForm fs ≡ true → worth 0 (field 1 fs) ≤ 7
+      → Fitted 4 2 fs (0x50 ∷ 0x09 ∷ (0x30 + worth 0 (field 1 fs)) ∷ [])
   unfolding table
   fitted-p k e low =
       let n : length fs ≡ 9 = eqb-true (length fs) 9 (and-left (eqb (length fs) 9) (paramNumbers fs && paramWords fs) e) in
       let r : (paramNumbers fs && paramWords fs) ≡ true = and-right (eqb (length fs) 9) (paramNumbers fs && paramWords fs) e in
       let numbers : paramNumbers fs ≡ true = and-left (paramNumbers fs) (paramWords fs) r in
       let words : paramWords fs ≡ true = and-right (paramNumbers fs) (paramWords fs) r in
-      let two : (upTo 65535 (field 2 fs) && upTo 255 (field 3 fs)) ≡ true = and-right (decimal (field 1 fs)) (upTo 65535 (field 2 fs) && upTo 255 (field 3 fs)) numbers in
+      let two : (upTo 65535 (field 2 fs) && upTo 255 (field 3 fs)) ≡ true = and-right (decimal (field 1 fs))
+      (upTo 65535 (field 2 fs) && upTo 255 (field 3 fs)) numbers in
       let level : decimal (field 1 fs) ≡ true = and-left (decimal (field 1 fs)) (upTo 65535 (field 2 fs) && upTo 255 (field 3 fs)) numbers in
       let a : decimal (field 2 fs) ≡ true = up-to-decimal 65535 (field 2 fs) (and-left (upTo 65535 (field 2 fs)) (upTo 255 (field 3 fs)) two) in
       let b : decimal (field 3 fs) ≡ true = up-to-decimal 255 (field 3 fs) (and-right (upTo 65535 (field 2 fs)) (upTo 255 (field 3 fs)) two) in
-      let c : within 0x20 0xff (field 4 fs) ≡ true = type-bytes (field 4 fs) (and-left (known (typeOf (field 4 fs))) (plain (field 5 fs) && paramPaths fs) words) in
+      let c : within 0x20 0xff (field 4 fs) ≡ true = type-bytes (field 4 fs)
+      (and-left (known (typeOf (field 4 fs))) (plain (field 5 fs) && paramPaths fs) words) in
       let rest : (plain (field 5 fs) && paramPaths fs) ≡ true = and-right (known (typeOf (field 4 fs))) (plain (field 5 fs) && paramPaths fs) words in
       let d : within 0x20 0xff (field 5 fs) ≡ true =
-          name-bytes (field 5 fs) (and-left (name (field 5 fs)) _ (and-left (plain (field 5 fs)) (paramPaths fs) rest)) in
+      name-bytes (field 5 fs) (and-left (name (field 5 fs)) _ (and-left (plain (field 5 fs)) (paramPaths fs) rest)) in
       let paths : paramPaths fs ≡ true = and-right (plain (field 5 fs)) (paramPaths fs) rest in
       let f : (missing (field 6 fs) || within 0x20 0xff (field 6 fs)) ≡ true =
-          or-else (missing (field 6 fs)) (name (field 6 fs)) (within 0x20 0xff (field 6 fs))
-          (and-left (optionalName (field 6 fs)) (optionalPath (field 7 fs) && optionalPath (field 8 fs)) paths) (name-bytes (field 6 fs)) in
+      or-else (missing (field 6 fs)) (name (field 6 fs)) (within 0x20 0xff (field 6 fs))
+      (and-left (optionalName (field 6 fs)) (optionalPath (field 7 fs) && optionalPath (field 8 fs)) paths) (name-bytes (field 6 fs)) in
       let last : (optionalPath (field 7 fs) && optionalPath (field 8 fs)) ≡ true =
-          and-right (optionalName (field 6 fs)) (optionalPath (field 7 fs) && optionalPath (field 8 fs)) paths in
+      and-right (optionalName (field 6 fs)) (optionalPath (field 7 fs) && optionalPath (field 8 fs)) paths in
       let g : (missing (field 7 fs) || within 0x20 0xff (field 7 fs)) ≡ true =
-          or-else (missing (field 7 fs)) (path (field 7 fs)) (within 0x20 0xff (field 7 fs)) (and-left (optionalPath (field 7 fs)) (optionalPath (field 8 fs)) last)
-          (path-bytes (field 7 fs)) in
+      or-else (missing (field 7 fs)) (path (field 7 fs)) (within 0x20 0xff (field 7 fs))
+      (and-left (optionalPath (field 7 fs)) (optionalPath (field 8 fs)) last)
+      (path-bytes (field 7 fs)) in
       let h : (missing (field 8 fs) || within 0x20 0xff (field 8 fs)) ≡ true =
-          or-else (missing (field 8 fs)) (path (field 8 fs)) (within 0x20 0xff (field 8 fs)) (and-right (optionalPath (field 7 fs)) (optionalPath (field 8 fs)) last)
-          (path-bytes (field 8 fs)) in
+      or-else (missing (field 8 fs)) (path (field 8 fs)) (within 0x20 0xff (field 8 fs))
+      (and-right (optionalPath (field 7 fs)) (optionalPath (field 8 fs)) last)
+      (path-bytes (field 8 fs)) in
       record {
         fits =
             let z : (decimal (field 2 fs) && (decimal (field 3 fs) && (within 0x20 0xff (field 4 fs) && (within 0x20 0xff (field 5 fs)
-                && ((missing (field 6 fs) || within 0x20 0xff (field 6 fs)) && ((missing (field 7 fs) || within 0x20 0xff (field 7 fs))
-                && ((missing (field 8 fs) || within 0x20 0xff (field 8 fs)) && (true && true)))))))) ≡ true =
-                rw (a, b, c, d, f, g, h) in
+            && ((missing (field 6 fs) || within 0x20 0xff (field 6 fs)) && ((missing (field 7 fs) || within 0x20 0xff (field 7 fs))
+            && ((missing (field 8 fs) || within 0x20 0xff (field 8 fs)) && (true && true)))))))) ≡ true =
+            rw (a, b, c, d, f, g, h) in
             z;
         line =
-            let rear : List ℕ = field 3 fs ++ 0x09 ∷ (field 4 fs ++ 0x09 ∷ (field 5 fs ++ 0x09 ∷ (field 6 fs ++ 0x09 ∷ (field 7 fs ++ 0x09 ∷ field 8 fs)))) in
+            let rear : List ℕ = field 3 fs ++ 0x09 ∷ (field 4 fs ++ 0x09 ∷
+            (field 5 fs ++ 0x09 ∷ (field 6 fs ++ 0x09 ∷ (field 7 fs ++ 0x09 ∷ field 8 fs)))) in
             let walked : 0x50 ∷ 0x09 ∷ (0x30 + worth 0 (field 1 fs)) ∷ 0x09 ∷ (field 2 fs ++ 0x09 ∷ (field 3 fs ++ 0x09 ∷ (field 4 fs
-                ++ 0x09 ∷ (field 5 fs ++ 0x09 ∷ (field 6 fs ++ 0x09 ∷ (field 7 fs ++ 0x09 ∷ (field 8 fs ++ []))))))) ≡ joined 0x09 fs =
-                rw (append-nil (field 8 fs))
-                (ap (λ (l : List ℕ). 0x50 ∷ 0x09 ∷ (l ++ 0x09 ∷ (field 2 fs ++ 0x09 ∷ rear))) (sym (level-digit (field 1 fs) level low))
-                ∙ whole 8 0x50 k (omega arith) n) in
+            ++ 0x09 ∷ (field 5 fs ++ 0x09 ∷ (field 6 fs ++ 0x09 ∷ (field 7 fs ++ 0x09 ∷ (field 8 fs ++ []))))))) ≡ joined 0x09 fs =
+            rw (append-nil (field 8 fs))
+            (ap (λ (l : List ℕ). 0x50 ∷ 0x09 ∷ (l ++ 0x09 ∷ (field 2 fs ++ 0x09 ∷ rear))) (sym (level-digit (field 1 fs) level low))
+            ∙ whole 8 0x50 k (omega arith) n) in
             walked;
       }
 
@@ -232,7 +239,7 @@ module _ (fs : List (List ℕ)) where
         fits = let z : (within 0x20 0xff (field 1 fs) && (upTo 65535 (field 2 fs) && true)) ≡ true = rw (a, b) in z;
         line =
             let walked : 0x56 ∷ 0x09 ∷ (field 1 fs ++ 0x09 ∷ (field 2 fs ++ [])) ≡ joined 0x09 fs =
-                rw (append-nil (field 2 fs)) (whole 2 0x56 k (omega arith) n) in
+            rw (append-nil (field 2 fs)) (whole 2 0x56 k (omega arith) n) in
             walked;
       }
 
@@ -257,6 +264,6 @@ module _ (fs : List (List ℕ)) where
         fits = let z : (upTo 65535 (field 1 fs) && (within 0x20 0xff (field 2 fs) && (true && true))) ≡ true = rw (a, b) in z;
         line =
             let walked : 0x45 ∷ 0x09 ∷ (field 1 fs ++ 0x09 ∷ (field 2 fs ++ [])) ≡ joined 0x09 fs =
-                rw (append-nil (field 2 fs)) (whole 2 0x45 k (omega arith) n) in
+            rw (append-nil (field 2 fs)) (whole 2 0x45 k (omega arith) n) in
             walked;
       }

@@ -38,8 +38,17 @@ element-is (suc (suc zero)) h = record { named = refl; some-name = omega arith; 
 element-is (suc (suc (suc zero))) h = record { named = refl; some-name = omega arith; number = refl; few = refl; entries = refl; agree = refl }
 element-is (suc (suc (suc (suc zero)))) h = record { named = refl; some-name = omega arith; number = refl; few = refl; entries = refl; agree = refl }
 element-is (suc (suc (suc (suc (suc zero))))) h = record { named = refl; some-name = omega arith; number = refl; few = refl; entries = refl; agree = refl }
-element-is (suc (suc (suc (suc (suc (suc zero)))))) h = record { named = refl; some-name = omega arith; number = refl; few = refl; entries = refl; agree = refl }
-element-is (suc (suc (suc (suc (suc (suc (suc zero))))))) h = record { named = refl; some-name = omega arith; number = refl; few = refl; entries = refl; agree = refl }
+element-is (suc (suc (suc (suc (suc (suc zero)))))) h = record {
+  named = refl;
+  some-name = omega arith;
+  number = refl;
+  few = refl;
+  entries = refl;
+  agree =
+      refl;
+}
+element-is (suc (suc (suc (suc (suc (suc (suc zero))))))) h =
+    record { named = refl; some-name = omega arith; number = refl; few = refl; entries = refl; agree = refl }
 element-is (suc (suc (suc (suc (suc (suc (suc (suc k)))))))) h = absurd (omega arith)
 
 -- ---- spaces before a tag
@@ -78,14 +87,16 @@ abbrev tame : List ℕ → Bool
 tame [] = true
 tame (x ∷ xs) = not (isLetter x)
 
-tame-attributes : (fs : List (List ℕ)) (end : List ℕ) (es : List (List ℕ)) (k j : ℕ) → tame end ≡ true → tame (attributes es fs k j ++ end) ≡ true
+tame-attributes : (fs : List (List ℕ)) (end : List ℕ) (es : List (List ℕ)) (k j : ℕ) → tame end ≡ true
+    → tame (attributes es fs k j ++ end) ≡ true
 unfolding attributes
 tame-attributes fs end [] k j t = t
 tame-attributes fs end (e ∷ es) k j t = go (isAbsent (formOf e) fs k) (tame-attributes fs end es (fieldAfter (formOf e) k) (digitAfter (formOf e) j) t)
   where
     go : (a : Bool) → tame (attributes es fs (fieldAfter (formOf e) k) (digitAfter (formOf e) j) ++ end) ≡ true
         → tame
-        ((cond a [] (attribute (nameOf e) (valueFor (formOf e) fs k j)) ++ attributes es fs (fieldAfter (formOf e) k) (digitAfter (formOf e) j)) ++ end) ≡ true
+        ((cond a [] (attribute (nameOf e) (valueFor (formOf e) fs k j)) ++ attributes es fs (fieldAfter (formOf e) k)
+        (digitAfter (formOf e) j)) ++ end) ≡ true
     go true ih = ih
     go false ih = refl
 
@@ -129,9 +140,15 @@ module _ (n k : ℕ) (e : Element k) (fs : List (List ℕ)) (first : ℕ) (end :
   open-tag =
       rw (skip-blanks n (0x3c ∷ (nameFor k ++ tail)) refl, lead-blanks n (0x3c ∷ (nameFor k ++ tail)) refl)
       (rw (first-letter (nameFor k) tail (e .named) (e .some-name))
-      (rw (parts .0, parts .1, e .number, e .few, pieced
-      , fault-none fs end (entriesOf k) (entriesOf k) first 1 (suc (length (blanks n)) + 1 + wordLen (nameFor k ++ tail)) (e .entries) fits (e .agree) is-end
-      , whole-is fs end (pieces fs end (entriesOf k) first 1) (entriesOf k) first 1 (alike-start fs end (entriesOf k) first 1) (e .entries))))
+      (rw (
+        parts .0,
+        parts .1,
+        e .number,
+        e .few,
+        pieced,
+        fault-none fs end (entriesOf k) (entriesOf k) first 1 (suc (length (blanks n)) + 1 + wordLen (nameFor k ++ tail)) (e .entries) fits (e .agree) is-end,
+        whole-is fs end (pieces fs end (entriesOf k) first 1) (entriesOf k) first 1 (alike-start fs end (entriesOf k) first 1) (e .entries),
+      )))
 
   pub open-fields : fieldsOf (entriesOf k) (piecesOf opening) ≡ lineFrom fs (entriesOf k) first 1
   open-fields =
@@ -148,9 +165,10 @@ pub chunk-of : (q : Bool) (p rest : List ℕ) → quiet q p ≡ true → chunks 
 chunk-of true [] rest e = absurd (let z : _≡_ {A = ℕ} 0 1 = cc in omega arith)
 chunk-of false [] rest e = refl
 chunk-of q (x ∷ xs) rest e =
-    rw
-    (not-is (stops q x) (and-left (not (stops q x)) (quiet (turn q x) xs) e)
-    , chunk-of (turn q x) xs rest (and-right (not (stops q x)) (quiet (turn q x) xs) e))
+    rw (
+      not-is (stops q x) (and-left (not (stops q x)) (quiet (turn q x) xs) e),
+      chunk-of (turn q x) xs rest (and-right (not (stops q x)) (quiet (turn q x) xs) e),
+    )
 
 quiet-value : (v rest : List ℕ) → without 0x22 v ≡ true → quiet true (v ++ rest) ≡ quiet true rest
 quiet-value [] rest e = refl
@@ -172,8 +190,8 @@ quiet-blanks (suc n) rest = quiet-blanks n rest
 quiet-attribute : (n v rest : List ℕ) → letters n ≡ true → without 0x22 v ≡ true → quiet false (attribute n v ++ rest) ≡ quiet false rest
 quiet-attribute n v rest l q =
     let shape : attribute n v ++ rest ≡ 0x20 ∷ (n ++ (0x3d ∷ 0x22 ∷ (v ++ 0x22 ∷ rest))) =
-        append-assoc (label n) (v ++ (0x22 ∷ [])) rest ∙ rw (append-assoc v (0x22 ∷ []) rest)
-        (ap (λ (l : List ℕ). 0x20 ∷ l) (append-assoc n (0x3d ∷ 0x22 ∷ []) (v ++ 0x22 ∷ rest))) in
+    append-assoc (label n) (v ++ (0x22 ∷ [])) rest ∙ rw (append-assoc v (0x22 ∷ []) rest)
+    (ap (λ (l : List ℕ). 0x20 ∷ l) (append-assoc n (0x3d ∷ 0x22 ∷ []) (v ++ 0x22 ∷ rest))) in
     ap (quiet false) shape ∙ quiet-letters n (0x3d ∷ 0x22 ∷ (v ++ 0x22 ∷ rest)) l ∙ quiet-value v (0x22 ∷ rest) q
 
 quiet-attributes : (fs : List (List ℕ)) (rest : List ℕ) (es : List (List ℕ)) (k j : ℕ) → sound es ≡ true → fitting fs es k j ≡ true
@@ -193,8 +211,8 @@ quiet-attributes fs rest (e ∷ es) k j s f =
     go true q ih = ih
     go false q ih =
         let r : Reads (formOf e) fs k j =
-            reads-form fs k j (formOf e)
-            (and-left (fitsAt (formOf e) fs k j) (fitting fs es (fieldAfter (formOf e) k) (digitAfter (formOf e) j)) f) q in
+        reads-form fs k j (formOf e)
+        (and-left (fitsAt (formOf e) fs k j) (fitting fs es (fieldAfter (formOf e) k) (digitAfter (formOf e) j)) f) q in
         ap (quiet false)
         (append-assoc (attribute (nameOf e) (valueFor (formOf e) fs k j)) (attributes es fs (fieldAfter (formOf e) k) (digitAfter (formOf e) j)) rest)
         ∙ quiet-attribute (nameOf e) (valueFor (formOf e) fs k j) (attributes es fs (fieldAfter (formOf e) k) (digitAfter (formOf e) j) ++ rest)
@@ -203,9 +221,11 @@ quiet-attributes fs rest (e ∷ es) k j s f =
 
 pub shut-quiet : (n k : ℕ) → Element k → quiet false (0x0a ∷ head n (0x3c ∷ 0x2f ∷ []) k) ≡ true
 shut-quiet n k e =
-    quiet-blanks n (0x3c ∷ 0x2f ∷ nameFor k) ∙ ap (λ (l : List ℕ). quiet false l) (sym (append-nil (nameFor k))) ∙ quiet-letters (nameFor k) [] (e .named)
+    quiet-blanks n (0x3c ∷ 0x2f ∷ nameFor k) ∙ ap (λ (l : List ℕ). quiet false l) (sym (append-nil (nameFor k))) ∙ quiet-letters (nameFor k) []
+    (e .named)
 
-pub open-quiet : (n k : ℕ) (e : Element k) (fs : List (List ℕ)) (first : ℕ) (end : List ℕ) → fitting fs (entriesOf k) first 1 ≡ true → quiet false end ≡ true
+pub open-quiet : (n k : ℕ) (e : Element k) (fs : List (List ℕ)) (first : ℕ) (end : List ℕ) → fitting fs (entriesOf k) first 1 ≡ true
+    → quiet false end ≡ true
     → quiet false (0x0a ∷ (blanks n ++ (0x3c ∷ (nameFor k ++ (attributes (entriesOf k) fs first 1 ++ end))))) ≡ true
 open-quiet n k e fs first end f q =
     quiet-blanks n (0x3c ∷ (nameFor k ++ (attributes (entriesOf k) fs first 1 ++ end)))
@@ -225,7 +245,7 @@ open-closed front = rw (last-append front 0x2f [])
 last-attribute : (l n v : List ℕ) → last (l ++ attribute n v) ≡ 0x22
 last-attribute l n v =
     let shape : l ++ attribute n v ≡ (l ++ (label n ++ v)) ++ (0x22 ∷ []) =
-        rw (append-assoc l (label n ++ v) (0x22 ∷ []), append-assoc (label n) v (0x22 ∷ [])) in
+    rw (append-assoc l (label n ++ v) (0x22 ∷ []), append-assoc (label n) v (0x22 ∷ [])) in
     ap last shape ∙ last-append (l ++ (label n ++ v)) 0x22 []
 
 last-attributes : (fs : List (List ℕ)) (es : List (List ℕ)) (k j : ℕ) (l : List ℕ) → eqb (last l) 0x2f ≡ false
@@ -233,12 +253,14 @@ last-attributes : (fs : List (List ℕ)) (es : List (List ℕ)) (k j : ℕ) (l :
 unfolding attributes
 last-attributes fs [] k j l h = rw (append-nil l) h
 last-attributes fs (e ∷ es) k j l h =
-    go (isAbsent (formOf e) fs k) (λ (m : List ℕ) (q : eqb (last m) 0x2f ≡ false). last-attributes fs es (fieldAfter (formOf e) k) (digitAfter (formOf e) j) m q)
+    go (isAbsent (formOf e) fs k) (λ (m : List ℕ) (q : eqb (last m) 0x2f ≡ false). last-attributes fs es (fieldAfter (formOf e) k)
+    (digitAfter (formOf e) j) m q)
   where
     go : (a : Bool)
         → ((m : List ℕ) → eqb (last m) 0x2f ≡ false
         → eqb (last (m ++ attributes es fs (fieldAfter (formOf e) k) (digitAfter (formOf e) j))) 0x2f ≡ false)
-        → eqb (last (l ++ (cond a [] (attribute (nameOf e) (valueFor (formOf e) fs k j)) ++ attributes es fs (fieldAfter (formOf e) k) (digitAfter (formOf e) j))))
+        → eqb (last (l ++ (cond a [] (attribute (nameOf e) (valueFor (formOf e) fs k j)) ++ attributes es fs (fieldAfter (formOf e) k)
+        (digitAfter (formOf e) j))))
         0x2f ≡ false
     go true ih = ih l h
     go false ih =
@@ -258,8 +280,9 @@ pub open-left : (n k : ℕ) (e : Element k) (fs : List (List ℕ)) (first : ℕ)
     → closed (0x0a ∷ (blanks n ++ (0x3c ∷ (nameFor k ++ (attributes (entriesOf k) fs first 1 ++ []))))) ≡ false
 open-left n k e fs first =
     let front : List ℕ = 0x0a ∷ (blanks n ++ (0x3c ∷ [])) in
-    let shape : 0x0a ∷ (blanks n ++ (0x3c ∷ (nameFor k ++ (attributes (entriesOf k) fs first 1 ++ [])))) ≡ (front ++ nameFor k) ++ attributes (entriesOf k) fs first 1 =
-        rw (append-nil (attributes (entriesOf k) fs first 1), append-assoc front (nameFor k) (attributes (entriesOf k) fs first 1))
-        (ap (λ (l : List ℕ). 0x0a ∷ l) (sym (append-assoc (blanks n) (0x3c ∷ []) (nameFor k ++ attributes (entriesOf k) fs first 1)))) in
+    let shape : 0x0a ∷ (blanks n ++ (0x3c ∷ (nameFor k ++ (attributes (entriesOf k) fs first 1 ++ [])))) ≡ (front ++ nameFor k) ++ attributes
+    (entriesOf k) fs first 1 =
+    rw (append-nil (attributes (entriesOf k) fs first 1), append-assoc front (nameFor k) (attributes (entriesOf k) fs first 1))
+    (ap (λ (l : List ℕ). 0x0a ∷ l) (sym (append-assoc (blanks n) (0x3c ∷ []) (nameFor k ++ attributes (entriesOf k) fs first 1)))) in
     ap (λ (l : List ℕ). eqb (last l) 0x2f) shape
     ∙ last-attributes fs (entriesOf k) first 1 (front ++ nameFor k) (last-letter (nameFor k) (e .named) (e .some-name) front)

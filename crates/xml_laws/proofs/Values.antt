@@ -30,7 +30,8 @@ module _ (Q : ℕ → List ℕ → Type 0) (rest : List ℕ)
     (gt : Q 0x3e (0x26 ∷ 0x67 ∷ 0x74 ∷ 0x3b ∷ rest)) (quot : Q 0x22 (0x26 ∷ 0x71 ∷ 0x75 ∷ 0x6f ∷ 0x74 ∷ 0x3b ∷ rest))
     (apos : Q 0x27 (0x26 ∷ 0x61 ∷ 0x70 ∷ 0x6f ∷ 0x73 ∷ 0x3b ∷ rest)) where
   by-byte : (x : ℕ)
-      → ((x ≡ 0x26 → ⊥) → (x ≡ 0x3c → ⊥) → (x ≡ 0x3e → ⊥) → (x ≡ 0x22 → ⊥) → (x ≡ 0x27 → ⊥) → Q x (x ∷ rest)) → Q x (escapeOf x ++ rest)
+      → ((x ≡ 0x26 → ⊥) → (x ≡ 0x3c → ⊥) → (x ≡ 0x3e → ⊥) → (x ≡ 0x22 → ⊥) → (x ≡ 0x27 → ⊥) → Q x (x ∷ rest))
+      → Q x (escapeOf x ++ rest)
   by-byte x other = go (eqb x 0x26) (eqb x 0x3c) (eqb x 0x3e) (eqb x 0x22) (eqb x 0x27) refl refl refl refl refl
     where
       go : (a b c d e : Bool) → eqb x 0x26 ≡ a → eqb x 0x3c ≡ b → eqb x 0x3e ≡ c → eqb x 0x22 ≡ d → eqb x 0x27 ≡ e
@@ -57,7 +58,8 @@ onto-named : (x : ℕ) (ps : List (List ℕ)) → 1 ≤ length ps → allNamed (
 onto-named x [] h = absurd (omega arith)
 onto-named x (p ∷ ps) h = refl
 
-some-front : (ps : List (List ℕ)) → 1 ≤ length ps → (Q : List (List ℕ) → Type 0) → ((p : List ℕ) (qs : List (List ℕ)) → Q (p ∷ qs)) → Q ps
+some-front : (ps : List (List ℕ)) → 1 ≤ length ps → (Q : List (List ℕ) → Type 0) → ((p : List ℕ) (qs : List (List ℕ)) → Q (p ∷ qs))
+    → Q ps
 some-front [] h Q f = absurd (omega arith)
 some-front (p ∷ ps) h Q f = f p ps
 
@@ -72,7 +74,8 @@ undo-escaped (x ∷ xs) =
     by-byte
     (λ y l. undo l ≡ y ∷ xs)
     (escaped xs)
-    (some-front ps some (λ qs. plainly ([] ∷ onto 0x61 (onto 0x6d (onto 0x70 (onto 0x3b qs)))) ≡ 0x26 ∷ plainly qs) (λ p qs. refl) ∙ ap (λ l. 0x26 ∷ l) ih)
+    (some-front ps some (λ qs. plainly ([] ∷ onto 0x61 (onto 0x6d (onto 0x70 (onto 0x3b qs)))) ≡ 0x26 ∷ plainly qs) (λ p qs. refl) ∙ ap
+    (λ l. 0x26 ∷ l) ih)
     (some-front ps some (λ qs. plainly ([] ∷ onto 0x6c (onto 0x74 (onto 0x3b qs))) ≡ 0x3c ∷ plainly qs) (λ p qs. refl) ∙ ap (λ l. 0x3c ∷ l) ih)
     (some-front ps some (λ qs. plainly ([] ∷ onto 0x67 (onto 0x74 (onto 0x3b qs))) ≡ 0x3e ∷ plainly qs) (λ p qs. refl) ∙ ap (λ l. 0x3e ∷ l) ih)
     (some-front ps some (λ qs. plainly ([] ∷ onto 0x71 (onto 0x75 (onto 0x6f (onto 0x74 (onto 0x3b qs))))) ≡ 0x22 ∷ plainly qs) (λ p qs. refl)
@@ -151,9 +154,13 @@ escaped-digits (x ∷ xs) w =
     let r : (leb x 57 && within 48 57 xs) ≡ true = and-right (leb 48 x) _ w in
     let high : x ≤ 57 = leb-true x 57 (and-left (leb x 57) (within 48 57 xs) r) in
     let ih : escaped xs ≡ xs = escaped-digits xs (and-right (leb x 57) (within 48 57 xs) r) in
-    rw
-    (ne-eqb x 0x26 (λ e. omega arith), ne-eqb x 0x3c (λ e. omega arith), ne-eqb x 0x3e (λ e. omega arith), ne-eqb x 0x22 (λ e. omega arith)
-    , ne-eqb x 0x27 (λ e. omega arith))
+    rw (
+      ne-eqb x 0x26 (λ e. omega arith),
+      ne-eqb x 0x3c (λ e. omega arith),
+      ne-eqb x 0x3e (λ e. omega arith),
+      ne-eqb x 0x22 (λ e. omega arith),
+      ne-eqb x 0x27 (λ e. omega arith),
+    )
     (ap (λ l. x ∷ l) ih)
 
 not-is : (b : Bool) → not b ≡ true → b ≡ false
@@ -193,9 +200,12 @@ digit-glyph d h = go (ltb d 10) refl
         rw (le-leb 48 (48 + d) (omega arith), le-leb (48 + d) 57 (omega arith)) (omega arith)
     go false q =
         let l : 10 ≤ d = ltb-false d 10 q in
-        rw
-        (le-leb 48 (65 + (d - 10)) (omega arith), lt-leb (65 + (d - 10)) 57 (omega arith), le-leb 65 (65 + (d - 10)) (omega arith)
-        , le-leb (65 + (d - 10)) 70 (omega arith))
+        rw (
+          le-leb 48 (65 + (d - 10)) (omega arith),
+          lt-leb (65 + (d - 10)) 57 (omega arith),
+          le-leb 65 (65 + (d - 10)) (omega arith),
+          le-leb (65 + (d - 10)) 70 (omega arith),
+        )
         (omega arith)
 
 run-append : (base : ℕ) (l : List ℕ) (x : ℕ) → run base l ≡ length l → digitOf x < base → run base (l ++ (x ∷ [])) ≡ length (l ++ (x ∷ []))
