@@ -4,6 +4,7 @@
 mod help_page;
 
 use check_word::check_file::check_definition;
+use coverage_word::coverage_file::show_coverage;
 use frames_word::frames_file::show_frames;
 use help_page::help;
 use listing_word::listing_file::judge_frame;
@@ -18,7 +19,7 @@ use totals_word::totals_file::show_totals;
 // Does what a word asks for.
 fn obey(word: &[u8]) {
     match find_field(
-        b"frames\tshow\tcheck\ttidy\tlist\tjudge\ttotals\thelp",
+        b"frames\tshow\tcheck\ttidy\tlist\tjudge\ttotals\tcoverage\thelp",
         word,
     ) {
         0 => show_frames(),
@@ -28,7 +29,8 @@ fn obey(word: &[u8]) {
         4 => list_frame(),
         5 => judge_frame(),
         6 => show_totals(),
-        7 => help(),
+        7 => show_coverage(),
+        8 => help(),
         _ => fail_word(word),
     }
 }
