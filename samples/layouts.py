@@ -9,7 +9,7 @@ HASH = 0x9A  # the home id's hash in a beam
 BROADCAST, BROADCAST_LONG_RANGE = 0xFF, 0xFFF
 
 # PTI regions
-US, JAPAN, US_LR = 2, 7, 12
+US, INDIA, JAPAN, US_LR = 2, 5, 7, 12
 # those of Europe's Long Range that take five bits to say
 EU_LR_BACK, EU_LR_END = 16, 17
 # channels of the US region by their rate; Japan's three are all at 100 kbit/s

@@ -26,6 +26,8 @@ pub struct Options {
     pub family: bool,
     // Is a page of totals a table in words?
     pub words: bool,
+    // Does a page of coverage begin with what was never tried?
+    pub missing: bool,
     // The code of the region by which all frames are decoded, if one is named.
     pub has_region: bool,
     pub region: u64,
@@ -73,6 +75,7 @@ impl Options {
             firmware: 2,
             family: false,
             words: false,
+            missing: false,
             has_region: false,
             region: 0,
             count: 0,
@@ -190,6 +193,11 @@ impl Options {
         self
     }
 
+    fn with_missing(mut self) -> Self {
+        self.missing = true;
+        self
+    }
+
     fn opened(mut self, option: u8) -> Self {
         self.open = option;
         self
@@ -211,7 +219,7 @@ fn is_option(bytes: &[u8]) -> bool {
 
 fn take_option(options: Options, k: usize, bytes: &[u8]) -> Options {
     match find_field(
-        b"--definitions\t--plain\t--colour\t--picture\t--progress\t--firmware\t--by-position\t--records\t--beams\t--region\t--words",
+        b"--definitions\t--plain\t--colour\t--picture\t--progress\t--firmware\t--by-position\t--records\t--beams\t--region\t--words\t--missing",
         bytes,
     ) {
         0 => options.opened(DEFINITIONS),
@@ -225,6 +233,7 @@ fn take_option(options: Options, k: usize, bytes: &[u8]) -> Options {
         8 => options.opened(BEAMS),
         9 => options.opened(REGION),
         10 => options.in_words(),
+        11 => options.with_missing(),
         _ => options.with_wrong(k),
     }
 }

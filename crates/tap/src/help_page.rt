@@ -21,6 +21,8 @@ fn help_all() {
                      what captures come to: frames by kind and rate, beams, what was refused
   tap xml FILE       a frame text as the XML that other makers exchange
   tap text FILE      such an XML as a frame text
+  tap coverage FILE CAPTURE ..
+                     what captures have tried of a frame text, and what none has
   tap help           this page
   tap help WORD      what a word does, and what its FILE is
 
@@ -217,10 +219,34 @@ to standard error. At most 524287 bytes of XML are read. docs/XML.md has every e
     succeed();
 }
 
+fn help_coverage() {
+    say(
+        b"tap coverage FILE CAPTURE ..: how often each line of a frame text occurred in the frames of captures, so
+that its author sees what no capture has tried. First how many of its headers, fields and symbols
+were tried, and of the refusals 5, 6 and 7. Then the text in its own order: each kind of frame (an H
+line) with its count, under it, and under each base header, its fields (P lines), and under each
+define set its symbols (E lines), with their values; last the refusals. What did not occur says never
+instead of a count. A field counts where it is there, and a symbol where a field has its value.
+
+  --missing      behind the first numbers all that did not occur, one a line: a field by its path and
+                 with the header that it is of. The fields of a header that did not occur are left out
+  --region CODE  the code of an F line, by which all frames are decoded; without it each frame is
+                 decoded by its own region
+  --progress     every 1000 payloads a count on standard error
+
+Each frame is decoded at its own rate, and a wrong checksum does not matter. A beam has no header and
+is not counted. A payload that is refused is not counted, standard error says which and why, and the
+last line of the output is for the first of them. It takes --firmware and --beams as tap frames does.
+FILE or one CAPTURE may be -.
+",
+    );
+    succeed();
+}
+
 // The page of a word.
 fn help_word(word: &[u8]) {
     match find_field(
-        b"frames\tshow\tcheck\ttidy\tlist\tjudge\ttotals\txml\ttext\thelp",
+        b"frames\tshow\tcheck\ttidy\tlist\tjudge\ttotals\txml\ttext\tcoverage\thelp",
         word,
     ) {
         0 => help_frames(),
@@ -232,7 +258,8 @@ fn help_word(word: &[u8]) {
         6 => help_totals(),
         7 => help_xml(),
         8 => help_text(),
-        9 => help_all(),
+        9 => help_coverage(),
+        10 => help_all(),
         _ => fail_word(word),
     }
 }

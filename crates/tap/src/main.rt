@@ -4,6 +4,7 @@
 mod help_page;
 
 use check_word::check_file::check_definition;
+use coverage_word::coverage_file::show_coverage;
 use frames_word::frames_file::show_frames;
 use help_page::help;
 use listing_word::listing_file::judge_frame;
@@ -20,7 +21,7 @@ use xml_word::xml_file::write_xml;
 // Does what a word asks for.
 fn obey(word: &[u8]) {
     match find_field(
-        b"frames\tshow\tcheck\ttidy\tlist\tjudge\ttotals\txml\ttext\thelp",
+        b"frames\tshow\tcheck\ttidy\tlist\tjudge\ttotals\txml\ttext\tcoverage\thelp",
         word,
     ) {
         0 => show_frames(),
@@ -32,7 +33,8 @@ fn obey(word: &[u8]) {
         6 => show_totals(),
         7 => write_xml(),
         8 => write_text(),
-        9 => help(),
+        9 => show_coverage(),
+        10 => help(),
         _ => fail_word(word),
     }
 }

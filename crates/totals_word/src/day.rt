@@ -45,7 +45,7 @@ impl Day {
         }
     }
 
-    fn with_payload(mut self) -> Self {
+    pub fn with_payload(mut self) -> Self {
         self.payloads = wrapping_add_u64(self.payloads, 1);
         self
     }
@@ -71,7 +71,7 @@ impl Day {
 }
 
 // How far it is, every 1,000 payloads.
-fn tell_progress(options: Options, day: Day) {
+pub fn tell_progress(options: Options, day: Day) {
     if options.progress {
         if day.payloads % 1000 == 0 {
             io::write_all(STDERR_FILENO, b"\r");
@@ -92,7 +92,7 @@ fn say_refused(refusal: Refusal, day: Day) {
     io::write_all(STDERR_FILENO, b"\n");
 }
 
-fn refuse_payload(refusal: Refusal, day: Day) -> Day {
+pub fn refuse_payload(refusal: Refusal, day: Day) -> Day {
     say_refused(refusal, day);
     day.refused(refusal)
 }
@@ -158,7 +158,7 @@ fn take_payload(
 }
 
 // A line that is no hex text.
-fn pass_line(line: u64, column: u64, day: Day) -> Day {
+pub fn pass_line(line: u64, column: u64, day: Day) -> Day {
     io::write_all(STDERR_FILENO, b"tap: line ");
     io::print_decimal(STDERR_FILENO, line);
     io::write_all(

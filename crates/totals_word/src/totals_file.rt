@@ -54,7 +54,7 @@ fn show_page(text: &[u8], options: Options, totals: &[u64; TOTALS]) {
 }
 
 // The last line.
-fn end(day: Day) {
+pub fn end(day: Day) {
     let verdict = day.verdict;
     match verdict {
         Verdict::Fine => succeed(),

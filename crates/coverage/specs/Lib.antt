@@ -1,0 +1,2 @@
+pub mod Coverage
+mod Examples
