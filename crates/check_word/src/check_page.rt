@@ -204,6 +204,8 @@ fn say_reason(is_frame: bool, text: &[u8], refusal: Refusal, line: &[u8]) {
         Refusal::NoSuchField(_) => {}
         Refusal::MoreBytes(_) => {}
         Refusal::Firmware(_) => {}
+        Refusal::Xml(_) => {}
+        Refusal::NotPlain(_) => {}
         Refusal::Listing(_) => {}
     }
 }

@@ -25,6 +25,8 @@ fn put_words(out: &mut Buffer, at: usize, refusal: Refusal, k: usize, width: usi
   - no such field (11)\trow \t is no such field
   - text too long (12)\tit has \t bytes, more than there is room for
   - unknown firmware (13)\tthere is no capture firmware \t, only 2 and 3
+  - not such XML (14)	it is outside of what is read at byte 	
+  - out of plain form (15)	its line 	 stands out of plain form
   - not a listing (16)\tline \t is not a line of a listing
 ";
     let line: u64 = match refusal {
@@ -41,7 +43,9 @@ fn put_words(out: &mut Buffer, at: usize, refusal: Refusal, k: usize, width: usi
         Refusal::NoSuchField(_) => 11,
         Refusal::MoreBytes(_) => 12,
         Refusal::Firmware(_) => 13,
-        Refusal::Listing(_) => 14,
+        Refusal::Xml(_) => 14,
+        Refusal::NotPlain(_) => 15,
+        Refusal::Listing(_) => 16,
     };
     put_left(out, at, field_of(numbered_line(words, line), k), width)
 }

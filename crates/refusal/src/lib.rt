@@ -1,4 +1,4 @@
-// Why a call refuses: R1 to R9, TO5, BM3, U5, FV2 and LS2 of docs/RULES.md. One case a number, with what it carries.
+// Why a call refuses: R1 to R9, TO5, BM3, U5, FV2, X1, X2 and LS2 of docs/RULES.md. One case a number, with what it carries.
 // Every public call of the tap answers with its numbers or with one of these.
 ghost use mathlib.Core.Path.{_≡_};
 ghost use Rattle.refusal.specs.Refusal.{numberOf, carriedBy};
@@ -30,6 +30,10 @@ pub enum Refusal {
     MoreBytes(usize),
     // 13: there is no such capture firmware. Carries its number.
     Firmware(usize),
+    // 14: the XML is outside of what is read. Carries the place of the byte.
+    Xml(usize),
+    // 15: a line of a text stands out of plain form. Carries the line, from 1.
+    NotPlain(usize),
     // 16: a line of a listing is not of its form. Carries the line, from 1.
     Listing(usize),
 }
@@ -53,11 +57,13 @@ impl Refusal {
             Refusal::NoSuchField(_) => 11,
             Refusal::MoreBytes(_) => 12,
             Refusal::Firmware(_) => 13,
+            Refusal::Xml(_) => 14,
+            Refusal::NotPlain(_) => 15,
             Refusal::Listing(_) => 16,
         }
     }
 
-    // What it carries: a line, a length, a key, a count of rows, a row's number or a firmware's; 0 where it carries nothing.
+    // What it carries: a line, a length, a key, a count of rows, a place, a row's number or a firmware's; 0 where it carries nothing.
     pub fn carried(self) -> usize
         ensures { λ r. ⌜ r ≡ carriedBy self ⌝ }
     {
@@ -75,6 +81,8 @@ impl Refusal {
             Refusal::NoSuchField(row) => row,
             Refusal::MoreBytes(length) => length,
             Refusal::Firmware(number) => number,
+            Refusal::Xml(place) => place,
+            Refusal::NotPlain(line) => line,
             Refusal::Listing(line) => line,
         }
     }
