@@ -25,8 +25,8 @@ fn put_words(out: &mut Buffer, at: usize, refusal: Refusal, k: usize, width: usi
   - no such field (11)\trow \t is no such field
   - text too long (12)\tit has \t bytes, more than there is room for
   - unknown firmware (13)\tthere is no capture firmware \t, only 2 and 3
-  - not such XML (14)	it is outside of what is read at byte 	
-  - out of plain form (15)	its line 	 stands out of plain form
+  - not such XML (14)\tit is outside of what is read at byte \t
+  - out of plain form (15)\tits line \t stands out of plain form
   - not a listing (16)\tline \t is not a line of a listing
 ";
     let line: u64 = match refusal {
