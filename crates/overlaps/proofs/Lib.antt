@@ -1,0 +1,5 @@
+pub mod Alike
+pub mod Forks
+pub mod Values
+pub mod Apart
+pub mod Harmless

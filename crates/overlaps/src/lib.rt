@@ -1,0 +1,1 @@
+// Headers of a frame text that cannot hold together.
