@@ -3,26 +3,25 @@ use mathlib.Core.Path.{_≡_, refl, sym, ap, _∙_, subst}
 use mathlib.Core.Bool.{Bool, true, false, cond, _&&_, true≢false, false≢true}
 use mathlib.Core.List.{List, [], _∷_, _++_, map, head-eq-of-cons-eq, tail-eq-of-cons-eq, append-assoc}
 use mathlib.Core.Option.{Option, none, some}
-use Prim.Native.Nat.{ℕ, _≤_, _<_}
+use Prim.Native.Nat.{ℕ, _≤_}
 use native.Mathlib.Omega.{arith}
 use lib.Dec.{eqb, leb}
-use borrow.Author.Tests.{leb-true, leb-false, eqb-true, eq-eqb}
+use borrow.Author.Tests.{leb-true, eqb-true, eq-eqb}
 use Rattle.laws.proofs.Bools.{and-left, and-right}
 use Rattle.text.specs.Print.{Every}
-use Rattle.frame_text.specs.Form.{Path, Param}
-use Rattle.frame_definition.specs.Definition.{Numbered, Validation, Frame, definition, isKey, some?, candidates}
+use Rattle.frame_text.specs.Form.{Path}
+use Rattle.frame_definition.specs.Definition.{Numbered, Validation, Frame, isKey, some?, candidates}
 use Rattle.header_rules.specs.Data.{P, Field, Candidate}
 use Rattle.header_rules.specs.Find.{valueAt}
 use Rattle.header_rules.specs.Walk.{reading}
-use Rattle.header_rules.specs.Demand.{Meets, Holds, None}
+use Rattle.header_rules.specs.Demand.{Meets, Holds}
 use Rattle.header_rules.specs.Trees.{trees, candidateOf}
-use Rattle.header_rules.specs.Told.{candidatesOf}
 use Rattle.header_rules.proofs.Lawful.{none-split}
 use Rattle.header_rules.proofs.Reading.{reading-only}
 use Rattle.header_rules.proofs.Run.{every-split}
 use Rattle.reorder.specs.Reorder.{Only}
 use Rattle.reorder.proofs.Answers.{every-none}
-use Rattle.overlaps.specs.Overlaps.{samePath, greater, Head, headOf, ofOneBase, together, decides, tellOne, tellEach, tellAll, tell, areApart}
+use Rattle.overlaps.specs.Overlaps.{samePath, greater, headOf, ofOneBase, together, decides, tellOne, tellEach, tellAll, areApart}
 use Rattle.overlaps.specs.Overlaps.{saidBy, apartFromAll, allApart}
 use Rattle.overlaps.proofs.Alike.{path-is}
 use Rattle.overlaps.proofs.Values.{agree}

@@ -1,11 +1,11 @@
 -- Two headers' P lines that say the same up to where a path leads, ks trees. Assumes nothing.
-use mathlib.Core.Path.{_≡_, refl, sym, ap, _∙_, subst}
+use mathlib.Core.Path.{_≡_, refl, sym, ap, subst}
 use mathlib.Core.Bool.{Bool, true, false, cond, not, _&&_, _||_, true≢false, false≢true}
 use mathlib.Core.List.{List, [], _∷_, _++_, map}
 use Prim.Native.Nat.{ℕ, zero, suc, _≤_, _<_}
 use native.Mathlib.Omega.{arith}
 use lib.Dec.{eqb, leb, ltb}
-use borrow.Author.Tests.{leb-true, eqb-true, ltb-true, ltb-false, le-ltb, ne-eqb}
+use borrow.Author.Tests.{leb-true, eqb-true, ltb-false, le-ltb, ne-eqb}
 use Rattle.laws.proofs.Bools.{and-left, and-right}
 use Rattle.text.specs.Text.{same}
 use Rattle.text.specs.Print.{Every}
@@ -14,7 +14,7 @@ use Rattle.frame_text.specs.Form.{Path, Param}
 use Rattle.frame_definition.specs.Definition.{Numbered}
 use Rattle.header_rules.specs.Data.{Name, Node, Kid, P}
 use Rattle.header_rules.specs.Order.{Before, Rising}
-use Rattle.header_rules.specs.Trees.{node, ofLevel, kids, trees}
+use Rattle.header_rules.specs.Trees.{node, ofLevel, kids}
 use Rattle.overlaps.specs.Overlaps.{alike, hasOuter, clearOf, straight, leads}
 use Rattle.overlaps.proofs.Alike.{alike-is}
 

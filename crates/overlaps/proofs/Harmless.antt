@@ -1,7 +1,7 @@
 -- A text whose headers are all apart: no order of its H blocks matters, for any MPDU. Assumes nothing.
-use mathlib.Core.Path.{_≡_, refl, sym, ap, _∙_, subst}
+use mathlib.Core.Path.{_≡_, refl, sym, ap, _∙_}
 use mathlib.Core.Bool.{Bool, true, false, cond}
-use mathlib.Core.List.{List, [], _∷_, _++_, map}
+use mathlib.Core.List.{List, _∷_, _++_, map}
 use mathlib.Core.Option.{Option, none, some}
 use Prim.Native.Nat.{ℕ, _/_}
 use lib.Dec.{ltb}
@@ -16,17 +16,16 @@ use Rattle.header_rules.specs.Data.{P, Field, Candidate}
 use Rattle.header_rules.specs.Answer.{Answer, answered, refused, answer}
 use Rattle.header_rules.specs.Demand.{Holds, First, Answers}
 use Rattle.header_rules.specs.Table.{rowWidth}
-use Rattle.header_rules.specs.Told.{Heading, Told, no-base, no-candidate, more-rows, header, candidatesOf, ofAnswer, told}
+use Rattle.header_rules.specs.Told.{Told, no-base, no-candidate, more-rows, header, candidatesOf, ofAnswer, told}
 use Rattle.header_rules.specs.Trees.{trees}
 use Rattle.header_rules.proofs.Answer.{answer-says, answer-only}
 use Rattle.header.specs.declared.Decoded.{Decoded}
 use Rattle.header.specs.declared.Decoded.the-variants.{Header, Refused}
-use Rattle.header.specs.Decode.{headerOf, ofTold, sized, judged, keyOf, toldOf, decoded, rowsOf, tableAfter, Decodes}
+use Rattle.header.specs.Decode.{ofTold, sized, keyOf, toldOf, decoded, rowsOf, tableAfter, Decodes}
 use Rattle.reorder.specs.Moved.{Moved}
-use Rattle.reorder.specs.Blocks.{sectionsOf}
-use Rattle.reorder.specs.Reorder.{Reordered, newHeader, newParam, renumbered, withNumber, Only}
+use Rattle.reorder.specs.Reorder.{Reordered, newHeader, newParam, renumbered, Only}
 use Rattle.reorder.proofs.Accepted.{accepted-after}
-use Rattle.reorder.proofs.Answers.{none-moved, only-first, only-moved, retold, reheading}
+use Rattle.reorder.proofs.Answers.{none-moved, only-first, only-moved, retold}
 use Rattle.reorder.proofs.Reorder.{key-is, stands, stands-moved, none-told-before, told-none, told-before, told-after}
 use Rattle.reorder.proofs.Texts.{follows}
 use Rattle.overlaps.specs.Overlaps.{harmless}

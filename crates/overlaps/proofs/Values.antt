@@ -1,6 +1,6 @@
 -- What a path finds by two headers of one base. Assumes nothing.
-use mathlib.Core.Path.{_≡_, refl, sym, ap, _∙_, subst}
-use mathlib.Core.Bool.{Bool, true, false, cond, not, _&&_, _||_, false≢true}
+use mathlib.Core.Path.{_≡_, refl, sym, ap, _∙_}
+use mathlib.Core.Bool.{Bool, true, false, cond, not, _&&_, _||_}
 use mathlib.Core.List.{List, [], _∷_, _++_, map}
 use mathlib.Core.Option.{Option, none, some}
 use Prim.Native.Nat.{ℕ, zero, suc, _+_, _-_}
@@ -15,9 +15,9 @@ use Rattle.header_rules.specs.Data.{Name, Path, Node, Kid, P, Seen, Inner, Fiel
 use Rattle.header_rules.specs.Find.{valueOf, firstNamed, through, inFirst, valueAt, widthOf}
 use Rattle.header_rules.specs.Order.{Rising, ordered}
 use Rattle.header_rules.specs.Walk.{exists, packed, innerAt, fieldAt, listed, baseRead, reading}
-use Rattle.header_rules.specs.Trees.{node, kids, trees}
+use Rattle.header_rules.specs.Trees.{node, trees}
 use Rattle.header_rules.proofs.Order.{ordered-only, every-ordered}
-use Rattle.header_rules.proofs.Renumber.{renode, refield, value-same, reading-same}
+use Rattle.header_rules.proofs.Renumber.{renode, value-same, reading-same}
 use Rattle.header_rules.proofs.Trees.{trees-renumber, renumber}
 use Rattle.overlaps.specs.Overlaps.{hasOuter, straight, leads, saidBy, decides}
 use Rattle.overlaps.proofs.Forks.{plainly, zeroed, Other, Fork, Deeper, ofLines, outer, no-outer}
