@@ -1,6 +1,6 @@
 -- P lines that say the same are the same. Assumes nothing.
 use mathlib.Core.Path.{_≡_, refl, sym, ap, _∙_}
-use mathlib.Core.Bool.{Bool, true, _&&_, false≢true}
+use mathlib.Core.Bool.{Bool, true, false≢true}
 use mathlib.Core.List.{[], _∷_}
 use mathlib.Core.Option.{Option, none, some}
 use lib.Dec.{eqb}
@@ -12,7 +12,7 @@ use Rattle.frame_text.specs.Form.{Path, Param}
 use Rattle.frame_text.specs.declared.ParamType.{ParamType}
 use Rattle.frame_text.specs.declared.ParamType.the-variants.{Hex, Number, NumberSigned, NodeNumber, Boolean, Bitmask}
 use Rattle.header_fields.specs.Fields.{typeNumber, typeBy}
-use Rattle.overlaps.specs.Overlaps.{sameOption, samePath, alike}
+use Rattle.overlaps.specs.Overlaps.{sameOption, samePath, sameNumbers, sameNames, samePaths, alike}
 
 pub path-is : (a b : Path) → samePath a b ≡ true → a ≡ b
 path-is [] [] e = refl
@@ -42,18 +42,18 @@ type-is a b e = sym (type-by a) ∙ ap typeBy (eqb-true (typeNumber a) (typeNumb
 
 pub alike-is : (p q : Param) → alike p q ≡ true → p ≡ q
 alike-is p q e =
-    let front = and-left ((eqb (p .level) (q .level) && eqb (p .order) (q .order)) && (eqb (p .bits) (q .bits) && eqb (typeNumber (p .type)) (typeNumber (q .type)))) _ e in
-    let back = and-right ((eqb (p .level) (q .level) && eqb (p .order) (q .order)) && (eqb (p .bits) (q .bits) && eqb (typeNumber (p .type)) (typeNumber (q .type)))) _ e in
-    let places = and-left (eqb (p .level) (q .level) && eqb (p .order) (q .order)) _ front in
-    let kinds = and-right (eqb (p .level) (q .level) && eqb (p .order) (q .order)) _ front in
-    let names = and-left (same (p .name) (q .name) && sameOption same (p .set) (q .set)) _ back in
-    let paths = and-right (same (p .name) (q .name) && sameOption same (p .set) (q .set)) _ back in
-    let level : p .level ≡ q .level = eqb-true (p .level) (q .level) (and-left (eqb (p .level) (q .level)) _ places) in
-    let order : p .order ≡ q .order = eqb-true (p .order) (q .order) (and-right (eqb (p .level) (q .level)) _ places) in
+    let numbers = and-left (sameNumbers p q) _ e in
+    let words = and-right (sameNumbers p q) _ e in
+    let labels = and-left (sameNames p q) (samePaths p q) words in
+    let paths = and-right (sameNames p q) (samePaths p q) words in
+    let below = and-right (eqb (p .level) (q .level)) _ numbers in
+    let kinds = and-right (eqb (p .order) (q .order)) _ below in
+    let level : p .level ≡ q .level = eqb-true (p .level) (q .level) (and-left (eqb (p .level) (q .level)) _ numbers) in
+    let order : p .order ≡ q .order = eqb-true (p .order) (q .order) (and-left (eqb (p .order) (q .order)) _ below) in
     let bits : p .bits ≡ q .bits = eqb-true (p .bits) (q .bits) (and-left (eqb (p .bits) (q .bits)) _ kinds) in
     let type : p .type ≡ q .type = type-is (p .type) (q .type) (and-right (eqb (p .bits) (q .bits)) _ kinds) in
-    let name : p .name ≡ q .name = same-is (p .name) (q .name) (and-left (same (p .name) (q .name)) _ names) in
-    let set : p .set ≡ q .set = option-is same same-is (p .set) (q .set) (and-right (same (p .name) (q .name)) _ names) in
+    let name : p .name ≡ q .name = same-is (p .name) (q .name) (and-left (same (p .name) (q .name)) _ labels) in
+    let set : p .set ≡ q .set = option-is same same-is (p .set) (q .set) (and-right (same (p .name) (q .name)) _ labels) in
     let optional : p .optional ≡ q .optional =
     option-is samePath path-is (p .optional) (q .optional) (and-left (sameOption samePath (p .optional) (q .optional)) _ paths) in
     let size : p .size ≡ q .size = option-is samePath path-is (p .size) (q .size) (and-right (sameOption samePath (p .optional) (q .optional)) _ paths) in

@@ -2,4 +2,5 @@ pub mod Alike
 pub mod Forks
 pub mod Values
 pub mod Apart
-pub mod Harmless
+pub mod Orders
+pub mod Laws

@@ -1,2 +1,4 @@
 pub mod Overlaps
 pub mod Answers
+pub mod Read
+pub mod Calls

@@ -1,5 +1,5 @@
 -- OV1 to OV5 (docs/RULES.md): may two headers of a frame text hold together?
-use Prim.Native.Nat.{ℕ, suc}
+use Prim.Native.Nat.{ℕ, zero, suc}
 use mathlib.Core.Bool.{Bool, true, false, cond, not, _&&_, _||_}
 use mathlib.Core.List.{List, [], _∷_, map}
 use mathlib.Core.Option.{Option, none, some}
@@ -29,12 +29,22 @@ greater a b = cond (leb a b) b a
 
 -- ---- P lines
 
--- do two P lines say the same
+-- have two P lines the same level, order, bits and type
+abbrev pub sameNumbers : Param → Param → Bool
+sameNumbers p q =
+    eqb (p .level) (q .level) && (eqb (p .order) (q .order) && (eqb (p .bits) (q .bits) && eqb (typeNumber (p .type)) (typeNumber (q .type))))
+
+-- the same name and define set
+abbrev pub sameNames : Param → Param → Bool
+sameNames p q = same (p .name) (q .name) && sameOption same (p .set) (q .set)
+
+-- the same optional path and size path
+abbrev pub samePaths : Param → Param → Bool
+samePaths p q = sameOption samePath (p .optional) (q .optional) && sameOption samePath (p .size) (q .size)
+
+-- do they say the same
 abbrev pub alike : Param → Param → Bool
-alike p q =
-    ((eqb (p .level) (q .level) && eqb (p .order) (q .order)) && (eqb (p .bits) (q .bits) && eqb (typeNumber (p .type)) (typeNumber (q .type))))
-    && ((same (p .name) (q .name) && sameOption same (p .set) (q .set))
-    && (sameOption samePath (p .optional) (q .optional) && sameOption samePath (p .size) (q .size)))
+alike p q = sameNumbers p q && (sameNames p q && samePaths p q)
 
 -- OV2: has an outer P of these this name
 abbrev pub hasOuter : List ℕ → List Param → Bool
@@ -133,3 +143,19 @@ headsOf t = map headOf (definition t .frames)
 -- OV5: every two headers of one base are apart
 unfoldable pub harmless : List ℕ → Bool
 harmless t = allApart (headsOf t)
+
+-- ---- by number
+
+abbrev pub headOfNumber : ℕ → List Head → Option Head
+headOfNumber n [] = none
+headOfNumber zero (f ∷ fs) = some f
+headOfNumber (suc n) (f ∷ fs) = headOfNumber n fs
+
+abbrev pub tellBoth : Option Head → Option Head → ℕ
+tellBoth none g = 4
+tellBoth (some f) none = 4
+tellBoth (some f) (some g) = tell f g
+
+-- OV4: what is told of the headers of two numbers: 4 too where there is none of a number
+unfoldable pub tellNumbers : List ℕ → ℕ → ℕ → ℕ
+tellNumbers t a b = tellBoth (headOfNumber a (headsOf t)) (headOfNumber b (headsOf t))
