@@ -5,3 +5,4 @@ pub mod Nodes
 pub mod Listings
 pub mod Values
 pub mod Totals
+pub mod Orders

@@ -23,7 +23,8 @@ path-is (x ∷ xs) (y ∷ ys) e =
     let t : xs ≡ ys = path-is xs ys (and-right (same x y) (samePath xs ys) e) in
     λ i. h i ∷ t i
 
-option-is : {A : Type 0} (test : A → A → Bool) → ((x y : A) → test x y ≡ true → x ≡ y) → (a b : Option A) → sameOption test a b ≡ true → a ≡ b
+option-is : {A : Type 0} (test : A → A → Bool) → ((x y : A) → test x y ≡ true → x ≡ y) → (a b : Option A) → sameOption test a b ≡ true
+    → a ≡ b
 option-is test is none none e = refl
 option-is test is none (some y) e = absurd (false≢true e)
 option-is test is (some x) none e = absurd (false≢true e)

@@ -122,7 +122,8 @@ module _ (key : ℕ) (d : List ℕ) (base : List (P 7)) where
       (and-left (areApart (headOf f) (headOf g)) (apartFromAll (headOf f) (map headOf gs)) e)
       (fails-behind f kf fs h gs (and-right (areApart (headOf f) (headOf g)) (apartFromAll (headOf f) (map headOf gs)) e))
     where
-      go : (b : Bool) → (isKey key (g .says .base) && some? (g .validations)) ≡ b → areApart (headOf f) (headOf g) ≡ true → Every Fails (standing gs)
+      go : (b : Bool) → (isKey key (g .says .base) && some? (g .validations)) ≡ b → areApart (headOf f) (headOf g) ≡ true
+          → Every Fails (standing gs)
           → Every Fails (map candidateOf (cond b (g ∷ candidates key gs) (candidates key gs)))
       go true kg a ih = (λ zs k. apart-no key f g kf kg a d base fs zs h k, ih)
       go false kg a ih = ih

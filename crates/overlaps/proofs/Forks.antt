@@ -76,7 +76,8 @@ clear-every n level order name (p ∷ ps) e =
     go false true true q true r e ih = absurd (false≢true e)
     go false true false q s r e ih = absurd (false≢true e)
 
-before-every : {K : Type 0} (p : Node K) (name : Name) (ks : List (Node K)) → Every (λ (k : Node K). (p .order ≤ k .order) × Other name k) ks → Before p ks
+before-every : {K : Type 0} (p : Node K) (name : Name) (ks : List (Node K)) → Every (λ (k : Node K). (p .order ≤ k .order) × Other name k) ks
+    → Before p ks
 before-every p name [] a = tt
 before-every p name (k ∷ ks) a = (a .0 .0, before-every p name ks (a .1))
 
@@ -99,7 +100,8 @@ rising n level (p ∷ ps) e =
         subst (λ (k : ℕ). clearOf k (p .order) (p .name) ps ≡ true) (eqb-true (p .level) level q) c in
         (before-every it (p .name) (ofLines n level ps) (clear-every n level (p .order) (p .name) ps at), ih)
 
-others-of : {K : Type 0} (order : ℕ) (name x : Name) → name ≡ x → (ks : List (Node K)) → Every (λ (k : Node K). (order ≤ k .order) × Other name k) ks
+others-of : {K : Type 0} (order : ℕ) (name x : Name) → name ≡ x → (ks : List (Node K))
+    → Every (λ (k : Node K). (order ≤ k .order) × Other name k) ks
     → Every (Other x) ks
 others-of order name x e [] a = tt
 others-of order name x e (k ∷ ks) a = (subst (λ (y : Name). same (k .name) y ≡ false) e (a .0 .1), others-of order name x e ks (a .1))

@@ -28,7 +28,7 @@ use Rattle.text.specs.declared.Part.{Part}
 use Rattle.text.specs.declared.Place.{Place}
 use Rattle.text.specs.declared.Verdict.{Verdict}
 use Rattle.text.specs.declared.Verdict.the-variants.{Accepted, Refused as NotAccepted}
-use Rattle.text.proofs.Laws.{split-last, split-more}
+use Rattle.text.proofs.Laws.{front-count, split-last, split-more}
 use Rattle.text.proofs.Printing.{same-is, joined-split}
 use Rattle.text.specs.Print.{joined}
 use Rattle.text.proofs.Reading.{readable-start, rest-end}
@@ -44,7 +44,8 @@ use Rattle.frame_definition.specs.declared.NextValidation.the-variants as nextV
 use Rattle.frame_definition.proofs.Candidates.{header-has}
 use Rattle.frame_definition.proofs.Finding.{Lined, lined, good-line, Over, over-line, kind-at, over-less, said-good}
 use Rattle.header_fields.specs.Fields.{typeNumber}
-use Rattle.overlaps.specs.Overlaps.{sameOption, samePath, greater, sameNumbers, sameNames, samePaths, alike, hasOuter, clearOf, straight, leads, Head, saidBy}
+use Rattle.overlaps.specs.Overlaps.{sameOption, samePath, greater, sameNumbers, sameNames, samePaths, alike, hasOuter, clearOf, straight}
+use Rattle.overlaps.specs.Overlaps.{leads, Head, saidBy}
 use Rattle.overlaps.specs.Overlaps.{headOf, ofOneBase, together, firstName, decides, tellOne, tellEach, tellAll, tell, apartFromAll}
 use Rattle.overlaps.specs.Overlaps.{allApart, headsOf, harmless, headOfNumber, tellNumbers}
 use Rattle.overlaps.specs.Read.{saidAt, validsAt, baseOf, headAt, headsIn, headsAt, IsHead, FindsHead, IsNumbered, FindsNumbered, IsMet, Meets}
@@ -97,7 +98,8 @@ same-names x y = go (same x y) refl (samePath (names x) (names y)) refl
         let z : x ≡ y = sym (joined-split 0x2e x) ∙ ap (joined 0x2e) (path-is (names x) (names y) f) ∙ joined-split 0x2e y in
         sym (sym e ∙ subst (λ (l : List ℕ). same x l ≡ true) z (same-refl x))
 
-pub part-same : (t : List ℕ) (a b : Part) (x y : List ℕ) (r : Bool) → x ≡ take (a .len) (drop (a .start) t) → y ≡ take (b .len) (drop (b .start) t)
+pub part-same : (t : List ℕ) (a b : Part) (x y : List ℕ) (r : Bool) → x ≡ take (a .len) (drop (a .start) t)
+    → y ≡ take (b .len) (drop (b .start) t)
     → r ≡ same x y → r ≡ same (partOf t a) (partOf t b)
 part-same t a b x y r e f q = q ∙ (λ i. same (e i) (f i))
 
@@ -146,7 +148,8 @@ module _ (t : List ℕ) (f g : Field) where
   pub numbers-bits : f .level ≡ g .level → f .order ≡ g .order → (f .bits ≡ g .bits → ⊥) → Numbers false
   numbers-bits l o n = rw (eq-eqb (f .level) (g .level) l, eq-eqb (f .order) (g .order) o, ne-eqb (f .bits) (g .bits) n) refl
 
-  pub numbers-type : f .level ≡ g .level → f .order ≡ g .order → f .bits ≡ g .bits → (a b : ℕ) → a ≡ typeNumber (f .kind) → b ≡ typeNumber (g .kind)
+  pub numbers-type : f .level ≡ g .level → f .order ≡ g .order → f .bits ≡ g .bits → (a b : ℕ) → a ≡ typeNumber (f .kind)
+      → b ≡ typeNumber (g .kind)
       → Numbers (eqb a b)
   numbers-type l o w a b x y =
       rw (eq-eqb (f .level) (g .level) l, eq-eqb (f .order) (g .order) o, eq-eqb (f .bits) (g .bits) w, x, y) refl
@@ -304,7 +307,8 @@ module _ (t : List ℕ) (start p : Place) (w : Left straight t start p) (r : Nex
   pub straight-none : r ≡ nextParam.Nothing → true ≡ straight (saidAt t start)
   straight-none e = sym (w .left ∙ ap straight (said-none t p r found e))
 
-  module _ (f : Field) (q : Place) (e : r ≡ nextParam.At f q) (b : Bool) (says : b ≡ clearOf (f .level) (f .order) (partOf t (f .name)) (saidAt t q)) where
+  module _ (f : Field) (q : Place) (e : r ≡ nextParam.At f q) (b : Bool) (says : b
+      ≡ clearOf (f .level) (f .order) (partOf t (f .name)) (saidAt t q)) where
     one-more : straight (saidAt t start) ≡ (b && straight (saidAt t q))
     one-more = w .left ∙ ap straight (said-next t p r found f q e) ∙ ap (λ (x : Bool). x && straight (saidAt t q)) (sym says)
 
@@ -394,9 +398,6 @@ meet-short t one other level x a b w s beside e =
 pub ruleset meet-laws = (not-true, not-false, meeting-starts, meet-none, meet-short, meet-other, meet-lower, meet-hit, meet-more, said-less)
 
 -- ---- a path, name by name
-pub front-long : (l : List ℕ) (e : ℕ) → e ≤ length l → length (take e l) ≡ e
-front-long l e h = length-take-le e l h
-
 pub record Leading (t : List ℕ) (one other : Place) (path : List ℕ) (a b : Place) (level at : ℕ) : Type 0 where
   pub led : leads 0 (names path) (saidAt t one) (saidAt t other) ≡ leads level (names (drop at path)) (saidAt t a) (saidAt t b)
   pub first : Readable rules t a
@@ -426,7 +427,8 @@ module _ (t : List ℕ) (one other : Place) (path : List ℕ) (a b : Place) (lev
       split-last 46 rest (sym rest-cut ∙ long) ∙ ap (λ (z : List ℕ). z ∷ []) (sym (take-all e rest (omega (arith, long))))
 
   parted : e < length rest → names rest ≡ take e rest ∷ names (drop (e + 1) rest)
-  parted l = subst (λ (k : ℕ). names rest ≡ take k rest ∷ names (drop (k + 1) rest)) (sym rest-cut) (split-more 46 rest (subst (λ (k : ℕ). k < length rest) rest-cut l))
+  parted l = subst (λ (k : ℕ). names rest ≡ take k rest
+      ∷ names (drop (k + 1) rest)) (sym rest-cut) (split-more 46 rest (subst (λ (k : ℕ). k < length rest) rest-cut l))
 
   some-names : e ≤ length (take (length path - at) (drop at path)) → (more : Path) × (names rest ≡ take e rest ∷ more)
   some-names l = go (ltb e (length rest)) refl
@@ -487,7 +489,7 @@ module _ (t : List ℕ) (one other : Place) (path : List ℕ) (a b : Place) (lev
       pub led-less : length path + 1 - (at + e + 1) < length path + 1 - at
       led-less = omega (arith, short, w .within)
 
-pub ruleset led-laws = (front-long, leading-starts, led-none, led-last, led-more, led-fits, led-at, led-sum, led-less)
+pub ruleset led-laws = (front-count, leading-starts, led-none, led-last, led-more, led-fits, led-at, led-sum, led-less)
 
 -- ---- what decides
 module _ (t : List ℕ) (one other : Place) (path : List ℕ) where
@@ -525,7 +527,7 @@ module _ (t : List ℕ) (one other : Place) (path : List ℕ) where
           pub decided-straight : x ≡ true → (y : Bool) → y ≡ straight (saidAt t other) → y ≡ decides (saidAt t one) (saidAt t other) (names path)
           decided-straight q y is-y = rw (outer-one ∙ yes-m, outer-other′ ∙ yes-k, sym is-c ∙ yes-c, sym is-x ∙ q) is-y
 
-pub ruleset decided-laws = (not-true, not-false, front-long, decided-first, decided-second, decided-not, decided-bent, decided-straight)
+pub ruleset decided-laws = (not-true, not-false, front-count, decided-first, decided-second, decided-not, decided-bent, decided-straight)
 
 -- ---- headers
 heads-frames : (h n : ℕ) (rs : List Record) → map headOf (frames h n rs) ≡ headsIn rs
@@ -600,7 +602,8 @@ module _ (t : List ℕ) (start q : Place) (w : Looking t start q) where
       says-header : (headerForm (cells t l) ≡ true) × (form (cells t l) ≡ some (header (headerOf (cells t l))))
       says-header = said-good (cells t l) (headerForm (cells t l)) _ (rw (sym (good .kind-is) ∙ kind-is)) (good .allowed)
 
-      pub looking-hit : (r : Optional) → r ≡ optional 255 (field 2 (cells t l)) → FindsHead t start (nextHeader.At (record { base = r; place = l .next }))
+      pub looking-hit : (r : Optional) → r ≡ optional 255 (field 2 (cells t l))
+          → FindsHead t start (nextHeader.At (record { base = r; place = l .next }))
       unfolding headsAt saidAt validsAt
       looking-hit r e =
           let h : Lined t q l = lined t q l (w .readable) inside step in
@@ -613,7 +616,12 @@ module _ (t : List ℕ) (start q : Place) (w : Looking t start q) where
             first =
                 w .same-heads
                 ∙ ap headsIn (h .rest-is ∙ ap (λ (x : Record). x ∷ from t (l .next)) said-is)
-                ∙ ap (λ (b : Option ℕ). record { base = b; params = saidBy (params 0 (below (from t (l .next)))); validations = validations (below (from t (l .next))) }
+                ∙ ap (λ (b : Option ℕ). record {
+                  base = b;
+                  params = saidBy (params 0 (below (from t (l .next))));
+                  validations = validations (below
+                      (from t (l .next)));
+                }
                 ∷ headsIn (from t (l .next))) (sym (ap baseOf e ∙ base-is (field 2 (cells t l)) based));
             readable = h .next;
             on = omega (arith, w .after, step .passes .on);
@@ -625,14 +633,16 @@ pub head-less : (t : List ℕ) (p : Place) (r : NextHeader) (h : declared.Head) 
     → length t - h .place .at < length t - p .at
 head-less t p r h found e = let is : IsHead t p h = rw e at found in omega (arith, is .on, is .readable .inn .at-in)
 
-pub head-readable : (t : List ℕ) (p : Place) (r : NextHeader) (h : declared.Head) → FindsHead t p r → r ≡ nextHeader.At h → Readable rules t (h .place)
+pub head-readable : (t : List ℕ) (p : Place) (r : NextHeader) (h : declared.Head) → FindsHead t p r → r ≡ nextHeader.At h
+    → Readable rules t (h .place)
 head-readable t p r h found e = let is : IsHead t p h = rw e at found in is .readable
 
 pub record Counting (t : List ℕ) (number left : ℕ) (place : Place) : Type 0 where
   pub counted : headOfNumber number (headsOf t) ≡ headOfNumber left (headsAt t place)
   pub readable : Readable rules t place
 
-pub counting-starts : (t : List ℕ) (number : ℕ) (p : Place) → verdict t ≡ Accepted → p ≡ record { at = 0; line = 1 } → Counting t number number p
+pub counting-starts : (t : List ℕ) (number : ℕ) (p : Place) → verdict t ≡ Accepted → p ≡ record { at = 0; line = 1 }
+    → Counting t number number p
 counting-starts t number p v e =
     record { counted = ap (headOfNumber number) (sym (ap (headsAt t) e ∙ heads-start t)); readable = readable-start rules t p v e }
 
@@ -817,7 +827,8 @@ module _ (a b : Optional) where
   pub base-wrong : a ≡ Wrong → false ≡ ofOneBase (baseOf a) (baseOf b)
   base-wrong e = rw e refl
 
-pub validated-none : (t : List ℕ) (p : Place) (r : NextValidation) → FindsValidation t p r → r ≡ nextValidation.Nothing → false ≡ some? (validsAt t p)
+pub validated-none : (t : List ℕ) (p : Place) (r : NextValidation) → FindsValidation t p r → r ≡ nextValidation.Nothing
+    → false ≡ some? (validsAt t p)
 validated-none t p r found e = sym (ap some? (valids-none t p r found e))
 
 pub validated-some : (t : List ℕ) (p : Place) (r : NextValidation) → FindsValidation t p r → (path : Part) (v : ℕ) (q : Place)

@@ -40,7 +40,8 @@ AtMostOne d base cs =
     → Only 7 d base cs c fs
 
 -- OV5: by a text that is harmless, at most one candidate holds for an MPDU, whatever its base key and base header
-pub one-at-most : (t : List ℕ) → harmless t ≡ true → (key : ℕ) (d : List ℕ) (base : List (P 7)) → AtMostOne d base (candidatesOf key (definition t))
+pub one-at-most : (t : List ℕ) → harmless t ≡ true → (key : ℕ) (d : List ℕ) (base : List (P 7))
+    → AtMostOne d base (candidatesOf key (definition t))
 unfolding harmless
 one-at-most t e key d base = only-one key d base (definition t .frames) e
 

@@ -51,7 +51,8 @@ module _ (n : ℕ) (d : List ℕ) (x : Name) where
       go (exists n d p s before) (none-listed ps (a .1) (s + widthOf n d p before) (before ++ (fieldAt n d p s before ∷ [])))
     where
       go : (b : Bool) → firstNamed x (listed n d ps (s + widthOf n d p before) (before ++ (fieldAt n d p s before ∷ []))) ≡ none
-          → firstNamed x (cond b (fieldAt n d p s before ∷ listed n d ps (s + widthOf n d p before) (before ++ (fieldAt n d p s before ∷ []))) []) ≡ none
+          → firstNamed x (cond b (fieldAt n d p s before ∷ listed n d ps (s + widthOf n d p before) (before ++ (fieldAt n d p s before ∷ []))) [])
+          ≡ none
       go true ih = rw (a .0) ih
       go false ih = refl
 
@@ -76,7 +77,8 @@ module _ (n : ℕ) (d : List ℕ) (x : Name) where
       go true false i j = j
 
   -- two lists that fork at the name x: what the path finds from there on is the same
-  module _ (path : Path) (deeper : Path → List (Inner n) → Option ℕ) (line : Numbered) (ia ib : List (Kid n)) (named : same (line .says .name) x ≡ true)
+  module _ (path : Path) (deeper : Path → List (Inner n)
+      → Option ℕ) (line : Numbered) (ia ib : List (Kid n)) (named : same (line .says .name) x ≡ true)
       (alike : (s : ℕ) (before : List (Field n)) → through d deeper path (some (fieldAt n d (node line ia) s before))
       ≡ through d deeper path (some (fieldAt n d (node line ib) s before))) where
     abbrev Found : List (Field n) → List (Field n) → Type 0
@@ -111,8 +113,10 @@ module _ (n : ℕ) (d : List ℕ) (x : Name) where
         go true ih = rw (o .0) ih
         go false ih = refl
 
-    packed-fork : (front ks ls : List (P n)) → Every (Other x) front → Every (Other x) ks → Every (Other x) ls → (end room : ℕ) (before : List (Field n))
-        → Found (packed n d (fieldAt n d) (front ++ node line ia ∷ ks) end room before) (packed n d (fieldAt n d) (front ++ node line ib ∷ ls) end room before)
+    packed-fork : (front ks ls : List (P n)) → Every (Other x) front → Every (Other x) ks → Every (Other x) ls
+        → (end room : ℕ) (before : List (Field n))
+        → Found (packed n d (fieldAt n d) (front ++ node line ia ∷ ks) end room before) (packed n d (fieldAt n d)
+        (front ++ node line ib ∷ ls) end room before)
     unfolding firstNamed packed exists widthOf
     packed-fork [] ks ls o oa ob end room before =
         go (leb w room) (exists n d (node line ia) (end - w) before) (none-packed ks oa (end - w) (room - w) before)
@@ -176,11 +180,13 @@ no-path (suc n) d fs = refl
 -- the P lines inside a P that both have: the path finds the same in them
 abbrev Alike : (n : ℕ) → List ℕ → Path → Numbered → List (Kid n) → List (Kid n) → Type 0
 Alike n d path line k l = (s : ℕ) (before : List (Field n))
-    → through d (deeperAt n d) path (some (fieldAt n d (node line k) s before)) ≡ through d (deeperAt n d) path (some (fieldAt n d (node line l) s before))
+    → through d (deeperAt n d) path (some (fieldAt n d (node line k) s before))
+    ≡ through d (deeperAt n d) path (some (fieldAt n d (node line l) s before))
 
 packed-same : (n : ℕ) (d : List ℕ) (y : Name) (path : Path) (ks ls : List (P n)) (h : Fork n (Deeper n) y path ks ls)
     → Alike n d path (h .line) (h .inside-a) (h .inside-b) → (end wide : ℕ)
-    → valueAt n d (y ∷ path) (packed n d (fieldAt n d) (ordered ks) end wide []) ≡ valueAt n d (y ∷ path) (packed n d (fieldAt n d) (ordered ls) end wide [])
+    → valueAt n d (y ∷ path) (packed n d (fieldAt n d) (ordered ks) end wide [])
+    ≡ valueAt n d (y ∷ path) (packed n d (fieldAt n d) (ordered ls) end wide [])
 packed-same n d y path ks ls h alike end wide =
     value-is n d y path (packed n d (fieldAt n d) (ordered ks) end wide [])
     ∙ ap (λ (ps : List (P n)). through d (deeperAt n d) path (firstNamed y (packed n d (fieldAt n d) ps end wide [])))
@@ -211,7 +217,8 @@ module _ (n : ℕ) (d : List ℕ) (base : List (P n)) where
   unfolding reading
   read-is ps = refl
 
-  fork-same : (path : Path) (ks ls : List (P n)) → Deeper (suc n) path ks ls → valueAt n d path (reading n d base ks) ≡ valueAt n d path (reading n d base ls)
+  fork-same : (path : Path) (ks ls : List (P n)) → Deeper (suc n) path ks ls
+      → valueAt n d path (reading n d base ks) ≡ valueAt n d path (reading n d base ls)
   fork-same [] ks ls h = no-path n d (reading n d base ks) ∙ sym (no-path n d (reading n d base ls))
   fork-same (x ∷ path) ks ls h =
       value-is n d x path (reading n d base ks)
@@ -259,7 +266,8 @@ module _ (n : ℕ) (d : List ℕ) (base : List (P n)) where
         ∙ ap (through d (deeperAt n d) path) (first-append x B (own ls))
         ∙ go (firstNamed x B) (sym (value-is n d x path B) ∙ e)
       where
-        go : (o : Option (Field n)) → through d (deeperAt n d) path o ≡ some u → through d (deeperAt n d) path (orElse x o (firstNamed x (own ls))) ≡ some u
+        go : (o : Option (Field n)) → through d (deeperAt n d) path o ≡ some u
+            → through d (deeperAt n d) path (orElse x o (firstNamed x (own ls))) ≡ some u
         go none q = absurd (let z : _≡_ {A = ℕ} 0 1 = cc in omega arith)
         go (some f) q = q
 

@@ -156,7 +156,8 @@ module _ (t t′ : List ℕ) (w : Reordered t t′) (h g : ℕ → ℕ) (f : Fol
     told-none e = ap (ofBase (definition t′) d most key) (base-is none e)
 
     module _ (b : Base) (e : firstBase key (definition t .bases) ≡ some b) where
-      pub told-before : told (definition t) d most key ≡ ofAnswer (definition t .sets) d most (answer 7 d (trees (b .params)) (candidatesOf key (definition t)))
+      pub told-before : told (definition t) d most key
+          ≡ ofAnswer (definition t .sets) d most (answer 7 d (trees (b .params)) (candidatesOf key (definition t)))
       unfolding told
       told-before = ap (ofBase (definition t) d most key) e
 

@@ -10,7 +10,8 @@ use mir.Syntax.{w64}
 use mir.Val.{Fits}
 use lib.Dec.{eqb, ltb}
 use lib.ListN.{length, getD, set, take, drop, length-set, length-append, length-drop, List·getD-append}
-use lib.Seq.{sets, length-sets, length-take-le, take-length, drop-length, take-append-le, take-take, take-at, drop-at, getD-take, set-split, take-suc-set, drop-set-lt}
+use lib.Seq.{sets, length-sets, length-take-le, take-length, drop-length, take-append-le, take-take, take-at, drop-at, getD-take, set-split}
+use lib.Seq.{take-suc-set, drop-set-lt}
 use borrow.Author.Tests.{eq-eqb, ne-eqb, le-ltb}
 use Rattle.laws.proofs.Lists.{next, done, tail}
 use Rattle.refusal.specs.declared.Refusal.{Refusal}
@@ -23,6 +24,7 @@ use Rattle.text.specs.Text.{field, fields, lines}
 use Rattle.text.specs.Scan.{cut}
 use Rattle.text.specs.Judge.{Checks}
 use Rattle.text.specs.Print.{Every}
+use Rattle.text.proofs.Laws.{front-count}
 use Rattle.text.specs.declared.Verdict.{Verdict}
 use Rattle.text.specs.declared.Verdict.the-variants.{Accepted, Refused as NotAccepted}
 use Rattle.frame_text.specs.Form.{Record}
@@ -30,7 +32,8 @@ use Rattle.frame_text.specs.Rules.{rules, verdict}
 use Rattle.frame_definition.proofs.Finding.{owner-laws}
 use Rattle.reorder.specs.Blocks.{only, letterOf, ended}
 use Rattle.reorder.specs.Sorted.{upTo, insertBy, sortBy, placed, sortedText}
-use Rattle.sorting.specs.Sorting.{nameAt, behind, earlier, isHeader, startsFrom, startsAt, sectionBytes, gathered, Here, Between, Starts, Ends, Chooses, Puts, Collects, CollectsSorted, Sorts}
+use Rattle.sorting.specs.Sorting.{nameAt, behind, earlier, isHeader, startsFrom, startsAt, sectionBytes, gathered, Here, Between, Starts}
+use Rattle.sorting.specs.Sorting.{Ends, Chooses, Puts, Collects, CollectsSorted, Sorts}
 use Rattle.sorting.specs.declared.Chosen.{Chosen}
 use Rattle.reorder.proofs.Sorted.{sort-length}
 use Rattle.sorting.proofs.Places.{stepped, between-start, reaches-first, reaches-end, reaches-owner, reaches-more}
@@ -60,9 +63,6 @@ pub ruleset up-laws = (up-done, up-short, up-other, up-more)
 
 pub no-name : (t : List ℕ) (at : ℕ) → length t < at → take 0 t ≡ nameAt t at
 no-name t at h = rw (done t at (omega arith)) refl
-
-pub front-long : (l : List ℕ) (e : ℕ) → e ≤ length l → length (take e l) ≡ e
-front-long l e h = length-take-le e l h
 
 pub name-is : (t : List ℕ) (at e : ℕ) (r : List ℕ) → e ≡ cut 10 (take (length t - at) (drop at t))
     → r ≡ field 4 (fields (take e (take (length t - at) (drop at t)))) → r ≡ nameAt t at
@@ -396,7 +396,7 @@ pub ruleset whole-laws = (sorted-back, sorted-starts, sorted-room, sorted-writes
 pub ruleset laws = (
   up-laws,
   no-name,
-  front-long,
+  front-count,
   name-is,
   earlier-is,
   insert-laws,

@@ -22,7 +22,8 @@ use Rattle.reorder.specs.Blocks.{only, Section, letterOf, ownsMore, more, tally
 use Rattle.reorder.specs.Sorted.{sortBy, placed, nameUpTo, byName, sortedText}
 use Rattle.reorder.proofs.Sections.{bare}
 use Rattle.reorder.proofs.Sorted.{sorted-text}
-use Rattle.sorting.specs.Sorting.{linesAt, lineAt, behind, earlier, isHeader, startsFrom, startsAt, bytesOf, firstSection, sectionBytes, gathered, Here, Starts}
+use Rattle.sorting.specs.Sorting.{linesAt, lineAt, behind, earlier, isHeader, startsFrom, startsAt, bytesOf, firstSection, sectionBytes}
+use Rattle.sorting.specs.Sorting.{gathered, Here, Starts}
 use Rattle.sorting.proofs.Lists.{only-map, sort-map, placed-map, only-every, sort-every, placed-every}
 use Rattle.sorting.proofs.Places.{cut-within, lines-more, line-long, stepped, between-start}
 
@@ -86,7 +87,8 @@ module _ (t : List ℕ) where
   lines-bare (s ∷ ss) = ap (λ (z : List Line). s .owner ∷ (s .under ++ z)) (lines-bare ss)
 
   by-name-map : {X : Type 0} (f : X → Section Line) (xs : List X)
-      → byName (map f xs) ≡ map f (placed (λ (x : X). isBlock saysOf (f x)) (sortBy (λ (x y : X). nameUpTo (f x) (f y)) (only (λ (x : X). isBlock saysOf (f x)) xs)) xs)
+      → byName (map f xs) ≡ map f (placed (λ (x : X). isBlock saysOf (f x)) (sortBy (λ (x y : X). nameUpTo (f x) (f y)) (only (λ
+      (x : X). isBlock saysOf (f x)) xs)) xs)
   by-name-map f xs =
       ap (λ (bs : List (Section Line)). placed (isBlock saysOf) (sortBy nameUpTo bs) (map f xs)) (only-map f (isBlock saysOf) xs)
       ∙ ap (λ (bs : List (Section Line)). placed (isBlock saysOf) bs (map f xs)) (sort-map f nameUpTo (only (λ x. isBlock saysOf (f x)) xs))
@@ -95,7 +97,8 @@ module _ (t : List ℕ) where
   abbrev places : List ℕ
   places = startsAt t 0
 
-  lines-by-name : linesOf saysOf (byName (sectionsOf t)) ≡ linesOf saysOf (map section (placed (isHeader t) (sortBy (earlier t) (only (isHeader t) places)) places))
+  lines-by-name : linesOf saysOf (byName (sectionsOf t))
+      ≡ linesOf saysOf (map section (placed (isHeader t) (sortBy (earlier t) (only (isHeader t) places)) places))
   lines-by-name =
       sym (lines-bare (byName (sectionsOf t)))
       ∙ ap (linesOf saysOf) (sym (by-name-map (bare saysOf) (sectionsOf t))

@@ -8,6 +8,8 @@ use frames_word::frames_file::show_frames;
 use help_page::help;
 use listing_word::listing_file::judge_frame;
 use listing_word::listing_file::list_frame;
+use order_word::overlaps_file::tell_overlaps;
+use order_word::sort_file::sort_definition;
 use output::outcome::fail;
 use output::outcome::fail_word;
 use readers::line_fields::find_field;
@@ -18,7 +20,7 @@ use totals_word::totals_file::show_totals;
 // Does what a word asks for.
 fn obey(word: &[u8]) {
     match find_field(
-        b"frames\tshow\tcheck\ttidy\tlist\tjudge\ttotals\thelp",
+        b"frames\tshow\tcheck\ttidy\tlist\tjudge\ttotals\toverlaps\tsort\thelp",
         word,
     ) {
         0 => show_frames(),
@@ -28,7 +30,9 @@ fn obey(word: &[u8]) {
         4 => list_frame(),
         5 => judge_frame(),
         6 => show_totals(),
-        7 => help(),
+        7 => tell_overlaps(),
+        8 => sort_definition(),
+        9 => help(),
         _ => fail_word(word),
     }
 }

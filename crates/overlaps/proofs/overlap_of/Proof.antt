@@ -10,4 +10,11 @@ use Rattle.overlaps.proofs.overlap_of.Tie as tie
 -- src/lib.rt:59:1
 -- src/lib.rt:59:1
 pub overlap-of-spec : {M : Type 1} → statement M
-overlap-of-spec = tie.close (tie.spec (λ c. search (needs, laws)) (λ c. search (needs, laws)) (λ c. search (needs, laws)) (λ c. search (needs, laws)) (λ c. search (needs, laws)))
+overlap-of-spec =
+    tie.close
+    (tie.spec
+    (λ c. search (needs, laws))
+    (λ c. search (needs, laws))
+    (λ c. search (needs, laws))
+    (λ c. search (needs, laws))
+    (λ c. search (needs, laws)))

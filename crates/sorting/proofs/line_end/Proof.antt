@@ -14,4 +14,11 @@ use Rattle.sorting.proofs.line_end.Tie as tie
 pub line-end-spec : {M : Type 1} → statement M
 line-end-spec =
     tie.close
-    (tie.spec (λ c. search (needs, laws)) (λ c. search (needs, laws)) (λ c. search (needs, laws)) (λ c κs. search (needs, laws)) (λ c. search (needs, laws)) (λ c. search (needs, laws)) (λ c. search (needs, laws)))
+    (tie.spec
+    (λ c. search (needs, laws))
+    (λ c. search (needs, laws))
+    (λ c. search (needs, laws))
+    (λ c κs. search (needs, laws))
+    (λ c. search (needs, laws))
+    (λ c. search (needs, laws))
+    (λ c. search (needs, laws)))

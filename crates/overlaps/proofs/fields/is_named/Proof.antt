@@ -10,4 +10,11 @@ use Rattle.overlaps.proofs.fields.is_named.Tie as tie
 -- src/fields.rt:37:5
 -- src/fields.rt:30:1
 pub is-named-spec : {M : Type 1} → statement M
-is-named-spec = tie.close (tie.spec (λ c. search (needs, laws)) (λ c. search (needs, laws)) (λ c κs. search (needs, laws)) (λ c κs. search (needs, laws)) (λ c. search (needs, laws)))
+is-named-spec =
+    tie.close
+    (tie.spec
+    (λ c. search (needs, laws))
+    (λ c. search (needs, laws))
+    (λ c κs. search (needs, laws))
+    (λ c κs. search (needs, laws))
+    (λ c. search (needs, laws)))

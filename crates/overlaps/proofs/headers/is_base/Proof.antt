@@ -12,4 +12,11 @@ use Rattle.overlaps.proofs.headers.is_base.Tie as tie
 -- src/headers.rt:147:1
 pub is-base-spec : {M : Type 1} → statement M
 is-base-spec =
-    tie.close (tie.spec (λ c. search (needs, laws)) (λ c. search (needs, laws)) (λ c. search (needs, laws)) (λ c. search (needs, laws)) (λ c. search (needs, laws)) (λ c. search (needs, laws)))
+    tie.close
+    (tie.spec
+    (λ c. search (needs, laws))
+    (λ c. search (needs, laws))
+    (λ c. search (needs, laws))
+    (λ c. search (needs, laws))
+    (λ c. search (needs, laws))
+    (λ c. search (needs, laws)))

@@ -11,4 +11,10 @@ use Rattle.overlaps.proofs.headers.is_validated.Tie as tie
 -- src/headers.rt:161:1
 pub is-validated-spec : {M : Type 1} → statement M
 is-validated-spec =
-    tie.close (tie.spec (λ c κs. search (needs, laws)) (λ c. search (needs, laws)) (λ c. search (needs, laws)) (λ c. search (needs, laws)) (λ c. search (needs, laws)))
+    tie.close
+    (tie.spec
+    (λ c κs. search (needs, laws))
+    (λ c. search (needs, laws))
+    (λ c. search (needs, laws))
+    (λ c. search (needs, laws))
+    (λ c. search (needs, laws)))

@@ -14,4 +14,11 @@ use Rattle.overlaps.proofs.headers.of_one_base.Tie as tie
 pub of-one-base-spec : {M : Type 1} → statement M
 of-one-base-spec =
     tie.close
-    (tie.spec (λ c. search (needs, laws)) (λ c κs. search (needs, laws)) (λ c. search (needs, laws)) (λ c. search (needs, laws)) (λ c. search (needs, laws)) (λ c. search (needs, laws)) (λ c. search (needs, laws)))
+    (tie.spec
+    (λ c. search (needs, laws))
+    (λ c κs. search (needs, laws))
+    (λ c. search (needs, laws))
+    (λ c. search (needs, laws))
+    (λ c. search (needs, laws))
+    (λ c. search (needs, laws))
+    (λ c. search (needs, laws)))

@@ -9,7 +9,8 @@ use Rattle.overlaps.proofs.headers.tell_all.Statement.{statement}
 use Rattle.overlaps.proofs.headers.tell_all.Tie as tie
 
 abbrev Inv-loop : tie.InvT-loop
-Inv-loop text one other place₀ most₀ place most = Most (each (saidAt text one) (saidAt text other) (validsAt text other) text one) (all (saidAt text one) (saidAt text other) (validsAt text other) text one) text one place most
+Inv-loop text one other place₀ most₀ place most = Most (each (saidAt text one) (saidAt text other) (validsAt text other) text one) (all
+    (saidAt text one) (saidAt text other) (validsAt text other) text one) text one place most
 
 abbrev μ-loop : tie.MeasureT-loop
 μ-loop text one other place₀ most₀ place most = length text - place .at

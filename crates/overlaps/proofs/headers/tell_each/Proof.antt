@@ -12,7 +12,11 @@ use Rattle.overlaps.proofs.headers.tell_each.Statement.{statement}
 use Rattle.overlaps.proofs.headers.tell_each.Tie as tie
 
 abbrev Inv-loop : tie.InvT-loop
-Inv-loop text one other path value place₀ most₀ place most = Most (tellOne (saidAt text one) (saidAt text other) (record { path = names (partOf text path); value = value })) (tellEach (saidAt text one) (saidAt text other) (record { path = names (partOf text path); value = value })) text other place most
+Inv-loop text one other path value place₀ most₀ place most = Most (tellOne (saidAt text one) (saidAt text other) (record {
+  path = names
+      (partOf text path);
+  value = value;
+})) (tellEach (saidAt text one) (saidAt text other) (record { path = names (partOf text path); value = value })) text other place most
 
 abbrev μ-loop : tie.MeasureT-loop
 μ-loop text one other path value place₀ most₀ place most = length text - place .at

@@ -9,4 +9,10 @@ use Rattle.overlaps.proofs.headers.tell_heads.Tie as tie
 -- src/headers.rt:203:5
 -- src/headers.rt:196:1
 pub tell-heads-spec : {M : Type 1} → statement M
-tell-heads-spec = tie.close (tie.spec (λ c κs. search (needs, laws)) (λ c. search (needs, laws)) (λ c κs. search (needs, laws)) (λ c. search (needs, laws)))
+tell-heads-spec =
+    tie.close
+    (tie.spec
+    (λ c κs. search (needs, laws))
+    (λ c. search (needs, laws))
+    (λ c κs. search (needs, laws))
+    (λ c. search (needs, laws)))

@@ -9,4 +9,10 @@ use Rattle.overlaps.proofs.lines.same_names.Tie as tie
 -- src/lines.rt:81:5
 -- src/lines.rt:75:1
 pub same-names-spec : {M : Type 1} → statement M
-same-names-spec = tie.close (tie.spec (λ c κs. search (needs, laws)) (λ c. search (needs, laws)) (λ c κs. search (needs, laws)) (λ c. search (needs, laws)))
+same-names-spec =
+    tie.close
+    (tie.spec
+    (λ c κs. search (needs, laws))
+    (λ c. search (needs, laws))
+    (λ c κs. search (needs, laws))
+    (λ c. search (needs, laws)))

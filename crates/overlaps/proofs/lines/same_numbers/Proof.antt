@@ -13,4 +13,10 @@ use Rattle.overlaps.proofs.lines.same_numbers.Tie as tie
 pub same-numbers-spec : {M : Type 1} → statement M
 same-numbers-spec =
     tie.close
-    (tie.spec (λ c. search (needs, laws)) (λ c. search (needs, laws)) (λ c. search (needs, laws)) (λ c κs. search (needs, laws)) (λ c κs. search (needs, laws)) (λ c. search (needs, laws)))
+    (tie.spec
+    (λ c. search (needs, laws))
+    (λ c. search (needs, laws))
+    (λ c. search (needs, laws))
+    (λ c κs. search (needs, laws))
+    (λ c κs. search (needs, laws))
+    (λ c. search (needs, laws)))

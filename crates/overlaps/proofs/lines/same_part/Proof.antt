@@ -9,4 +9,10 @@ use Rattle.overlaps.proofs.lines.same_part.Tie as tie
 -- src/lines.rt:26:5
 -- src/lines.rt:21:1
 pub same-part-spec : {M : Type 1} → statement M
-same-part-spec = tie.close (tie.spec (λ c κs. search (needs, laws)) (λ c κs. search (needs, laws)) (λ c κs. search (needs, laws)) (λ c. search (needs, laws)))
+same-part-spec =
+    tie.close
+    (tie.spec
+    (λ c κs. search (needs, laws))
+    (λ c κs. search (needs, laws))
+    (λ c κs. search (needs, laws))
+    (λ c. search (needs, laws)))

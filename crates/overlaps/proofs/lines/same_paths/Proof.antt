@@ -9,4 +9,10 @@ use Rattle.overlaps.proofs.lines.same_paths.Tie as tie
 -- src/lines.rt:91:5
 -- src/lines.rt:85:1
 pub same-paths-spec : {M : Type 1} → statement M
-same-paths-spec = tie.close (tie.spec (λ c κs. search (needs, laws)) (λ c. search (needs, laws)) (λ c κs. search (needs, laws)) (λ c. search (needs, laws)))
+same-paths-spec =
+    tie.close
+    (tie.spec
+    (λ c κs. search (needs, laws))
+    (λ c. search (needs, laws))
+    (λ c κs. search (needs, laws))
+    (λ c. search (needs, laws)))
