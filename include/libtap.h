@@ -127,6 +127,14 @@ TapAnswer tap_frame_text_to_xml(const uint8_t *text, size_t text_length, uint8_t
  * text that would be written, with its line, then 12. The call has that text on its stack: some 60 KB (docs/HANDHELD.md). */
 TapAnswer tap_xml_to_frame_text(const uint8_t *xml, size_t xml_length, uint8_t *buffer, size_t buffer_length);
 
+/* Can no MPDU be held by two headers of the frame text, so that no order of its H blocks matters (OV5)? Answers 1 for yes, 0 where it cannot be told. Refuses by
+ * 1, 2 and 3. */
+TapAnswer tap_is_harmless(const uint8_t *text, size_t text_length);
+
+/* A frame text with its H blocks sorted by name, into the buffer (O6). Answers its length, which is that of the text. A refusal writes nothing, an answer
+ * nothing behind the text. Refuses by 1 to 3, then 12. */
+TapAnswer tap_sort_headers(const uint8_t *text, size_t text_length, uint8_t *buffer, size_t buffer_length);
+
 /* ---- masks of nodes ---- */
 
 /* The nodes whose bits are set in a mask, rising, each once; node 1 is the first byte's lowest bit. Answers how many. Refuses by 4, a mask of

@@ -6,3 +6,4 @@ pub mod Listings
 pub mod Values
 pub mod Totals
 pub mod Xml
+pub mod Orders

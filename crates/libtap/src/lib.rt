@@ -6,6 +6,7 @@ pub mod frames;
 pub mod headers;
 pub mod listings;
 pub mod nodes;
+pub mod orders;
 pub mod texts;
 pub mod values;
 pub mod xml_texts;

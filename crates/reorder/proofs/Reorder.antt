@@ -100,20 +100,20 @@ first-rebase h g key (b ∷ bs) = go (eqb (b .key) key) (first-rebase h g key bs
 
 -- ---- two texts, and any numbers that follow their lines
 module _ (t t′ : List ℕ) (w : Reordered t t′) (h g : ℕ → ℕ) (f : Follows h g (w .order) (sectionsOf t′)) (region speed : ℕ) where
-  abbrev key : ℕ
+  abbrev pub key : ℕ
   key = keyOf t region speed
 
-  key-is : keyOf t′ region speed ≡ key
+  pub key-is : keyOf t′ region speed ≡ key
   key-is = ap (λ (fs : List Frequency). cond (eqb speed 3) 2 (keyFor region fs)) (frequencies-same t t′ w h g f)
 
   base-is : (o : Option Base) → firstBase key (definition t .bases) ≡ o → firstBase key (definition t′ .bases) ≡ onSome (rebase h g) o
   base-is o e = ap (firstBase key) (bases-same t t′ w h g f) ∙ first-rebase h g key (definition t .bases) ∙ ap (onSome (rebase h g)) e
 
   -- the candidates of t as they stand in t′
-  abbrev stands : List (Candidate 7)
+  abbrev pub stands : List (Candidate 7)
   stands = candidatesIn key (standingFrames t t′ w h g f)
 
-  stands-moved : Moved (candidatesOf key (definition t)) stands
+  pub stands-moved : Moved (candidatesOf key (definition t)) stands
   stands-moved = candidates-moved key (definition t .frames) (standingFrames t t′ w h g f) (frames-moved t t′ w h g f)
 
   stands-same : candidatesOf key (definition t′) ≡ map (recandidate h g 7) stands
@@ -147,20 +147,21 @@ module _ (t t′ : List ℕ) (w : Reordered t t′) (h g : ℕ → ℕ) (f : Fol
       numbers-of (c ∷ cs) = ap (λ (z : List ℕ). h (c .number) ∷ z) (numbers-of cs)
 
   module _ (d : List ℕ) (most : ℕ) where
-    none-told-before : firstBase key (definition t .bases) ≡ none → told (definition t) d most key ≡ no-base key
+    pub none-told-before : firstBase key (definition t .bases) ≡ none → told (definition t) d most key ≡ no-base key
     unfolding told
     none-told-before e = ap (ofBase (definition t) d most key) e
 
-    told-none : firstBase key (definition t .bases) ≡ none → told (definition t′) d most key ≡ no-base key
+    pub told-none : firstBase key (definition t .bases) ≡ none → told (definition t′) d most key ≡ no-base key
     unfolding told
     told-none e = ap (ofBase (definition t′) d most key) (base-is none e)
 
     module _ (b : Base) (e : firstBase key (definition t .bases) ≡ some b) where
-      told-before : told (definition t) d most key ≡ ofAnswer (definition t .sets) d most (answer 7 d (trees (b .params)) (candidatesOf key (definition t)))
+      pub told-before : told (definition t) d most key
+          ≡ ofAnswer (definition t .sets) d most (answer 7 d (trees (b .params)) (candidatesOf key (definition t)))
       unfolding told
       told-before = ap (ofBase (definition t) d most key) e
 
-      told-after : told (definition t′) d most key ≡ retold h g d (definition t .sets)
+      pub told-after : told (definition t′) d most key ≡ retold h g d (definition t .sets)
           (ofAnswer (definition t .sets) d most (answer 7 d (trees (b .params)) stands))
       unfolding told
       told-after =

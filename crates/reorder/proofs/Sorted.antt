@@ -60,7 +60,7 @@ module _ {X : Type 0} (before : X → X → Bool) where
       go true e = refl
       go false e = ap suc e
 
-  sort-length : (xs : List X) → length (sortBy before xs) ≡ length xs
+  pub sort-length : (xs : List X) → length (sortBy before xs) ≡ length xs
   sort-length [] = refl
   sort-length (x ∷ xs) = insert-length x (sortBy before xs) ∙ ap suc (sort-length xs)
 

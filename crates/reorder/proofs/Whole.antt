@@ -39,7 +39,7 @@ first-owns (validation path value) e = absurd (true≢false e)
 first-owns (set name) e = refl
 first-owns (entry key text) e = absurd (true≢false e)
 
-none-first : (ls : List Line) (n : ℕ) → judge rules [] n ls ≡ Accepted → untilNext saysOf (ended ls) ≡ []
+pub none-first : (ls : List Line) (n : ℕ) → judge rules [] n ls ≡ Accepted → untilNext saysOf (ended ls) ≡ []
 unfolding saysOf
 none-first [] n e = refl
 none-first (l ∷ []) n e = refl

@@ -13,6 +13,8 @@ fn help_all() {
   tap frames FILE    the frames of a capture as a table
   tap show FILE N    frame N of a capture whole
   tap check FILE     is a definition text accepted, and if not, what is wrong with it
+  tap overlaps FILE  can two headers of a frame text hold together, and does their order matter
+  tap sort FILE      a frame text with its headers sorted by name
   tap tidy FILE      a command text with S for U
   tap list FILE N    the listing of frame N's header, as a dealer's program writes it
   tap judge FILE N LISTING
@@ -28,7 +30,8 @@ fn help_all() {
 
 FILE may be -, which means standard input. The last line of the output is ok, or 'refused N V' (a
 refusal: its number N and the value V that it carries), or failed, after a line on standard error
-that says why, or for judge 'differs L'. bin/tap ends with status 0, 1 or 2, for differs with 1.
+that says why, or for judge 'differs L', or for overlaps 'overlaps N'. bin/tap ends with status 0, 1
+or 2, for differs and overlaps with 1.
 ",
     );
     succeed();
@@ -125,6 +128,41 @@ standard output and the last line on standard error, so the text can go into a f
   bin/tap tidy old.txt >new.txt
 
 A text that is refused, as tap check says it, gives no text: the last line is 'refused N V' then.
+",
+    );
+    succeed();
+}
+
+fn help_overlaps() {
+    say(
+        b"tap overlaps FILE: can two headers of a frame text hold for one MPDU? Headers of one base are apart if
+both have a V line on one path with other values, and that path finds the same field by both. So it
+is where one of them has no outer P line of the path's first name: then only the base's field is
+found. So it is also where the P lines of both say the same, line by line, up to the one to which
+the path leads; for that the P lines of both must stand in their order, and no two of one list may
+have one name.
+
+A line for each pair that cannot be told apart: number and name of both, and why: 'no V line on a
+common path', 'the same values on their common paths', or 'other values, in fields of their own'.
+Where there is none the text is harmless: no MPDU is held by two headers, so no order of the H blocks
+matters, and 'tap sort' changes numbers only. Else the last line is 'overlaps N', for N pairs. A pair
+that is listed may still be apart: other values of one bit, as seen by other fields, are not tried.
+",
+    );
+    succeed();
+}
+
+fn help_sort() {
+    say(
+        b"tap sort FILE: a frame text with its H blocks (an H line and its P and V lines) sorted by name, byte by
+byte, among the places where H blocks stood; those of one name stay as they stood, and so does every
+other line. FILE itself is not written to. bin/tap puts the text on standard output, and on standard
+error which H and P numbers moved, and the last line. So the text can go into a file:
+
+  bin/tap sort old.txt >new.txt
+
+Where 'tap overlaps' says that the text is harmless, every MPDU is decoded as before but for these
+numbers. A text that is refused, as tap check says it, gives no text: the last line is 'refused N V'.
 ",
     );
     succeed();
@@ -246,7 +284,7 @@ FILE or one CAPTURE may be -.
 // The page of a word.
 fn help_word(word: &[u8]) {
     match find_field(
-        b"frames\tshow\tcheck\ttidy\tlist\tjudge\ttotals\txml\ttext\tcoverage\thelp",
+        b"frames\tshow\tcheck\ttidy\tlist\tjudge\ttotals\txml\ttext\toverlaps\tsort\tcoverage\thelp",
         word,
     ) {
         0 => help_frames(),
@@ -258,8 +296,10 @@ fn help_word(word: &[u8]) {
         6 => help_totals(),
         7 => help_xml(),
         8 => help_text(),
-        9 => help_coverage(),
-        10 => help_all(),
+        9 => help_overlaps(),
+        10 => help_sort(),
+        11 => help_coverage(),
+        12 => help_all(),
         _ => fail_word(word),
     }
 }

@@ -9,6 +9,8 @@ use frames_word::frames_file::show_frames;
 use help_page::help;
 use listing_word::listing_file::judge_frame;
 use listing_word::listing_file::list_frame;
+use order_word::overlaps_file::tell_overlaps;
+use order_word::sort_file::sort_definition;
 use output::outcome::fail;
 use output::outcome::fail_word;
 use readers::line_fields::find_field;
@@ -21,7 +23,7 @@ use xml_word::xml_file::write_xml;
 // Does what a word asks for.
 fn obey(word: &[u8]) {
     match find_field(
-        b"frames\tshow\tcheck\ttidy\tlist\tjudge\ttotals\txml\ttext\tcoverage\thelp",
+        b"frames\tshow\tcheck\ttidy\tlist\tjudge\ttotals\txml\ttext\toverlaps\tsort\tcoverage\thelp",
         word,
     ) {
         0 => show_frames(),
@@ -33,8 +35,10 @@ fn obey(word: &[u8]) {
         6 => show_totals(),
         7 => write_xml(),
         8 => write_text(),
-        9 => show_coverage(),
-        10 => help(),
+        9 => tell_overlaps(),
+        10 => sort_definition(),
+        11 => show_coverage(),
+        12 => help(),
         _ => fail_word(word),
     }
 }

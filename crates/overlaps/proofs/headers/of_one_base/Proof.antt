@@ -1,0 +1,24 @@
+-- `overlaps::headers::of_one_base` meets its contract, by the laws of the crate. Assumes nothing.
+use Rattle.overlaps.proofs.Laws.{laws}
+use borrow.Author.Needs.{needs}
+use Rattle.overlaps.proofs.headers.of_one_base.Statement.{statement}
+use Rattle.overlaps.proofs.headers.of_one_base.Tie as tie
+
+-- src/headers.rt:162:25
+-- src/headers.rt:162:31
+-- src/headers.rt:163:30
+-- src/headers.rt:164:28
+-- src/headers.rt:158:1
+-- src/headers.rt:158:1
+-- src/headers.rt:158:1
+pub of-one-base-spec : {M : Type 1} → statement M
+of-one-base-spec =
+    tie.close
+    (tie.spec
+    (λ c. search (needs, laws))
+    (λ c κs. search (needs, laws))
+    (λ c. search (needs, laws))
+    (λ c. search (needs, laws))
+    (λ c. search (needs, laws))
+    (λ c. search (needs, laws))
+    (λ c. search (needs, laws)))
