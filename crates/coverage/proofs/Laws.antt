@@ -72,7 +72,8 @@ pub set-none : (sets : List ℕ) (k : ℕ) → 5120 ≤ k → 16 ≡ setAt sets 
 set-none sets k h = rw (le-ltb k 5120 h) refl
 
 -- ---- a row
-pub row-counted : (sets : List ℕ) (number symbol p d q : ℕ) (a b c : List ℕ) → p ≡ placeIn 64 5120 number → b ≡ raised a p → d ≡ setAt sets number
+pub row-counted : (sets : List ℕ) (number symbol p d q : ℕ) (a b c : List ℕ) → p ≡ placeIn 64 5120 number → b ≡ raised a p
+    → d ≡ setAt sets number
     → q ≡ entryPlace d symbol → c ≡ raised b q → c ≡ raisedAll a (rowPlaces sets number symbol)
 row-counted sets number symbol p d q a b c is-p is-b is-d is-q is-c = rw (is-c, is-q, is-d, is-b, is-p) refl
 

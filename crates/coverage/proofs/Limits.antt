@@ -17,7 +17,8 @@ often i [] = 0
 often i (j ∷ js) = cond (eqb j i) 1 0 + often i js
 
 -- one number more: elsewhere nothing changes, and there at most by 1
-more : (l : List ℕ) (j i : ℕ) → (getD l i 0 ≤ getD (set l j (getD l j 0 + 1)) i 0) × (getD (set l j (getD l j 0 + 1)) i 0 ≤ getD l i 0 + cond (eqb j i) 1 0)
+more : (l : List ℕ) (j i : ℕ) → (getD l i 0 ≤ getD (set l j (getD l j 0 + 1)) i 0)
+    × (getD (set l j (getD l j 0 + 1)) i 0 ≤ getD l i 0 + cond (eqb j i) 1 0)
 more l j i = go (ltb i (length l)) refl (eqb j i) refl
   where
     v : ℕ

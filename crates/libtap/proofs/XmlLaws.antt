@@ -9,7 +9,8 @@ use Rattle.libtap.specs.declared.TapAnswer.{TapAnswer}
 use Rattle.libtap.specs.Values.{toldWritten}
 use Rattle.libtap.specs.Xml.{ToldXml, ToldText}
 
-pub tells-xml : (text b : List ℕ) (x : Written) (r : TapAnswer) (b′ : List ℕ) → WritesXml text b x b′ → r ≡ toldWritten x → ToldXml text b r b′
+pub tells-xml : (text b : List ℕ) (x : Written) (r : TapAnswer) (b′ : List ℕ) → WritesXml text b x b′ → r ≡ toldWritten x
+    → ToldXml text b r b′
 tells-xml text b x r b′ so is-r = record { answer = x; writes = so; told-so = is-r }
 
 pub tells-text : (xml b : List ℕ) (x : Written) (r : TapAnswer) (b′ : List ℕ) → Turns xml b x b′ → r ≡ toldWritten x → ToldText xml b r b′

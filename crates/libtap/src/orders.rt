@@ -35,7 +35,8 @@ pub extern "C" fn tap_is_harmless(text: &[u8]) -> TapAnswer
     tell_harmless(told)
 }
 
-// A frame text with its H blocks sorted by name, into the buffer (O6 of docs/RULES.md). Answers its length, which is that of the text. Refusals 1 to 3, then 12.
+// A frame text with its H blocks sorted by name, into the buffer (O6 of docs/RULES.md). Answers its length, which is that of the text. Refusals 1 to 3,
+// then 12.
 #[no_mangle]
 pub extern "C" fn tap_sort_headers(text: &[u8], buffer: &mut [u8]) -> TapAnswer
     ensures { λ r. ⌜ ToldSorted (now (text .entry)) (now (buffer .entry)) r (now (buffer .exit)) ⌝ }

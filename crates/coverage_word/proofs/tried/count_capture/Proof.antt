@@ -14,33 +14,15 @@ Inv-loop text options block₀ payload₀ sets counts₀ source₀ day₀ block 
 abbrev μ-loop : tie.MeasureT-loop
 μ-loop text options block₀ payload₀ sets counts₀ source₀ day₀ block payload counts source day = source .left
 
-loop-holds : tie.Need-loop-holds Inv-loop μ-loop
-loop-holds c = search (needs, laws)
-
-next-item-requires : tie.Need-next-item-requires Inv-loop μ-loop
-next-item-requires c κs = search (needs, laws)
-
-take-item-requires : tie.Need-take-item-requires Inv-loop μ-loop
-take-item-requires c κs = search (needs, laws)
-
-loop-less : tie.Need-loop-less Inv-loop μ-loop
-loop-less c = search (needs, laws)
-
-loop-again : tie.Need-loop-again Inv-loop μ-loop
-loop-again c = search (needs, laws)
-
-returns : tie.Need-returns Inv-loop μ-loop
-returns c = search (needs, laws)
-
 pub count-capture-spec : {M : Type 1} → statement M
 count-capture-spec =
     tie.close
     (tie.spec
     Inv-loop
     μ-loop
-    loop-holds
-    next-item-requires
-    take-item-requires
-    loop-less
-    loop-again
-    returns)
+    (λ c. search (needs, laws))
+    (λ c κs. search (needs, laws))
+    (λ c κs. search (needs, laws))
+    (λ c. search (needs, laws))
+    (λ c. search (needs, laws))
+    (λ c. search (needs, laws)))
