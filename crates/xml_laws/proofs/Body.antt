@@ -1,7 +1,7 @@
 -- Laws on the XML of an accepted text in plain form: it has no fault, and says the lines of the text. Assumes nothing.
 use mathlib.Core.Path.{_≡_, refl, sym, ap, _∙_}
 use mathlib.Core.Bool.{Bool, true, false, cond, not, _&&_, _||_}
-use mathlib.Core.List.{List, [], _∷_, _++_}
+use mathlib.Core.List.{List, [], _∷_, _++_, append-assoc, append-nil}
 use mathlib.Core.Option.{Option, none, some}
 use Prim.Native.Nat.{ℕ, zero, suc, _+_, _-_, _%_, _≤_, _<_}
 use native.Mathlib.Omega.{arith}
@@ -30,16 +30,12 @@ use Rattle.xml_attributes.specs.Attributes.{attributes}
 use Rattle.xml_elements.specs.Elements.{nameFor, blanks, head, depth, innermost, up, shut}
 use Rattle.xml_elements.specs.Elements.{closings, elementFor, levelIn, standsIn, isAlone, ending, firstField}
 use Rattle.xml_elements.specs.Elements.{restFor, tagFor, leadsTo, element, kindFor, body}
-use Rattle.xml_laws.proofs.Attributes.{fitting, lineFrom, append-assoc}
+use Rattle.xml_laws.proofs.Attributes.{fitting, lineFrom}
 use Rattle.xml_laws.proofs.Tags.{Element, element-is}
 use Rattle.xml_laws.proofs.Lines.{Fitted, fitted-f, fitted-b, fitted-h, fitted-p, fitted-v, fitted-d, fitted-e}
 use Rattle.xml_laws.proofs.Document.{Says, climb, Climbs, says-closings, says-shut, says-start}
 use Rattle.xml_laws.proofs.Document.{deep, inside-owner, inside-set, climbs-to, climbs-out, climbs-root}
 use Rattle.xml_laws.proofs.Document.{owner as home, depth-deep, enter-first, enter-next, leads-first, leads-next, level-deep}
-
-append-nil : (l : List ℕ) → l ++ [] ≡ l
-append-nil [] = refl
-append-nil (x ∷ xs) = ap (λ (m : List ℕ). x ∷ m) (append-nil xs)
 
 -- ---- what is known of the fields that say a record
 abbrev pub View : List (List ℕ) → Record → Type 0

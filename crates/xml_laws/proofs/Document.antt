@@ -1,7 +1,7 @@
 -- Laws on a document that is written: from place to place it has no fault, and says the lines that it was written for. Assumes nothing.
 use mathlib.Core.Path.{_≡_, refl, sym, ap, _∙_}
 use mathlib.Core.Bool.{Bool, true, false, cond, not, _&&_, _||_}
-use mathlib.Core.List.{List, [], _∷_, _++_}
+use mathlib.Core.List.{List, [], _∷_, _++_, append-assoc}
 use Prim.Native.Nat.{ℕ, zero, suc, _+_, _-_, _%_, _≤_, _<_}
 use native.Mathlib.Omega.{arith}
 use lib.Dec.{eqb, leb, ltb}
@@ -18,7 +18,7 @@ use Rattle.xml_document.specs.Document.{deeper, shallower, enter, leave, moved,
 use Rattle.xml_attributes.specs.Attributes.{attributes}
 use Rattle.xml_elements.specs.Elements.{nameFor, blanks, head, depth, innermost, up, shut, closings, levelIn, standsIn, isAlone, ending, firstField, restFor}
 use Rattle.xml_elements.specs.Elements.{tagFor, leadsTo, element}
-use Rattle.xml_laws.proofs.Attributes.{fitting, lineFrom, append-assoc}
+use Rattle.xml_laws.proofs.Attributes.{fitting, lineFrom}
 use Rattle.xml_laws.proofs.Tags.{Element, element-is, shut-tag, shut-quiet, quiet, chunk-of, open-tag, open-fields, open-quiet, open-closed, open-left}
 
 -- from d on, x has no fault and says these lines

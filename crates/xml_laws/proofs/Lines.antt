@@ -1,7 +1,7 @@
 -- Laws on the lines of an accepted text: each fits the entries of its element, which walk along the whole of it. Assumes nothing.
 use mathlib.Core.Path.{_≡_, refl, sym, ap, _∙_}
 use mathlib.Core.Bool.{Bool, true, false, cond, not, _&&_, _||_}
-use mathlib.Core.List.{List, [], _∷_, _++_}
+use mathlib.Core.List.{List, [], _∷_, _++_, append-nil}
 use Prim.Native.Nat.{ℕ, zero, suc, _+_, _-_, _≤_, _<_}
 use native.Mathlib.Omega.{arith}
 use lib.Dec.{eqb, leb, ltb}
@@ -21,10 +21,6 @@ use Rattle.xml_laws.proofs.Values.{isBit, within-more}
 use Rattle.xml_laws.proofs.Attributes.{fitting, lineFrom}
 
 -- ---- fields
-append-nil : (l : List ℕ) → l ++ [] ≡ l
-append-nil [] = refl
-append-nil (x ∷ xs) = ap (λ (m : List ℕ). x ∷ m) (append-nil xs)
-
 name-bytes : (l : List ℕ) → name l ≡ true → within 0x20 0xff l ≡ true
 name-bytes l e =
     within-more 0x20 0x7e 0xff l (omega arith)

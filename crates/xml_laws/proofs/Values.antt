@@ -163,7 +163,7 @@ escaped-digits (x ∷ xs) w =
     )
     (ap (λ l. x ∷ l) ih)
 
-not-is : (b : Bool) → not b ≡ true → b ≡ false
+pub not-is : (b : Bool) → not b ≡ true → b ≡ false
 not-is true e = absurd (let z : _≡_ {A = ℕ} 0 1 = cc in omega arith)
 not-is false e = refl
 
@@ -327,7 +327,7 @@ hex-valid l e = rw (numeral-is l e)
 pub hex-says : (l : List ℕ) → upTo 65535 l ≡ true → inDecimal (numeral (hexed l)) ≡ l
 hex-says l e = rw (numeral-is l e) (decimal-back l e)
 
-without-append : (b : ℕ) (l m : List ℕ) → without b l ≡ true → without b m ≡ true → without b (l ++ m) ≡ true
+pub without-append : (b : ℕ) (l m : List ℕ) → without b l ≡ true → without b m ≡ true → without b (l ++ m) ≡ true
 without-append b [] m p q = q
 without-append b (x ∷ xs) m p q =
     rw (and-left (not (eqb x b)) (without b xs) p) (without-append b xs m (and-right (not (eqb x b)) (without b xs) p) q)
