@@ -2,22 +2,20 @@
 use mathlib.Core.Path.{_≡_, refl, sym, ap, _∙_}
 use mathlib.Core.Bool.{Bool, true, false, cond, not, _&&_, _||_}
 use mathlib.Core.List.{List, [], _∷_, _++_, append-assoc}
-use Prim.Native.Nat.{ℕ, zero, suc, _+_, _-_, _≤_, _<_}
+use Prim.Native.Nat.{ℕ, _+_, _-_, _≤_}
 use native.Mathlib.Omega.{arith}
-use lib.Dec.{eqb, leb, ltb}
+use lib.Dec.{eqb, leb}
 use lib.ListN.{length, getD, take, drop}
-use borrow.Author.Tests.{leb-true, le-leb, lt-ltb, le-ltb, eq-eqb, ne-eqb, eqb-true, eqb-false, ltb-true}
+use borrow.Author.Tests.{leb-true, eq-eqb, ne-eqb, eqb-true}
 use Rattle.laws.proofs.Bools.{and-left, and-right}
-use Rattle.text.specs.Text.{onto, split, same, within, without, decimal, upTo, field, missing}
-use Rattle.text.proofs.Printing.{missing-is, same-is, split-long}
+use Rattle.text.specs.Text.{split, same, within, without, decimal, upTo, field, missing}
+use Rattle.text.proofs.Printing.{missing-is, same-is}
 use Rattle.xml_schema.specs.Schema.{formOf, nameOf, formIn, words, optionalWords, number, optionalNumber, hexNumber, flag, furtherFlag, isOptional, isDropped}
-use Rattle.xml_values.specs.Scan.{isWhite, lead, skip, white, isLetter, wordLen, word, after}
+use Rattle.xml_values.specs.Scan.{isWhite, lead, skip, isLetter, wordLen, word, after}
 use Rattle.xml_values.specs.Values.{valid, says, unsaid}
-use Rattle.xml_tags.specs.Tags.{nameIn, isEquals, isName, isEnd, has, valueOf, isNew, fault, whole, told, part, fieldsOf}
-use Rattle.xml_tags.specs.declared.Fault.{Fault}
+use Rattle.xml_tags.specs.Tags.{nameIn, isName, isEnd, has, valueOf, isNew, fault, whole, told, part, fieldsOf}
 use Rattle.xml_tags.specs.declared.Fault.the-variants.{Fine, At}
-use Rattle.xml_spelling.specs.Spelling.{escaped, hexed, flagged}
-use Rattle.xml_attributes.specs.Attributes.{valueFor, isAbsent, label, attribute, written, fieldAfter, digitAfter, attributes}
+use Rattle.xml_attributes.specs.Attributes.{valueFor, isAbsent, label, attribute, fieldAfter, digitAfter, attributes}
 use Rattle.xml_laws.proofs.Values.{undo-escaped, quotes-escaped, loose-escaped, words-escaped}
 use Rattle.xml_laws.proofs.Values.{decimal-says, decimal-valid, hex-valid, hex-says, quotes-hexed}
 use Rattle.xml_laws.proofs.Values.{isBit, flag-says, flag-valid, quotes-flagged, given-escaped, not-is, without-append}

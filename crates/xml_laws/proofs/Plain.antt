@@ -1,12 +1,9 @@
 -- Laws on plain form: lines that are in it are arranged as they are. Assumes nothing.
-use mathlib.Core.Path.{_≡_, refl, sym, ap, _∙_}
-use mathlib.Core.Bool.{Bool, true, false, cond, not, _&&_, _||_}
+use mathlib.Core.Path.{_≡_, refl, ap, _∙_}
 use mathlib.Core.List.{List, [], _∷_, _++_, append-assoc}
-use Prim.Native.Nat.{ℕ, zero, suc, _+_, _-_, _≤_, _<_}
+use Prim.Native.Nat.{ℕ, zero, suc, _≤_}
 use native.Mathlib.Omega.{arith}
-use lib.Dec.{eqb, leb, ltb}
-use lib.ListN.{length, getD}
-use Rattle.xml_document.specs.Document.{letter, owns, picked, owned, blocks, arranged}
+use Rattle.xml_document.specs.Document.{letter, picked, owned, blocks}
 
 -- the blocks that may still come, once the lines have come so far
 abbrev pub tailOf : ℕ → List (List ℕ) → List (List ℕ)

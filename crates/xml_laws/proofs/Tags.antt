@@ -1,21 +1,20 @@
 -- Laws on tags: those that are written for lines are read, and ends are ends. Assumes nothing.
 use mathlib.Core.Path.{_≡_, refl, sym, ap, _∙_}
-use mathlib.Core.Bool.{Bool, true, false, cond, not, _&&_, _||_}
+use mathlib.Core.Bool.{Bool, true, false, cond, not, _&&_}
 use mathlib.Core.List.{List, [], _∷_, _++_, append-assoc, append-nil}
-use Prim.Native.Nat.{ℕ, zero, suc, _+_, _-_, _≤_, _<_}
+use Prim.Native.Nat.{ℕ, zero, suc, _+_, _≤_, _<_}
 use native.Mathlib.Omega.{arith}
 use lib.Dec.{eqb, leb, ltb}
 use lib.ListN.{length, getD, take, drop}
 use borrow.Author.Tests.{leb-true, ne-eqb}
 use Rattle.laws.proofs.Bools.{and-left, and-right}
-use Rattle.text.specs.Text.{onto, split, without}
+use Rattle.text.specs.Text.{split, without}
 use Rattle.xml_schema.specs.Schema.{elements, table, count, elementOf, entriesOf}
-use Rattle.xml_values.specs.Scan.{isWhite, lead, skip, white, isLetter, wordLen, word, after}
-use Rattle.xml_tags.specs.Tags.{stops, turn, placed, chunks, isEnd, tagOf, tagFrom, opened, shutting, judged, unless, fault, whole, piecesOf, last, closed}
+use Rattle.xml_values.specs.Scan.{lead, skip, isLetter, wordLen, word, after}
+use Rattle.xml_tags.specs.Tags.{stops, turn, chunks, isEnd, tagOf, piecesOf, last, closed}
 use Rattle.xml_tags.specs.Tags.{fieldsOf}
-use Rattle.xml_tags.specs.declared.Tag.the-variants.{Bad, Shut, Open}
-use Rattle.xml_tags.specs.declared.Fault.the-variants.{Fine, At}
-use Rattle.xml_attributes.specs.Attributes.{valueFor, isAbsent, label, attribute, written, fieldAfter, digitAfter, attributes}
+use Rattle.xml_tags.specs.declared.Tag.the-variants.{Shut, Open}
+use Rattle.xml_attributes.specs.Attributes.{valueFor, isAbsent, label, attribute, fieldAfter, digitAfter, attributes}
 use Rattle.xml_elements.specs.Elements.{nameFor, blanks, head}
 use Rattle.xml_laws.proofs.Values.{not-is}
 use Rattle.xml_laws.proofs.Attributes.{letters, word-is, after-is, sound, agreeing, fitting, pieces, pieces-are, fault-none, alike-start, whole-is}

@@ -5,23 +5,20 @@ use mathlib.Core.List.{List, [], _∷_, _++_}
 use Prim.Native.Nat.{ℕ, zero, suc, _+_, _-_, _*_, _/_, _%_, _≤_, _<_}
 use native.Mathlib.Omega.{arith}
 use lib.Dec.{eqb, leb, ltb}
-use lib.ListN.{length, getD, take, drop, length-append}
-use borrow.Author.Tests.{le-leb, lt-leb, lt-ltb, le-ltb, eq-eqb, ne-eqb, eqb-true, eqb-false, leb-true, ltb-true, ltb-false}
+use lib.ListN.{length}
+use borrow.Author.Tests.{le-leb, lt-leb, lt-ltb, ne-eqb, eqb-true, eqb-false, leb-true, ltb-true, ltb-false}
 use Rattle.laws.proofs.Bools.{and-left, and-right}
 use Rattle.laws.proofs.Lists.{done}
 use Rattle.text.specs.Text.{onto, split, within, without, decimal, upTo, worth, value, missing}
 use Rattle.text.specs.Print.{digitsIn, shown}
-use Rattle.text.specs.Scan.{cut}
 use Rattle.text.proofs.Printing.{shown-back, split-long, missing-is}
 use Rattle.text.proofs.Laws.{and-false}
 use Rattle.text.proofs.Tests.{value-of}
 use Rattle.numerals.specs.Numerals as numerals
 use Rattle.numerals.specs.Numerals.{glyph, spelled}
-use Rattle.xml_schema.specs.Schema.{flag}
-use Rattle.xml_values.specs.Scan.{isWhite, lead, skip, white}
-use Rattle.xml_values.specs.Values.{entity, meant, parts, plainly, undo, named, allNamed, loose, isWords, unsigned, isCount, strip, digitOf, run, worthIn}
-use Rattle.xml_values.specs.Values.{numeralIn, isHex, numeralFrom, numeral, isNumeral, inDecimal, trues, falses, digitFor}
-use Rattle.xml_values.specs.declared.Numeral.the-variants.{Is, Not}
+use Rattle.xml_values.specs.Values.{plainly, undo, allNamed, loose, isWords, unsigned, isCount, strip, digitOf, run, worthIn}
+use Rattle.xml_values.specs.Values.{numeral, isNumeral, inDecimal, trues, falses, digitFor}
+use Rattle.xml_values.specs.declared.Numeral.the-variants.{Is}
 use Rattle.xml_spelling.specs.Spelling.{escapeOf, escaped, hexed, flagged}
 
 -- ---- words: a byte and how it is written, by the byte
