@@ -1,6 +1,6 @@
 -- Texts in plain form and out of it. In comments `/` stands for a line end; the lines are letters only.
 use mathlib.Core.Path.{_≡_, refl}
-use mathlib.Core.List.{List, [], _∷_}
+use mathlib.Core.List.{[], _∷_}
 use Rattle.plain_form.specs.PlainForm.{outOfOrder}
 
 -- no text

@@ -1,10 +1,10 @@
 -- Laws of the attributes that are written. Assumes nothing.
-use mathlib.Core.Path.{_≡_, refl, sym, ap, _∙_}
-use mathlib.Core.Bool.{Bool, true, false, cond, _&&_, _||_}
+use mathlib.Core.Path.{_≡_, refl, sym, _∙_}
+use mathlib.Core.Bool.{Bool, true, false, cond, _||_}
 use mathlib.Core.List.{List, [], _∷_, _++_}
 use Prim.Native.Nat.{ℕ, zero, suc, _+_, _-_, _≤_, _<_}
 use native.Mathlib.Omega.{arith}
-use lib.Dec.{eqb, ltb}
+use lib.Dec.{eqb}
 use lib.ListN.{length, getD, take, drop, length-drop}
 use lib.Seq.{drop-drop}
 use mir.Val.{Fits}
@@ -18,7 +18,7 @@ use Rattle.xml_schema.specs.Schema.{formOf, nameOf, optionalWords, optionalNumb
 use Rattle.xml_schema.specs.declared.Next.{Next}
 use Rattle.xml_schema.specs.declared.Next.the-variants.{Last, Entry}
 use Rattle.xml_spelling.specs.Spelling.{escaped, hexed, flagged}
-use Rattle.xml_attributes.specs.Attributes.{valueFor, isAbsent, label, attribute, written, fieldAfter, digitAfter, attributes}
+use Rattle.xml_attributes.specs.Attributes.{valueFor, isAbsent, label, written, fieldAfter, digitAfter, attributes}
 
 -- ---- a digit
 pub digit-none : (s : List ℕ) (j : ℕ) → length s ≤ j → 0 ≡ getD s j 0

@@ -1,6 +1,6 @@
 -- The attributes of lines, by examples.
 use mathlib.Core.Path.{_≡_, refl}
-use mathlib.Core.List.{List, [], _∷_}
+use mathlib.Core.List.{[], _∷_}
 use Rattle.text.specs.Text.{fields}
 use Rattle.numerals.specs.Numerals.{spelled}
 use Rattle.xml_schema.specs.Schema.{table, entriesOf}

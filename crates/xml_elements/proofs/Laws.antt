@@ -1,19 +1,19 @@
 -- Laws of elements as they are written. Assumes nothing.
 use mathlib.Core.Path.{_≡_, refl, sym, ap, _∙_}
-use mathlib.Core.Bool.{Bool, true, false, cond, _||_}
+use mathlib.Core.Bool.{Bool, true, false, cond}
 use mathlib.Core.List.{List, [], _∷_, _++_}
 use Prim.Native.Nat.{ℕ, zero, suc, _+_, _-_, _%_, _≤_, _<_}
 use native.Mathlib.Omega.{arith}
 use native.Mathlib.Numerals.{add-one}
-use lib.Dec.{eqb, leb, ltb}
-use lib.ListN.{length, getD, take, drop, length-drop, length-take}
+use lib.Dec.{eqb, leb}
+use lib.ListN.{length, take, drop, length-drop, length-take}
 use lib.Seq.{drop-drop}
 use mir.Val.{Fits}
 use mir.Syntax.{w64}
-use borrow.Author.Tests.{eq-eqb, ne-eqb, le-leb, lt-leb, leb-true}
+use borrow.Author.Tests.{ne-eqb, le-leb, lt-leb, leb-true}
 use Rattle.laws.proofs.Lists.{tail}
 use Rattle.laws.proofs.Bools.{and-right}
-use Rattle.text.specs.Text.{split, lines, fields, field, value, upTo, worth, decimal}
+use Rattle.text.specs.Text.{lines, fields, field, value, upTo, worth, decimal}
 use Rattle.text.specs.Scan.{cut}
 use Rattle.text.specs.Place.{kindOf}
 use Rattle.text.specs.declared.Part.{Part}
@@ -22,7 +22,7 @@ use Rattle.text.proofs.Judging.{split-some}
 use Rattle.readers.specs.Fields.{IsField}
 use Rattle.append.specs.Append.{Room, Laid}
 use Rattle.append.proofs.Laws.{Leaves, leaves-start, leaves-more, leaves-room, leaves-done, laid-both, room-first, room-second}
-use Rattle.xml_schema.specs.Schema.{elements, table, param, root, rowOf, entriesOf, parentOf}
+use Rattle.xml_schema.specs.Schema.{elements, table, param, entriesOf, parentOf}
 use Rattle.xml_attributes.specs.Attributes.{attributes}
 use Rattle.xml_elements.specs.Elements.{nameFor, blanks, head, depth, innermost, up, shut, closings, elementFor, levelIn, standsIn, isAlone, ending}
 use Rattle.xml_elements.specs.Elements.{firstField, restFor, tagFor, leadsTo, element, kindFor, body, opening, xmlOf}

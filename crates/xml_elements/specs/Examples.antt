@@ -1,6 +1,6 @@
 -- Texts as XML. In comments `|` is a tab.
 use mathlib.Core.Path.{_≡_, refl}
-use mathlib.Core.List.{List, [], _∷_}
+use mathlib.Core.List.{[], _∷_}
 use Rattle.numerals.specs.Numerals.{spelled}
 use Rattle.xml_schema.specs.Schema.{elements, table}
 use Rattle.xml_spelling.specs.Spelling.{escaped}

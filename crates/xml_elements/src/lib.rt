@@ -1,29 +1,24 @@
 // The XML that is written for the lines of a text: X13 of docs/RULES.md.
 use append::append;
 use readers::line_fields::field_of;
-use readers::line_fields::find_piece;
 use readers::line_fields::letter_of;
-use text::Part;
 use text::find;
 use text::read_value;
 use xml_attributes::append_attributes;
+use xml_schema::ELEMENTS;
 use xml_schema::PARAM;
 use xml_schema::TABLE;
+use xml_schema::name_of;
 use xml_schema::parent_of;
 use xml_schema::row_of;
 ghost use mathlib.Core.Path.{_≡_};
 ghost use Prim.Native.Nat.{_-_, _≤_};
 ghost use Rattle.text.specs.Text.{lines, fields};
 ghost use Rattle.append.specs.Append.{Room, Laid};
-ghost use Rattle.readers.specs.Fields.{IsField};
-ghost use Rattle.xml_schema.specs.Schema.{elements, entriesOf};
+ghost use Rattle.xml_schema.specs.Schema.{entriesOf};
 ghost use Rattle.xml_attributes.specs.Attributes.{attributes};
 ghost use Rattle.xml_elements.specs.Elements.{nameFor, blanks, head, depth, innermost, up, shut, closings, elementFor, levelIn, standsIn};
 ghost use Rattle.xml_elements.specs.Elements.{isAlone, ending, firstField, restFor, tagFor, leadsTo, element, kindFor, body, xmlOf};
-
-// The names of the elements, by number.
-const ELEMENTS: [u8; 128] =
-    *b"FrameDefinition RadioFrequency BaseHeader Header Param Validation DefineSet Define HomeId Source HeaderType IsLTX SequenceNumber";
 
 // Two spaces for each of so many elements.
 fn append_blanks(buffer: &mut [u8], at: usize, n: usize) -> usize
@@ -37,13 +32,6 @@ fn append_blanks(buffer: &mut [u8], at: usize, n: usize) -> usize
         left -= 1;
     }
     next
-}
-
-// Where the name of element k stands among them.
-fn name_of(k: usize) -> Part
-    ensures { λ r. ⌜ IsField 32 k elements r ⌝ }
-{
-    find_piece(&ELEMENTS, 32, k)
 }
 
 // The name of element k.

@@ -1,26 +1,24 @@
 -- Laws on attributes: those that are written for a line are read, by any entries whose names are letters and differ. Assumes nothing.
 use mathlib.Core.Path.{_≡_, refl, sym, ap, _∙_}
 use mathlib.Core.Bool.{Bool, true, false, cond, not, _&&_, _||_}
-use mathlib.Core.List.{List, [], _∷_, _++_}
-use Prim.Native.Nat.{ℕ, zero, suc, _+_, _-_, _≤_, _<_}
+use mathlib.Core.List.{List, [], _∷_, _++_, append-assoc}
+use Prim.Native.Nat.{ℕ, _+_, _-_, _≤_}
 use native.Mathlib.Omega.{arith}
-use lib.Dec.{eqb, leb, ltb}
+use lib.Dec.{eqb, leb}
 use lib.ListN.{length, getD, take, drop}
-use borrow.Author.Tests.{leb-true, le-leb, lt-ltb, le-ltb, eq-eqb, ne-eqb, eqb-true, eqb-false, ltb-true}
+use borrow.Author.Tests.{leb-true, eq-eqb, ne-eqb, eqb-true}
 use Rattle.laws.proofs.Bools.{and-left, and-right}
-use Rattle.text.specs.Text.{onto, split, same, within, without, decimal, upTo, field, missing}
-use Rattle.text.proofs.Printing.{missing-is, same-is, split-long}
+use Rattle.text.specs.Text.{split, same, within, without, decimal, upTo, field, missing}
+use Rattle.text.proofs.Printing.{missing-is, same-is}
 use Rattle.xml_schema.specs.Schema.{formOf, nameOf, formIn, words, optionalWords, number, optionalNumber, hexNumber, flag, furtherFlag, isOptional, isDropped}
-use Rattle.xml_values.specs.Scan.{isWhite, lead, skip, white, isLetter, wordLen, word, after}
+use Rattle.xml_values.specs.Scan.{isWhite, lead, skip, isLetter, wordLen, word, after}
 use Rattle.xml_values.specs.Values.{valid, says, unsaid}
-use Rattle.xml_tags.specs.Tags.{nameIn, isEquals, isName, isEnd, has, valueOf, isNew, fault, whole, told, part, fieldsOf}
-use Rattle.xml_tags.specs.declared.Fault.{Fault}
+use Rattle.xml_tags.specs.Tags.{nameIn, isName, isEnd, has, valueOf, isNew, fault, whole, told, part, fieldsOf}
 use Rattle.xml_tags.specs.declared.Fault.the-variants.{Fine, At}
-use Rattle.xml_spelling.specs.Spelling.{escaped, hexed, flagged}
-use Rattle.xml_attributes.specs.Attributes.{valueFor, isAbsent, label, attribute, written, fieldAfter, digitAfter, attributes}
+use Rattle.xml_attributes.specs.Attributes.{valueFor, isAbsent, label, attribute, fieldAfter, digitAfter, attributes}
 use Rattle.xml_laws.proofs.Values.{undo-escaped, quotes-escaped, loose-escaped, words-escaped}
 use Rattle.xml_laws.proofs.Values.{decimal-says, decimal-valid, hex-valid, hex-says, quotes-hexed}
-use Rattle.xml_laws.proofs.Values.{isBit, flag-says, flag-valid, quotes-flagged, given-escaped}
+use Rattle.xml_laws.proofs.Values.{isBit, flag-says, flag-valid, quotes-flagged, given-escaped, not-is, without-append}
 
 -- ---- what a field must be for its attribute, by the form
 abbrev pub fitsAt : ℕ → List (List ℕ) → ℕ → ℕ → Bool
@@ -157,11 +155,11 @@ word-length : (n rest : List ℕ) (x : ℕ) → letters n ≡ true → isLetter 
 word-length [] rest x l e = rw e
 word-length (y ∷ ys) rest x l e = rw (and-left (isLetter y) (letters ys) l, word-length ys rest x (and-right (isLetter y) (letters ys) l) e)
 
-take-front : (l m : List ℕ) → take (length l) (l ++ m) ≡ l
+pub take-front : (l m : List ℕ) → take (length l) (l ++ m) ≡ l
 take-front [] m = refl
 take-front (x ∷ xs) m = ap (λ (l : List ℕ). x ∷ l) (take-front xs m)
 
-drop-front : (l m : List ℕ) → drop (length l) (l ++ m) ≡ m
+pub drop-front : (l m : List ℕ) → drop (length l) (l ++ m) ≡ m
 drop-front [] m = refl
 drop-front (x ∷ xs) m = drop-front xs m
 
@@ -205,18 +203,6 @@ split-append : (b : ℕ) (p rest : List ℕ) → without b p ≡ true → split 
 split-append b [] rest e = rw (eq-eqb b b refl)
 split-append b (x ∷ xs) rest e =
     rw (not-is (eqb x b) (and-left (not (eqb x b)) (without b xs) e), split-append b xs rest (and-right (not (eqb x b)) (without b xs) e))
-  where
-    not-is : (t : Bool) → not t ≡ true → t ≡ false
-    not-is true q = absurd (let z : _≡_ {A = ℕ} 0 1 = cc in omega arith)
-    not-is false q = refl
-
-without-both : (b : ℕ) (l m : List ℕ) → without b l ≡ true → without b m ≡ true → without b (l ++ m) ≡ true
-without-both b [] m p q = q
-without-both b (x ∷ xs) m p q = rw (and-left (not (eqb x b)) (without b xs) p) (without-both b xs m (and-right (not (eqb x b)) (without b xs) p) q)
-
-pub append-assoc : (a b c : List ℕ) → (a ++ b) ++ c ≡ a ++ (b ++ c)
-append-assoc [] b c = refl
-append-assoc (x ∷ xs) b c = ap (λ (l : List ℕ). x ∷ l) (append-assoc xs b c)
 
 attribute-pieces : (n v rest : List ℕ) → letters n ≡ true → without 0x22 v ≡ true
     → split 0x22 (attribute n v ++ rest) ≡ labelled n ∷ v ∷ split 0x22 rest
@@ -225,7 +211,7 @@ attribute-pieces n v rest l q =
     append-assoc (label n) (v ++ (0x22 ∷ [])) rest ∙ rw (append-assoc v (0x22 ∷ []) rest)
     (ap (λ (l : List ℕ). 0x20 ∷ l) (append-assoc n (0x3d ∷ 0x22 ∷ []) (v ++ 0x22 ∷ rest) ∙ sym
     (append-assoc n (0x3d ∷ []) (0x22 ∷ (v ++ 0x22 ∷ rest))))) in
-    let quiet : without 0x22 (labelled n) ≡ true = without-both 0x22 n (0x3d ∷ []) (letter-unquoted n l) refl in
+    let quiet : without 0x22 (labelled n) ≡ true = without-append 0x22 n (0x3d ∷ []) (letter-unquoted n l) refl in
     ap (split 0x22) shape ∙ split-append 0x22 (labelled n) (v ++ 0x22 ∷ rest) quiet ∙ ap (λ (ps : List (List ℕ)). labelled n ∷ ps)
     (split-append 0x22 v rest q)
 

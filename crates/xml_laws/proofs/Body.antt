@@ -1,45 +1,39 @@
 -- Laws on the XML of an accepted text in plain form: it has no fault, and says the lines of the text. Assumes nothing.
 use mathlib.Core.Path.{_≡_, refl, sym, ap, _∙_}
-use mathlib.Core.Bool.{Bool, true, false, cond, not, _&&_, _||_}
-use mathlib.Core.List.{List, [], _∷_, _++_}
+use mathlib.Core.Bool.{Bool, true, false, cond, not, _&&_}
+use mathlib.Core.List.{List, [], _∷_, _++_, append-assoc, append-nil}
 use mathlib.Core.Option.{Option, none, some}
-use Prim.Native.Nat.{ℕ, zero, suc, _+_, _-_, _%_, _≤_, _<_}
+use Prim.Native.Nat.{ℕ, zero, suc, _+_, _-_, _%_, _≤_}
 use native.Mathlib.Omega.{arith}
-use lib.Dec.{eqb, leb, ltb}
-use lib.ListN.{length, getD, take, drop}
-use borrow.Author.Tests.{leb-true, le-leb, ne-eqb, eq-eqb, eqb-true, eqb-false, ltb-false}
+use lib.Dec.{eqb, ltb}
+use lib.ListN.{length}
+use borrow.Author.Tests.{le-leb, ne-eqb, eq-eqb, eqb-true, ltb-false}
 use Rattle.laws.proofs.Bools.{and-left, and-right}
-use Rattle.text.specs.Text.{split, lines, fields, field, decimal, upTo, worth, value}
+use Rattle.text.specs.Text.{lines, fields, field, decimal, upTo, worth, value}
 use Rattle.text.specs.Print.{joined}
 use Rattle.text.specs.Place.{kindOf}
-use Rattle.text.specs.Judge.{sentence, judge}
-use Rattle.text.specs.declared.Verdict.the-variants.{Accepted, Refused}
+use Rattle.text.specs.Judge.{judge}
+use Rattle.text.specs.declared.Verdict.the-variants.{Accepted}
 use Rattle.text.proofs.Printing.{joined-split}
 use Rattle.text.proofs.Tests.{value-of, or-left, or-right}
-use Rattle.text.proofs.Reading.{Allowed, accepted-line}
-use Rattle.frame_text.specs.Form.{Record, frequency, base, header, param, validation, set, entry, Header, Param, form, said, paramSaid, ofType, typeOf}
+use Rattle.text.proofs.Reading.{accepted-line}
+use Rattle.frame_text.specs.Form.{Record, frequency, base, header, param, validation, set, entry, Header, Param, form, said, ofType, typeOf}
 use Rattle.frame_text.specs.Form.{frequencyForm, baseForm, headerForm, paramNumbers, paramWords, paramForm, validationForm, setForm, entryForm}
 use Rattle.frame_text.specs.declared.Typed.{Typed}
 use Rattle.frame_text.specs.declared.Typed.the-variants.{Is, Not}
-use Rattle.frame_text.specs.Rules.{rules, owner, owns, letter, over, lost, inside, parent, holdsParams, holdsValidations, holdsEntries}
+use Rattle.frame_text.specs.Rules.{rules, owner, over, lost, inside, parent, holdsParams}
 use Rattle.plain_form.specs.PlainForm.{stands, farther, misplaced}
 use Rattle.xml_schema.specs.Schema.{table, entriesOf, hasLine, letterOf}
-use Rattle.xml_document.specs.Document as document
 use Rattle.xml_document.specs.Document.{enter, leave, level}
-use Rattle.xml_attributes.specs.Attributes.{attributes}
-use Rattle.xml_elements.specs.Elements.{nameFor, blanks, head, depth, innermost, up, shut}
-use Rattle.xml_elements.specs.Elements.{closings, elementFor, levelIn, standsIn, isAlone, ending, firstField}
-use Rattle.xml_elements.specs.Elements.{restFor, tagFor, leadsTo, element, kindFor, body}
-use Rattle.xml_laws.proofs.Attributes.{fitting, lineFrom, append-assoc}
+use Rattle.xml_elements.specs.Elements.{depth, up, shut}
+use Rattle.xml_elements.specs.Elements.{closings, levelIn, standsIn, isAlone, firstField}
+use Rattle.xml_elements.specs.Elements.{tagFor, leadsTo, element, kindFor, body}
+use Rattle.xml_laws.proofs.Attributes.{fitting, lineFrom}
 use Rattle.xml_laws.proofs.Tags.{Element, element-is}
 use Rattle.xml_laws.proofs.Lines.{Fitted, fitted-f, fitted-b, fitted-h, fitted-p, fitted-v, fitted-d, fitted-e}
 use Rattle.xml_laws.proofs.Document.{Says, climb, Climbs, says-closings, says-shut, says-start}
 use Rattle.xml_laws.proofs.Document.{deep, inside-owner, inside-set, climbs-to, climbs-out, climbs-root}
-use Rattle.xml_laws.proofs.Document.{owner as home, depth-deep, enter-first, enter-next, leads-first, leads-next, level-deep}
-
-append-nil : (l : List ℕ) → l ++ [] ≡ l
-append-nil [] = refl
-append-nil (x ∷ xs) = ap (λ (m : List ℕ). x ∷ m) (append-nil xs)
+use Rattle.xml_laws.proofs.Document.{owner as home, depth-deep, enter-first, enter-next, leads-next, level-deep}
 
 -- ---- what is known of the fields that say a record
 abbrev pub View : List (List ℕ) → Record → Type 0

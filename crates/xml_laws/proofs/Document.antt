@@ -1,24 +1,21 @@
 -- Laws on a document that is written: from place to place it has no fault, and says the lines that it was written for. Assumes nothing.
 use mathlib.Core.Path.{_≡_, refl, sym, ap, _∙_}
-use mathlib.Core.Bool.{Bool, true, false, cond, not, _&&_, _||_}
-use mathlib.Core.List.{List, [], _∷_, _++_}
-use Prim.Native.Nat.{ℕ, zero, suc, _+_, _-_, _%_, _≤_, _<_}
+use mathlib.Core.Bool.{Bool, true, false, cond}
+use mathlib.Core.List.{List, [], _∷_, _++_, append-assoc}
+use Prim.Native.Nat.{ℕ, zero, suc, _+_, _-_, _%_, _≤_}
 use native.Mathlib.Omega.{arith}
-use lib.Dec.{eqb, leb, ltb}
-use lib.ListN.{length, getD, take, drop}
-use borrow.Author.Tests.{le-leb, lt-leb, ne-eqb, eq-eqb}
-use Rattle.text.specs.Text.{split}
-use Rattle.xml_schema.specs.Schema.{elements, table, root, param, hasLine, letterOf, entriesOf, parentOf, behind, nowhere, before}
-use Rattle.xml_tags.specs.Tags.{chunks, tagOf, piecesOf, closed, isEnd, fieldsOf}
-use Rattle.xml_tags.specs.declared.Tag.{Tag}
-use Rattle.xml_tags.specs.declared.Tag.the-variants.{Bad, Shut, Open}
-use Rattle.xml_tags.specs.declared.Fault.the-variants.{Fine, At}
+use lib.ListN.{length}
+use borrow.Author.Tests.{le-leb, lt-leb, ne-eqb}
+use Rattle.xml_schema.specs.Schema.{hasLine, letterOf, entriesOf}
+use Rattle.xml_tags.specs.Tags.{chunks, tagOf, piecesOf, closed, fieldsOf}
+use Rattle.xml_tags.specs.declared.Tag.the-variants.{Shut, Open}
+use Rattle.xml_tags.specs.declared.Fault.the-variants.{Fine}
 use Rattle.xml_tags.proofs.Chunks.{chunks-some}
-use Rattle.xml_document.specs.Document.{deeper, shallower, enter, leave, moved, judge, level, lineOf, withLine, items}
+use Rattle.xml_document.specs.Document.{shallower, enter, leave, moved, judge, level, withLine, items}
 use Rattle.xml_attributes.specs.Attributes.{attributes}
-use Rattle.xml_elements.specs.Elements.{nameFor, blanks, head, depth, innermost, up, shut, closings, levelIn, standsIn, isAlone, ending, firstField, restFor}
-use Rattle.xml_elements.specs.Elements.{tagFor, leadsTo, element}
-use Rattle.xml_laws.proofs.Attributes.{fitting, lineFrom, append-assoc}
+use Rattle.xml_elements.specs.Elements.{nameFor, blanks, head, depth, innermost, up, shut, closings, isAlone, ending, firstField, restFor}
+use Rattle.xml_elements.specs.Elements.{leadsTo, element}
+use Rattle.xml_laws.proofs.Attributes.{fitting, lineFrom}
 use Rattle.xml_laws.proofs.Tags.{Element, element-is, shut-tag, shut-quiet, quiet, chunk-of, open-tag, open-fields, open-quiet, open-closed, open-left}
 
 -- from d on, x has no fault and says these lines

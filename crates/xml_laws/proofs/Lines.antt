@@ -1,18 +1,18 @@
 -- Laws on the lines of an accepted text: each fits the entries of its element, which walk along the whole of it. Assumes nothing.
 use mathlib.Core.Path.{_≡_, refl, sym, ap, _∙_}
-use mathlib.Core.Bool.{Bool, true, false, cond, not, _&&_, _||_}
-use mathlib.Core.List.{List, [], _∷_, _++_}
-use Prim.Native.Nat.{ℕ, zero, suc, _+_, _-_, _≤_, _<_}
+use mathlib.Core.Bool.{Bool, true, false, not, _&&_, _||_}
+use mathlib.Core.List.{List, [], _∷_, _++_, append-nil}
+use Prim.Native.Nat.{ℕ, zero, suc, _+_, _≤_, _<_}
 use native.Mathlib.Omega.{arith}
-use lib.Dec.{eqb, leb, ltb}
-use lib.ListN.{length, getD, take, drop}
-use borrow.Author.Tests.{leb-true, le-leb, lt-ltb, eq-eqb, ne-eqb, eqb-true, eqb-false}
+use lib.Dec.{eqb, leb}
+use lib.ListN.{length, getD}
+use borrow.Author.Tests.{leb-true, lt-ltb, eq-eqb, eqb-true, eqb-false}
 use Rattle.laws.proofs.Bools.{and-left, and-right}
 use Rattle.text.specs.Text.{split, field, within, same, decimal, upTo, worth, missing, name, names, path, plain, optionalUpTo, optionalName, optionalPath}
 use Rattle.text.specs.Print.{joined, digitsIn, shown}
 use Rattle.text.specs.Place.{kindOf}
 use Rattle.text.proofs.Printing.{joined-split, same-is, fieldsAt, all-fields, letter-field, shown-back}
-use Rattle.frame_text.specs.Form.{typeName, typeAmong, types, typeOf, known, flags, frequencyForm, baseForm, headerForm, paramNumbers, paramPaths, paramWords}
+use Rattle.frame_text.specs.Form.{typeName, typeOf, known, flags, frequencyForm, baseForm, headerForm, paramNumbers, paramPaths, paramWords}
 use Rattle.frame_text.specs.Form.{paramForm, validationForm, setForm, entryForm}
 use Rattle.frame_text.specs.declared.ParamType.{ParamType}
 use Rattle.frame_text.specs.declared.ParamType.the-variants.{Hex, Number, NumberSigned, NodeNumber, Boolean, Bitmask}
@@ -21,10 +21,6 @@ use Rattle.xml_laws.proofs.Values.{isBit, within-more}
 use Rattle.xml_laws.proofs.Attributes.{fitting, lineFrom}
 
 -- ---- fields
-append-nil : (l : List ℕ) → l ++ [] ≡ l
-append-nil [] = refl
-append-nil (x ∷ xs) = ap (λ (m : List ℕ). x ∷ m) (append-nil xs)
-
 name-bytes : (l : List ℕ) → name l ≡ true → within 0x20 0xff l ≡ true
 name-bytes l e =
     within-more 0x20 0x7e 0xff l (omega arith)

@@ -1,17 +1,9 @@
 -- Laws on plain form: lines that are in it are arranged as they are. Assumes nothing.
-use mathlib.Core.Path.{_≡_, refl, sym, ap, _∙_}
-use mathlib.Core.Bool.{Bool, true, false, cond, not, _&&_, _||_}
-use mathlib.Core.List.{List, [], _∷_, _++_}
-use Prim.Native.Nat.{ℕ, zero, suc, _+_, _-_, _≤_, _<_}
+use mathlib.Core.Path.{_≡_, refl, ap, _∙_}
+use mathlib.Core.List.{List, [], _∷_, _++_, append-assoc}
+use Prim.Native.Nat.{ℕ, zero, suc, _≤_}
 use native.Mathlib.Omega.{arith}
-use lib.Dec.{eqb, leb, ltb}
-use lib.ListN.{length, getD}
-use Rattle.xml_document.specs.Document.{letter, owns, picked, owned, blocks, arranged}
-
--- lines behind lines
-lines-assoc : (a b c : List (List ℕ)) → (a ++ b) ++ c ≡ a ++ (b ++ c)
-lines-assoc [] b c = refl
-lines-assoc (x ∷ xs) b c = ap (λ (l : List (List ℕ)). x ∷ l) (lines-assoc xs b c)
+use Rattle.xml_document.specs.Document.{letter, picked, owned, blocks}
 
 -- the blocks that may still come, once the lines have come so far
 abbrev pub tailOf : ℕ → List (List ℕ) → List (List ℕ)
@@ -42,7 +34,7 @@ ordered-none (suc (suc (suc (suc far)))) =
 module _ (l : List ℕ) (g : List (List ℕ)) where
   pub ordered-f : letter l ≡ 0x46 → Ordered 0 g → Ordered 0 (l ∷ g)
   ordered-f e o = record {
-    whole = rw e (ap (λ (m : List (List ℕ)). l ∷ m) (lines-assoc (owned g) (blocks 0x46 g) (blocks 0x42 g ++ (blocks 0x48 g ++ blocks 0x44 g))
+    whole = rw e (ap (λ (m : List (List ℕ)). l ∷ m) (append-assoc (owned g) (blocks 0x46 g) (blocks 0x42 g ++ (blocks 0x48 g ++ blocks 0x44 g))
         ∙ o .whole));
     none-f = λ h. absurd (omega arith);
     none-b = λ h. absurd (omega arith);
@@ -52,7 +44,7 @@ module _ (l : List ℕ) (g : List (List ℕ)) where
   }
 
   b-whole : Ordered 1 g → l ∷ ((owned g ++ blocks 0x42 g) ++ (blocks 0x48 g ++ blocks 0x44 g)) ≡ l ∷ g
-  b-whole o = ap (λ (m : List (List ℕ)). l ∷ m) (lines-assoc (owned g) (blocks 0x42 g) (blocks 0x48 g ++ blocks 0x44 g) ∙ o .whole)
+  b-whole o = ap (λ (m : List (List ℕ)). l ∷ m) (append-assoc (owned g) (blocks 0x42 g) (blocks 0x48 g ++ blocks 0x44 g) ∙ o .whole)
 
   pub ordered-b : letter l ≡ 0x42 → (far : ℕ) → far ≤ 1 → Ordered 1 g → Ordered far (l ∷ g)
   ordered-b e zero h o = record {
@@ -74,7 +66,7 @@ module _ (l : List ℕ) (g : List (List ℕ)) where
   ordered-b e (suc (suc far)) h o = absurd (omega arith)
 
   h-whole : Ordered 2 g → l ∷ ((owned g ++ blocks 0x48 g) ++ blocks 0x44 g) ≡ l ∷ g
-  h-whole o = ap (λ (m : List (List ℕ)). l ∷ m) (lines-assoc (owned g) (blocks 0x48 g) (blocks 0x44 g) ∙ o .whole)
+  h-whole o = ap (λ (m : List (List ℕ)). l ∷ m) (append-assoc (owned g) (blocks 0x48 g) (blocks 0x44 g) ∙ o .whole)
 
   pub ordered-h : letter l ≡ 0x48 → (far : ℕ) → far ≤ 3 → Ordered 2 g → Ordered far (l ∷ g)
   ordered-h e zero h o = record {

@@ -1,40 +1,39 @@
 -- X15 (docs/RULES.md): a text that is accepted and in plain form, to XML and back, is the same bytes; what XML says, to text and back, is the same text.
 -- Assumes nothing.
-use mathlib.Core.Path.{_≡_, refl, sym, ap, _∙_}
-use mathlib.Core.Bool.{Bool, true, false, cond, not, _&&_, _||_}
+use mathlib.Core.Path.{_≡_, refl, ap, _∙_}
+use mathlib.Core.Bool.{Bool, true, false, cond, not}
 use mathlib.Core.List.{List, [], _∷_, _++_}
-use mathlib.Core.Option.{Option, none, some}
-use Prim.Native.Nat.{ℕ, zero, suc, _+_, _-_, _≤_, _<_}
+use Prim.Native.Nat.{ℕ, suc, _+_, _≤_}
 use native.Mathlib.Omega.{arith}
-use lib.Dec.{eqb, leb, ltb}
-use lib.ListN.{length, getD, take, drop}
+use lib.Dec.{eqb, ltb}
+use lib.ListN.{length, drop}
 use borrow.Author.Tests.{eqb-true, leb-true, ltb-false, eq-eqb}
-use Rattle.text.specs.Text.{lines, fields, split}
+use Rattle.text.specs.Text.{lines, fields}
 use Rattle.text.specs.Print.{joined}
 use Rattle.text.specs.Place.{kindOf}
-use Rattle.text.specs.Judge.{sentence, judge}
-use Rattle.text.specs.declared.Verdict.the-variants.{Accepted, Refused}
+use Rattle.text.specs.Judge.{judge}
+use Rattle.text.specs.declared.Verdict.the-variants.{Accepted}
 use Rattle.text.proofs.Printing.{joined-split}
 use Rattle.text.proofs.Passing.{kind-byte}
 use Rattle.text.proofs.Tests.{or-left, or-right}
-use Rattle.text.proofs.Reading.{Allowed, accepted-line, accepted-lines}
+use Rattle.text.proofs.Reading.{accepted-line, accepted-lines}
 use Rattle.frame_text.specs.Form.{Record, frequency, base, header, param, validation, set, entry, form}
 use Rattle.frame_text.specs.Rules.{rules, verdict, owner, over, lost, inside, holdsParams}
 use Rattle.plain_form.specs.PlainForm.{stands, farther, misplaced, outOfOrder, isPlain}
 use Rattle.xml_schema.specs.Schema.{elements, table, hasLine}
 use Rattle.xml_tags.specs.Tags.{chunks, tagOf}
 use Rattle.xml_tags.specs.declared.Tag.the-variants.{Open}
-use Rattle.xml_tags.specs.declared.Fault.the-variants.{Fine, At}
+use Rattle.xml_tags.specs.declared.Fault.the-variants.{Fine}
 use Rattle.xml_tags.proofs.Chunks.{chunks-some}
 use Rattle.xml_document.specs.Document as document
-use Rattle.xml_document.specs.Document.{letter, owns, picked, owned, blocks, arranged, ended, textOf, itemsOf, start, declared, isDeclaration}
+use Rattle.xml_document.specs.Document.{letter, owns, owned, arranged, ended, textOf, start, declared, isDeclaration}
 use Rattle.xml_plain.proofs.Plain.{text-plain}
 use Rattle.xml_elements.specs.Elements.{body, opening, xmlOf}
 use Rattle.xml_laws.proofs.Tags.{chunk-of}
 use Rattle.xml_laws.proofs.Document.{Says, one-more}
-use Rattle.xml_laws.proofs.Body.{View, view-of, Step, step-of, placeOf, farOf, inHeader}
+use Rattle.xml_laws.proofs.Body.{View, view-of, Step, step-of, farOf, inHeader}
 use Rattle.xml_laws.proofs.Body.{Kept, front, says-body, set-of, from-of, not-false, not-three, ordered-line}
-use Rattle.xml_laws.proofs.Plain.{tailOf, Ordered, ordered-none, ordered-f, ordered-b, ordered-h, ordered-d, ordered-p, ordered-v, ordered-e}
+use Rattle.xml_laws.proofs.Plain.{Ordered, ordered-none, ordered-f, ordered-b, ordered-h, ordered-d, ordered-p, ordered-v, ordered-e}
 
 -- ---- the lines of a text in plain form
 letter-of : (l : List ℕ) (k : ℕ) → kindOf (fields l) ≡ k → (k ≡ 0 → ⊥) → letter l ≡ k

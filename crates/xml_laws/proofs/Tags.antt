@@ -1,24 +1,24 @@
 -- Laws on tags: those that are written for lines are read, and ends are ends. Assumes nothing.
 use mathlib.Core.Path.{_≡_, refl, sym, ap, _∙_}
-use mathlib.Core.Bool.{Bool, true, false, cond, not, _&&_, _||_}
-use mathlib.Core.List.{List, [], _∷_, _++_}
-use Prim.Native.Nat.{ℕ, zero, suc, _+_, _-_, _≤_, _<_}
+use mathlib.Core.Bool.{Bool, true, false, cond, not, _&&_}
+use mathlib.Core.List.{List, [], _∷_, _++_, append-assoc, append-nil}
+use Prim.Native.Nat.{ℕ, zero, suc, _+_, _≤_, _<_}
 use native.Mathlib.Omega.{arith}
 use lib.Dec.{eqb, leb, ltb}
 use lib.ListN.{length, getD, take, drop}
 use borrow.Author.Tests.{leb-true, ne-eqb}
 use Rattle.laws.proofs.Bools.{and-left, and-right}
-use Rattle.text.specs.Text.{onto, split, without}
+use Rattle.text.specs.Text.{split, without}
 use Rattle.xml_schema.specs.Schema.{elements, table, count, elementOf, entriesOf}
-use Rattle.xml_values.specs.Scan.{isWhite, lead, skip, white, isLetter, wordLen, word, after}
-use Rattle.xml_tags.specs.Tags.{stops, turn, placed, chunks, isEnd, tagOf, tagFrom, opened, shutting, judged, unless, fault, whole, piecesOf, last, closed}
+use Rattle.xml_values.specs.Scan.{lead, skip, isLetter, wordLen, word, after}
+use Rattle.xml_tags.specs.Tags.{stops, turn, chunks, isEnd, tagOf, piecesOf, last, closed}
 use Rattle.xml_tags.specs.Tags.{fieldsOf}
-use Rattle.xml_tags.specs.declared.Tag.the-variants.{Bad, Shut, Open}
-use Rattle.xml_tags.specs.declared.Fault.the-variants.{Fine, At}
-use Rattle.xml_attributes.specs.Attributes.{valueFor, isAbsent, label, attribute, written, fieldAfter, digitAfter, attributes}
+use Rattle.xml_tags.specs.declared.Tag.the-variants.{Shut, Open}
+use Rattle.xml_attributes.specs.Attributes.{valueFor, isAbsent, label, attribute, fieldAfter, digitAfter, attributes}
 use Rattle.xml_elements.specs.Elements.{nameFor, blanks, head}
+use Rattle.xml_laws.proofs.Values.{not-is}
 use Rattle.xml_laws.proofs.Attributes.{letters, word-is, after-is, sound, agreeing, fitting, pieces, pieces-are, fault-none, alike-start, whole-is}
-use Rattle.xml_laws.proofs.Attributes.{fields-are, lineFrom, Reads, reads-form, fitsAt, append-assoc, sound-name, sound-rest}
+use Rattle.xml_laws.proofs.Attributes.{fields-are, lineFrom, Reads, reads-form, fitsAt, drop-front, sound-name, sound-rest}
 use Rattle.xml_schema.specs.Schema.{formOf, nameOf}
 
 -- ---- the elements that have a line, and the root
@@ -56,10 +56,6 @@ lead-blanks : (n : ℕ) (s : List ℕ) → lead s ≡ 0 → lead (blanks n ++ s)
 unfolding blanks
 lead-blanks zero s e = e
 lead-blanks (suc n) s e = ap (λ (m : ℕ). suc (suc m)) (lead-blanks n s e)
-
-drop-front : (l m : List ℕ) → drop (length l) (l ++ m) ≡ m
-drop-front [] m = refl
-drop-front (x ∷ xs) m = drop-front xs m
 
 skip-blanks : (n : ℕ) (s : List ℕ) → lead s ≡ 0 → skip (0x0a ∷ (blanks n ++ s)) ≡ s
 skip-blanks n s e = rw (lead-blanks n s e) (drop-front (blanks n) s)
@@ -99,14 +95,6 @@ tame-attributes fs end (e ∷ es) k j t = go (isAbsent (formOf e) fs k) (tame-at
         (digitAfter (formOf e) j)) ++ end) ≡ true
     go true ih = ih
     go false ih = refl
-
-not-is : (b : Bool) → not b ≡ true → b ≡ false
-not-is true e = absurd (let z : _≡_ {A = ℕ} 0 1 = cc in omega arith)
-not-is false e = refl
-
-append-nil : (l : List ℕ) → l ++ [] ≡ l
-append-nil [] = refl
-append-nil (x ∷ xs) = ap (λ (m : List ℕ). x ∷ m) (append-nil xs)
 
 word-tame : (n a : List ℕ) → letters n ≡ true → tame a ≡ true → (word (n ++ a) ≡ n) × (after (n ++ a) ≡ a)
 word-tame n [] l t = (rw (append-nil n, word-all n l) (take-all n), rw (append-nil n, word-all n l) (drop-all n))

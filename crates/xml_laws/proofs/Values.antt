@@ -5,23 +5,20 @@ use mathlib.Core.List.{List, [], _∷_, _++_}
 use Prim.Native.Nat.{ℕ, zero, suc, _+_, _-_, _*_, _/_, _%_, _≤_, _<_}
 use native.Mathlib.Omega.{arith}
 use lib.Dec.{eqb, leb, ltb}
-use lib.ListN.{length, getD, take, drop, length-append}
-use borrow.Author.Tests.{le-leb, lt-leb, lt-ltb, le-ltb, eq-eqb, ne-eqb, eqb-true, eqb-false, leb-true, ltb-true, ltb-false}
+use lib.ListN.{length}
+use borrow.Author.Tests.{le-leb, lt-leb, lt-ltb, ne-eqb, eqb-true, eqb-false, leb-true, ltb-true, ltb-false}
 use Rattle.laws.proofs.Bools.{and-left, and-right}
 use Rattle.laws.proofs.Lists.{done}
 use Rattle.text.specs.Text.{onto, split, within, without, decimal, upTo, worth, value, missing}
 use Rattle.text.specs.Print.{digitsIn, shown}
-use Rattle.text.specs.Scan.{cut}
 use Rattle.text.proofs.Printing.{shown-back, split-long, missing-is}
 use Rattle.text.proofs.Laws.{and-false}
 use Rattle.text.proofs.Tests.{value-of}
 use Rattle.numerals.specs.Numerals as numerals
 use Rattle.numerals.specs.Numerals.{glyph, spelled}
-use Rattle.xml_schema.specs.Schema.{flag}
-use Rattle.xml_values.specs.Scan.{isWhite, lead, skip, white}
-use Rattle.xml_values.specs.Values.{entity, meant, parts, plainly, undo, named, allNamed, loose, isWords, unsigned, isCount, strip, digitOf, run, worthIn}
-use Rattle.xml_values.specs.Values.{numeralIn, isHex, numeralFrom, numeral, isNumeral, inDecimal, trues, falses, digitFor}
-use Rattle.xml_values.specs.declared.Numeral.the-variants.{Is, Not}
+use Rattle.xml_values.specs.Values.{plainly, undo, allNamed, loose, isWords, unsigned, isCount, strip, digitOf, run, worthIn}
+use Rattle.xml_values.specs.Values.{numeral, isNumeral, inDecimal, trues, falses, digitFor}
+use Rattle.xml_values.specs.declared.Numeral.the-variants.{Is}
 use Rattle.xml_spelling.specs.Spelling.{escapeOf, escaped, hexed, flagged}
 
 -- ---- words: a byte and how it is written, by the byte
@@ -163,7 +160,7 @@ escaped-digits (x ∷ xs) w =
     )
     (ap (λ l. x ∷ l) ih)
 
-not-is : (b : Bool) → not b ≡ true → b ≡ false
+pub not-is : (b : Bool) → not b ≡ true → b ≡ false
 not-is true e = absurd (let z : _≡_ {A = ℕ} 0 1 = cc in omega arith)
 not-is false e = refl
 
@@ -327,7 +324,7 @@ hex-valid l e = rw (numeral-is l e)
 pub hex-says : (l : List ℕ) → upTo 65535 l ≡ true → inDecimal (numeral (hexed l)) ≡ l
 hex-says l e = rw (numeral-is l e) (decimal-back l e)
 
-without-append : (b : ℕ) (l m : List ℕ) → without b l ≡ true → without b m ≡ true → without b (l ++ m) ≡ true
+pub without-append : (b : ℕ) (l m : List ℕ) → without b l ≡ true → without b m ≡ true → without b (l ++ m) ≡ true
 without-append b [] m p q = q
 without-append b (x ∷ xs) m p q =
     rw (and-left (not (eqb x b)) (without b xs) p) (without-append b xs m (and-right (not (eqb x b)) (without b xs) p) q)

@@ -10,7 +10,7 @@ ghost use Prim.Native.Nat.{_≤_};
 ghost use lib.ListN.{length, drop};
 ghost use Rattle.text.specs.Text.{fields, same};
 ghost use Rattle.readers.specs.Fields.{IsField};
-ghost use Rattle.xml_schema.specs.Schema.{elementOf, table, letterOf, formOf, nameOf, formIn, parentOf, Follows};
+ghost use Rattle.xml_schema.specs.Schema.{elements, elementOf, table, letterOf, formOf, nameOf, formIn, parentOf, Follows};
 
 // How many elements there are, and the number of what is none.
 pub const COUNT: usize = 13;
@@ -33,6 +33,10 @@ pub const FURTHER_FLAG: u8 = b'g';
 
 // The place in which each element stands.
 const PARENTS: [usize; 13] = [13, 0, 0, 0, 15, 3, 0, 6, 2, 2, 2, 2, 2];
+
+// The names of the elements, by number.
+pub const ELEMENTS: [u8; 128] =
+    *b"FrameDefinition RadioFrequency BaseHeader Header Param Validation DefineSet Define HomeId Source HeaderType IsLTX SequenceNumber";
 
 // A row for each element: its line's letter, or `-`, and an entry for each attribute, the form of its value and its name.
 pub const TABLE: [u8; 274] = *b"-
@@ -59,10 +63,14 @@ pub enum Next {
 pub fn element_of(n: &[u8]) -> usize
     ensures { λ r. ⌜ r ≡ elementOf (now (n .entry)) ⌝ }
 {
-    find_word(
-        b"FrameDefinition RadioFrequency BaseHeader Header Param Validation DefineSet Define HomeId Source HeaderType IsLTX SequenceNumber",
-        n,
-    )
+    find_word(&ELEMENTS, n)
+}
+
+// Where the name of element k stands among them.
+pub fn name_of(k: usize) -> Part
+    ensures { λ r. ⌜ IsField 32 k elements r ⌝ }
+{
+    find_piece(&ELEMENTS, 32, k)
 }
 
 // Where the row of element k stands in the table.

@@ -1,12 +1,12 @@
 -- How long the XML of a text can be. Assumes nothing.
-use mathlib.Core.Path.{_≡_, refl, sym, ap, _∙_}
-use mathlib.Core.Bool.{Bool, true, false, cond, _&&_, _||_}
+use mathlib.Core.Path.{_≡_, refl}
+use mathlib.Core.Bool.{Bool, true, false, cond, _&&_}
 use mathlib.Core.List.{List, [], _∷_, _++_}
-use Prim.Native.Nat.{ℕ, zero, suc, _+_, _-_, _*_, _/_, _%_, _≤_, _<_}
+use Prim.Native.Nat.{ℕ, zero, suc, _+_, _-_, _*_, _/_, _%_, _≤_}
 use native.Mathlib.Omega.{arith}
 use lib.Dec.{eqb, leb}
 use lib.ListN.{length, getD, drop, length-append}
-use Rattle.text.specs.Text.{onto, split, lines, fields, field, value, missing}
+use Rattle.text.specs.Text.{onto, split, lines, fields, field, value}
 use Rattle.text.specs.Print.{Every}
 use Rattle.numerals.specs.Numerals.{spelled, glyph}
 use Rattle.xml_schema.specs.Schema.{elements, table, param, root, rowOf, entriesOf, parentOf, formOf, nameOf, flag, furtherFlag, hexNumber, isDropped}
@@ -14,7 +14,7 @@ use Rattle.xml_spelling.specs.Spelling.{escapeOf, escaped, hexed, flagged}
 use Rattle.xml_attributes.specs.Attributes.{valueFor, isAbsent, label, attribute, written, fieldAfter, digitAfter, attributes}
 use Rattle.append.specs.Append.{Room}
 use Rattle.xml_elements.proofs.Laws.{level-low}
-use Rattle.xml_elements.specs.Elements.{nameFor, blanks, head, depth, innermost, up, shut, closings, elementFor, levelIn, standsIn, isAlone, ending}
+use Rattle.xml_elements.specs.Elements.{nameFor, blanks, head, depth, innermost, up, shut, closings, levelIn, standsIn, isAlone, ending}
 use Rattle.xml_elements.specs.Elements.{firstField, restFor, tagFor, leadsTo, element, kindFor, body, opening, xmlOf}
 
 -- ---- pieces

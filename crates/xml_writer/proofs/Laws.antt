@@ -1,6 +1,5 @@
 -- Laws of a frame text as XML. Assumes nothing.
-use mathlib.Core.Path.{_≡_, refl, sym, ap, _∙_}
-use mathlib.Core.Bool.{true}
+use mathlib.Core.Path.{_≡_, refl, sym, _∙_}
 use mathlib.Core.List.{List}
 use Prim.Native.Nat.{ℕ, _≤_}
 use lib.ListN.{length}
@@ -15,10 +14,10 @@ use Rattle.buffer.specs.Buffer.{Writes}
 use Rattle.buffer.specs.declared.Written.{Written}
 use Rattle.buffer.specs.declared.Written.the-variants.{Refused}
 use Rattle.append.proofs.Laws.{counted-short, counted-room}
-use Rattle.frame_text.specs.Rules.{rules, verdict}
+use Rattle.frame_text.specs.Rules.{rules}
 use Rattle.plain_form.specs.PlainForm.{outOfOrder}
 use Rattle.xml_elements.specs.Elements.{xmlOf}
-use Rattle.xml_writer.specs.Writer.{plainAnswer, Plainly, WritesXml}
+use Rattle.xml_writer.specs.Writer.{Plainly, WritesXml}
 use Rattle.xml_writer.proofs.Bounds.{xml-room}
 
 -- ---- an accepted text
