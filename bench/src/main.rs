@@ -1,5 +1,5 @@
 //! What the library's calls cost, each against its measure, in one process, and the stack they take:
-//! `parse_payload`, `read_bits`, `decode_header`, `header_value`, `decode_params` and `add_payload` against zniff-rs, the checks of
+//! `parse_payload`, `read_bits`, `decode_header`, `header_value`, `decode_params`, `add_payload` and the calls on XML against zniff-rs, the checks of
 //! definition texts and `mask_nodes` against loops in C, listings against `decode_header`.
 
 mod bits;
@@ -19,6 +19,7 @@ mod stack;
 mod texts;
 mod totals;
 mod values;
+mod xml;
 
 fn main() {
     parse::run();
@@ -30,4 +31,5 @@ fn main() {
     params::run();
     values::run();
     totals::run();
+    xml::run();
 }

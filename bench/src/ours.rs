@@ -10,6 +10,9 @@ const WIDTH: usize = 13;
 /// More rows than a payload can need: a record with a frame has 22 bytes or more.
 const ROWS: usize = 3_000;
 
+/// More bytes than the XML of any text here has.
+pub const XML: usize = 1 << 20;
+
 /// How many totals there are.
 pub const TOTALS: usize = 1_031;
 
@@ -48,6 +51,8 @@ unsafe extern "C" {
         payload_length: usize,
         totals: *mut [u64; TOTALS],
     ) -> TapAnswer;
+    pub fn tap_frame_text_to_xml(text: *const u8, text_length: usize, buffer: *mut u8, buffer_length: usize) -> TapAnswer;
+    pub fn tap_xml_to_frame_text(xml: *const u8, xml_length: usize, buffer: *mut u8, buffer_length: usize) -> TapAnswer;
     pub fn tap_check_frame_text(text: *const u8, text_length: usize) -> TapAnswer;
     pub fn tap_check_command_text(text: *const u8, text_length: usize) -> TapAnswer;
     fn tap_mask_nodes(mask: *const u8, mask_length: usize, nodes: *mut u16, nodes_length: usize) -> TapAnswer;
@@ -389,6 +394,36 @@ pub fn add_payload(payload: &[u8], totals: &mut [u64; TOTALS]) {
     // SAFETY: text, payload and totals are valid for the call, which writes to the totals alone.
     let answer = unsafe { tap_add_payload(text.as_ptr(), text.len(), region, FIRMWARE, false, at, length, totals) };
     assert_eq!(0, answer.refusal, "refused, carrying {}", answer.value);
+}
+
+/// Writes a text as XML, and tells its length.
+pub fn write_xml(text: &[u8], buffer: &mut [u8]) -> usize {
+    // SAFETY: text and buffer are valid for the call, which writes to the buffer alone.
+    let answer = unsafe { tap_frame_text_to_xml(text.as_ptr(), text.len(), buffer.as_mut_ptr(), buffer.len()) };
+    assert_eq!(0, answer.refusal, "refused, carrying {}", answer.value);
+    answer.value as usize
+}
+
+/// Writes the text that an XML says, and tells its length.
+pub fn read_xml(xml: &str, buffer: &mut [u8]) -> usize {
+    // SAFETY: as above.
+    let answer = unsafe { tap_xml_to_frame_text(xml.as_ptr(), xml.len(), buffer.as_mut_ptr(), buffer.len()) };
+    assert_eq!(0, answer.refusal, "refused, carrying {}", answer.value);
+    answer.value as usize
+}
+
+/// The XML of a text.
+pub fn xml_of(text: &[u8]) -> String {
+    let mut xml = vec![0; XML];
+    let length = write_xml(text, &mut xml);
+    String::from_utf8(xml[..length].to_vec()).expect("names are ASCII")
+}
+
+/// The text of an XML.
+pub fn text_of(xml: &str) -> Vec<u8> {
+    let mut text = vec![0; XML];
+    let length = read_xml(xml, &mut text);
+    text[..length].to_vec()
 }
 
 /// Every frame of a payload, as zniff-rs has it.
