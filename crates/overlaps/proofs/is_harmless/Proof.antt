@@ -4,13 +4,6 @@ use borrow.Author.Needs.{needs}
 use Rattle.overlaps.proofs.is_harmless.Statement.{statement}
 use Rattle.overlaps.proofs.is_harmless.Tie as tie
 
--- src/lib.rt:85:11
--- src/lib.rt:87:16
--- src/lib.rt:87:16
--- src/lib.rt:93:26
--- src/lib.rt:82:1
--- src/lib.rt:82:1
--- src/lib.rt:82:1
 pub is-harmless-spec : {M : Type 1} → statement M
 is-harmless-spec =
     tie.close

@@ -4,11 +4,6 @@ use Rattle.overlaps.proofs.Laws.{laws}
 use Rattle.overlaps.proofs.overlap_of.Statement.{statement}
 use Rattle.overlaps.proofs.overlap_of.Tie as tie
 
--- src/lib.rt:59:1
--- src/lib.rt:59:1
--- src/lib.rt:59:1
--- src/lib.rt:59:1
--- src/lib.rt:59:1
 pub overlap-of-spec : {M : Type 1} → statement M
 overlap-of-spec =
     tie.close

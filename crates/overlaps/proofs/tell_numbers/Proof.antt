@@ -4,16 +4,6 @@ use borrow.Author.Needs.{needs}
 use Rattle.overlaps.proofs.tell_numbers.Statement.{statement}
 use Rattle.overlaps.proofs.tell_numbers.Tie as tie
 
--- src/lib.rt:49:31
--- src/lib.rt:49:24
--- src/lib.rt:50:9
--- src/lib.rt:50:9
--- src/lib.rt:52:33
--- src/lib.rt:52:24
--- src/lib.rt:53:9
--- src/lib.rt:53:9
--- src/lib.rt:55:5
--- src/lib.rt:45:1
 pub tell-numbers-spec : {M : Type 1} → statement M
 tell-numbers-spec =
     tie.close

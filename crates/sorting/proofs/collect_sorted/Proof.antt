@@ -4,12 +4,6 @@ use borrow.Author.Needs.{needs}
 use Rattle.sorting.proofs.collect_sorted.Statement.{statement}
 use Rattle.sorting.proofs.collect_sorted.Tie as tie
 
--- src/lib.rt:170:9
--- src/lib.rt:171:16
--- src/lib.rt:171:16
--- src/lib.rt:171:5
--- src/lib.rt:166:1
--- src/lib.rt:166:1
 pub collect-sorted-spec : {M : Type 1} → statement M
 collect-sorted-spec =
     tie.close

@@ -4,10 +4,6 @@ use borrow.Author.Needs.{needs}
 use Rattle.sorting.proofs.is_earlier.Statement.{statement}
 use Rattle.sorting.proofs.is_earlier.Tie as tie
 
--- src/lib.rt:61:14
--- src/lib.rt:61:32
--- src/lib.rt:61:5
--- src/lib.rt:58:1
 pub is-earlier-spec : {M : Type 1} → statement M
 is-earlier-spec =
     tie.close (tie.spec (λ c κs. search (needs, laws)) (λ c κs. search (needs, laws)) (λ c κs. search (needs, laws)) (λ c. search (needs, laws)))

@@ -4,13 +4,6 @@ use borrow.Author.Needs.{needs}
 use Rattle.sorting.proofs.line_end.Statement.{statement}
 use Rattle.sorting.proofs.line_end.Tie as tie
 
--- src/lib.rt:115:15
--- src/lib.rt:115:15
--- src/lib.rt:115:15
--- src/lib.rt:115:10
--- src/lib.rt:115:5
--- src/lib.rt:115:5
--- src/lib.rt:111:1
 pub line-end-spec : {M : Type 1} → statement M
 line-end-spec =
     tie.close

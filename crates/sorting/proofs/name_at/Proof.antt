@@ -4,15 +4,6 @@ use borrow.Author.Needs.{needs}
 use Rattle.sorting.proofs.name_at.Statement.{statement}
 use Rattle.sorting.proofs.name_at.Tie as tie
 
--- src/lib.rt:49:9
--- src/lib.rt:49:9
--- src/lib.rt:51:16
--- src/lib.rt:51:16
--- src/lib.rt:51:16
--- src/lib.rt:52:9
--- src/lib.rt:53:9
--- src/lib.rt:54:5
--- src/lib.rt:45:1
 pub name-at-spec : {M : Type 1} → statement M
 name-at-spec =
     tie.close

@@ -4,15 +4,6 @@ use borrow.Author.Needs.{needs}
 use Rattle.sorting.proofs.put_section.Statement.{statement}
 use Rattle.sorting.proofs.put_section.Tie as tie
 
--- src/lib.rt:141:9
--- src/lib.rt:142:22
--- src/lib.rt:142:22
--- src/lib.rt:142:22
--- src/lib.rt:142:5
--- src/lib.rt:143:12
--- src/lib.rt:143:5
--- src/lib.rt:135:1
--- src/lib.rt:135:1
 pub put-section-spec : {M : Type 1} → statement M
 put-section-spec =
     tie.close

@@ -4,13 +4,6 @@ use borrow.Author.Needs.{needs}
 use Rattle.sorting.proofs.sort_headers.Statement.{statement}
 use Rattle.sorting.proofs.sort_headers.Tie as tie
 
--- src/lib.rt:236:11
--- src/lib.rt:237:48
--- src/lib.rt:237:30
--- src/lib.rt:238:26
--- src/lib.rt:233:1
--- src/lib.rt:233:1
--- src/lib.rt:233:1
 pub sort-headers-spec : {M : Type 1} → statement M
 sort-headers-spec =
     tie.close

@@ -11,49 +11,17 @@ Inv-loop text kind end at₀ n₀ at n = Unit {0}
 abbrev μ-loop : tie.MeasureT-loop
 μ-loop text kind end at₀ n₀ at n = length text - at
 
--- src/moved.rt:16:5
-loop-holds : tie.Need-loop-holds Inv-loop μ-loop
-loop-holds c = search needs
-
--- src/moved.rt:18:13
-returns : tie.Need-returns Inv-loop μ-loop
-returns c = search needs
-
--- src/moved.rt:20:12
-shared-slice-read-if2 : tie.Need-shared-slice-read-if2 Inv-loop μ-loop
-shared-slice-read-if2 c = search needs
-
--- src/moved.rt:21:13
-wrapping-add-u64-requires : tie.Need-wrapping-add-u64-requires Inv-loop μ-loop
-wrapping-add-u64-requires c κs = search needs
-
--- src/moved.rt:23:9
-next-line-requires : tie.Need-next-line-requires Inv-loop μ-loop
-next-line-requires c κs = search needs
-
--- src/moved.rt:16:5
-loop-less : tie.Need-loop-less Inv-loop μ-loop
-loop-less c = search needs
-
--- src/moved.rt:16:5
-loop-again : tie.Need-loop-again Inv-loop μ-loop
-loop-again c = search needs
-
--- src/moved.rt:13:1
-returns-2 : tie.Need-returns-2 Inv-loop μ-loop
-returns-2 c = search needs
-
 pub count-before-spec : {M : Type 1} → statement M
 count-before-spec =
     tie.close
     (tie.spec
     Inv-loop
     μ-loop
-    loop-holds
-    returns
-    shared-slice-read-if2
-    wrapping-add-u64-requires
-    next-line-requires
-    loop-less
-    loop-again
-    returns-2)
+    (λ c. search needs)
+    (λ c. search needs)
+    (λ c. search needs)
+    (λ c κs. search needs)
+    (λ c κs. search needs)
+    (λ c. search needs)
+    (λ c. search needs)
+    (λ c. search needs))

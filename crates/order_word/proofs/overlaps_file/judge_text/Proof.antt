@@ -4,13 +4,6 @@ use borrow.Author.Needs.{needs}
 use Rattle.order_word.proofs.overlaps_file.judge_text.Statement.{statement}
 use Rattle.order_word.proofs.overlaps_file.judge_text.Tie as tie
 
--- src/overlaps_file.rt:169:11
--- src/overlaps_file.rt:170:30
--- src/overlaps_file.rt:170:30
--- src/overlaps_file.rt:171:26
--- src/overlaps_file.rt:171:38
--- src/overlaps_file.rt:168:1
--- src/overlaps_file.rt:168:1
 pub judge-text-spec : {M : Type 1} → statement M
 judge-text-spec =
     tie.close

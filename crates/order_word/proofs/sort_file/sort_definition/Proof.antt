@@ -4,21 +4,6 @@ use borrow.Author.Needs.{needs}
 use Rattle.order_word.proofs.sort_file.sort_definition.Statement.{statement}
 use Rattle.order_word.proofs.sort_file.sort_definition.Tie as tie
 
--- src/sort_file.rt:55:8
--- src/sort_file.rt:56:14
--- src/sort_file.rt:56:9
--- src/sort_file.rt:57:9
--- src/sort_file.rt:59:20
--- src/sort_file.rt:60:46
--- src/sort_file.rt:60:29
--- src/sort_file.rt:60:20
--- src/sort_file.rt:61:9
--- src/sort_file.rt:61:9
--- src/sort_file.rt:63:15
--- src/sort_file.rt:63:15
--- src/sort_file.rt:63:5
--- src/sort_file.rt:64:5
--- src/sort_file.rt:54:1
 pub sort-definition-spec : {M : Type 1} → statement M
 sort-definition-spec =
     tie.close

@@ -5,17 +5,6 @@ use borrow.Author.Needs.{needs}
 use Rattle.order_word.proofs.sort_file.sort_text.Statement.{statement}
 use Rattle.order_word.proofs.sort_file.sort_text.Tie as tie
 
--- src/sort_file.rt:36:11
--- src/sort_file.rt:37:25
--- src/sort_file.rt:37:48
--- src/sort_file.rt:37:48
--- src/sort_file.rt:37:31
--- src/sort_file.rt:38:26
--- src/sort_file.rt:38:38
--- src/sort_file.rt:35:1
--- src/sort_file.rt:35:1
--- src/sort_file.rt:35:1
--- src/sort_file.rt:35:1
 pub sort-text-spec : {M : Type 1} → statement M
 sort-text-spec =
     tie.close

@@ -4,7 +4,5 @@ use Rattle.overlaps.proofs.Laws.{laws}
 use Rattle.overlaps.proofs.headers.greater.Statement.{statement}
 use Rattle.overlaps.proofs.headers.greater.Tie as tie
 
--- src/headers.rt:73:1
--- src/headers.rt:73:1
 pub greater-spec : {M : Type 1} → statement M
 greater-spec = tie.close (tie.spec (λ c. search (needs, laws)) (λ c. search (needs, laws)))

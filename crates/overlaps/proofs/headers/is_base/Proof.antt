@@ -4,12 +4,6 @@ use borrow.Author.Needs.{needs}
 use Rattle.overlaps.proofs.headers.is_base.Statement.{statement}
 use Rattle.overlaps.proofs.headers.is_base.Tie as tie
 
--- src/headers.rt:151:25
--- src/headers.rt:152:30
--- src/headers.rt:153:28
--- src/headers.rt:147:1
--- src/headers.rt:147:1
--- src/headers.rt:147:1
 pub is-base-spec : {M : Type 1} → statement M
 is-base-spec =
     tie.close

@@ -4,11 +4,6 @@ use borrow.Author.Needs.{needs}
 use Rattle.overlaps.proofs.headers.is_validated.Statement.{statement}
 use Rattle.overlaps.proofs.headers.is_validated.Tie as tie
 
--- src/headers.rt:165:11
--- src/headers.rt:166:63
--- src/headers.rt:167:36
--- src/headers.rt:161:1
--- src/headers.rt:161:1
 pub is-validated-spec : {M : Type 1} → statement M
 is-validated-spec =
     tie.close

@@ -4,13 +4,6 @@ use borrow.Author.Needs.{needs}
 use Rattle.overlaps.proofs.headers.of_one_base.Statement.{statement}
 use Rattle.overlaps.proofs.headers.of_one_base.Tie as tie
 
--- src/headers.rt:162:25
--- src/headers.rt:162:31
--- src/headers.rt:163:30
--- src/headers.rt:164:28
--- src/headers.rt:158:1
--- src/headers.rt:158:1
--- src/headers.rt:158:1
 pub of-one-base-spec : {M : Type 1} → statement M
 of-one-base-spec =
     tie.close

@@ -4,10 +4,6 @@ use borrow.Author.Needs.{needs}
 use Rattle.overlaps.proofs.headers.tell_heads.Statement.{statement}
 use Rattle.overlaps.proofs.headers.tell_heads.Tie as tie
 
--- src/headers.rt:200:9
--- src/headers.rt:201:9
--- src/headers.rt:203:5
--- src/headers.rt:196:1
 pub tell-heads-spec : {M : Type 1} → statement M
 tell-heads-spec =
     tie.close

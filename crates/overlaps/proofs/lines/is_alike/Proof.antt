@@ -4,12 +4,6 @@ use borrow.Author.Needs.{needs}
 use Rattle.overlaps.proofs.lines.is_alike.Statement.{statement}
 use Rattle.overlaps.proofs.lines.is_alike.Tie as tie
 
--- src/lines.rt:98:9
--- src/lines.rt:99:9
--- src/lines.rt:101:9
--- src/lines.rt:102:9
--- src/lines.rt:104:5
--- src/lines.rt:95:1
 pub is-alike-spec : {M : Type 1} → statement M
 is-alike-spec =
     tie.close

@@ -4,10 +4,6 @@ use borrow.Author.Needs.{needs}
 use Rattle.overlaps.proofs.lines.same_names.Statement.{statement}
 use Rattle.overlaps.proofs.lines.same_names.Tie as tie
 
--- src/lines.rt:78:9
--- src/lines.rt:79:9
--- src/lines.rt:81:5
--- src/lines.rt:75:1
 pub same-names-spec : {M : Type 1} → statement M
 same-names-spec =
     tie.close

@@ -4,12 +4,6 @@ use borrow.Author.Needs.{needs}
 use Rattle.overlaps.proofs.lines.same_numbers.Statement.{statement}
 use Rattle.overlaps.proofs.lines.same_numbers.Tie as tie
 
--- src/lines.rt:61:9
--- src/lines.rt:64:9
--- src/lines.rt:67:9
--- src/lines.rt:71:5
--- src/lines.rt:71:25
--- src/lines.rt:57:1
 pub same-numbers-spec : {M : Type 1} → statement M
 same-numbers-spec =
     tie.close

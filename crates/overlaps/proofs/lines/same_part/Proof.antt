@@ -4,10 +4,6 @@ use borrow.Author.Needs.{needs}
 use Rattle.overlaps.proofs.lines.same_part.Statement.{statement}
 use Rattle.overlaps.proofs.lines.same_part.Tie as tie
 
--- src/lines.rt:24:9
--- src/lines.rt:25:9
--- src/lines.rt:26:5
--- src/lines.rt:21:1
 pub same-part-spec : {M : Type 1} → statement M
 same-part-spec =
     tie.close

@@ -4,10 +4,6 @@ use borrow.Author.Needs.{needs}
 use Rattle.overlaps.proofs.lines.same_paths.Statement.{statement}
 use Rattle.overlaps.proofs.lines.same_paths.Tie as tie
 
--- src/lines.rt:88:9
--- src/lines.rt:89:9
--- src/lines.rt:91:5
--- src/lines.rt:85:1
 pub same-paths-spec : {M : Type 1} → statement M
 same-paths-spec =
     tie.close
