@@ -73,7 +73,8 @@ unfolding told answer reading baseRead listed exists packed innerAt ordered inse
     ofLevel tableFrom innerTable numbersOf rowsEach
 second-holds = refl
 
--- `B|0/H|0|0|0000|a/P|0|0|8|HEX|x|-|-|-/P|1|0|4|HEX|y|-|-|-/P|1|1|4|HEX|m|-|-|-/V|x.y|1/H|1|0|0000|b/V|x.y|2/P|0|0|8|HEX|x|-|-|-/P|1|0|4|HEX|y|-|-|-/P|0|1|8|HEX|n|-|-|-/`
+-- `B|0/H|0|0|0000|a/P|0|0|8|HEX|x|-|-|-/P|1|0|4|HEX|y|-|-|-/P|1|1|4|HEX|m|-|-|-/V|x.y|1/
+-- H|1|0|0000|b/V|x.y|2/P|0|0|8|HEX|x|-|-|-/P|1|0|4|HEX|y|-|-|-/P|0|1|8|HEX|n|-|-|-/`
 -- Fields of their own that say the same up to the one that is looked at: `x` and the first inside it
 abbrev alikes : List ℕ
 alikes =
