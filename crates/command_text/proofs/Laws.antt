@@ -16,11 +16,11 @@ use Rattle.text.proofs.Laws.{cells-length}
 use Rattle.text.proofs.Tests.{and-left, and-right, count-of, value-of, optional-value-of}
 use Rattle.command_kept.specs.declared.Form.{Form}
 use Rattle.command_kept.specs.declared.Form.the-variants.{Param, Group, Item, Bad}
-use Rattle.command_text.specs.Form.{Record, group, item, variant, bitField, typeName, lastTypes, lateTypes, typeAmong, typeOf, known}
+use Rattle.command_text.specs.Form.{Record, group, item, variant, bitField, typeName, typeAmong, typeOf, known}
 use Rattle.command_text.specs.Form.{paramWords, paramCondition, paramFields}
 use Rattle.command_text.specs.Form.{groupFields, groupForm, variantFields, variantForm, arrayForm, namedForm, bitsFields, bitsForm, bitmaskForm}
 use Rattle.command_text.specs.Form.{groupOf, sizeOf, bitsOf, ofType, said, paramSaid, form}
-use Rattle.command_text.specs.Shape.{tagged, shape}
+use Rattle.command_text.specs.Shape.{lateTypes, lastTypes, tagged, shape}
 use Rattle.command_text.specs.declared.ParamType.{ParamType}
 use Rattle.command_text.specs.declared.ParamType.the-variants as kind
 use Rattle.command_text.specs.declared.Typed.{Typed}

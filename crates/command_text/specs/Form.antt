@@ -85,15 +85,9 @@ typeName Variant = 0x56 ∷ 0x41 ∷ 0x52 ∷ 0x49 ∷ 0x41 ∷ 0x4e ∷ 0x54 �
 typeName Bitmask = 0x42 ∷ 0x49 ∷ 0x54 ∷ 0x4d ∷ 0x41 ∷ 0x53 ∷ 0x4b ∷ []
 typeName MultiArray = 0x4d ∷ 0x55 ∷ 0x4c ∷ 0x54 ∷ 0x49 ∷ 0x5f ∷ 0x41 ∷ 0x52 ∷ 0x52 ∷ 0x41 ∷ 0x59 ∷ []
 
--- T30: all of them, the last seven apart, and of those the last three
-abbrev pub lastTypes : List ParamType
-lastTypes = Variant ∷ Bitmask ∷ MultiArray ∷ []
-
-abbrev pub lateTypes : List ParamType
-lateTypes = Word ∷ Bit24 ∷ Dword ∷ Array ∷ lastTypes
-
+-- T30: all of them
 abbrev pub types : List ParamType
-types = Byte ∷ StructByte ∷ Const ∷ Marker ∷ lateTypes
+types = Byte ∷ StructByte ∷ Const ∷ Marker ∷ Word ∷ Bit24 ∷ Dword ∷ Array ∷ Variant ∷ Bitmask ∷ MultiArray ∷ []
 
 -- the type among these whose word is l
 abbrev pub typeAmong : List ParamType → List ℕ → Typed

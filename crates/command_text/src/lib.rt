@@ -11,11 +11,11 @@ ghost use mathlib.Core.Path.{_≡_};
 ghost use Rattle.text.specs.Text.{field};
 ghost use Rattle.text.specs.Judge.{Checks};
 ghost use Rattle.text.specs.Place.{kindOf, cells, Marked, Has};
-ghost use Rattle.command_text.specs.Form.{typeAmong, lateTypes, lastTypes, typeOf, known, paramWords, paramCondition, paramFields, groupFields};
+ghost use Rattle.command_text.specs.Form.{typeAmong, typeOf, known, paramWords, paramCondition, paramFields, groupFields};
 ghost use Rattle.command_text.specs.Form.{variantFields, bitsFields, groupForm, variantForm, arrayForm, namedForm, bitsForm, bitmaskForm, paramSaid};
 ghost use Rattle.command_text.specs.Form.{said, form, group, item, variant, groupOf, sizeOf, bitField, bitsOf};
 ghost use Rattle.command_text.specs.Rules.{rules};
-ghost use Rattle.command_text.specs.Shape.{tagged, shape};
+ghost use Rattle.command_text.specs.Shape.{lateTypes, lastTypes, tagged, shape};
 ghost use mathlib.Core.Option.{some};
 
 // The type of a parameter, by the XML names of the source.

@@ -68,12 +68,9 @@ typeName NodeNumber = 0x4e ∷ 0x4f ∷ 0x44 ∷ 0x45 ∷ 0x5f ∷ 0x4e ∷ 0x55
 typeName Boolean = 0x42 ∷ 0x4f ∷ 0x4f ∷ 0x4c ∷ 0x45 ∷ 0x41 ∷ 0x4e ∷ []
 typeName Bitmask = 0x42 ∷ 0x49 ∷ 0x54 ∷ 0x4d ∷ 0x41 ∷ 0x53 ∷ 0x4b ∷ []
 
--- T16: all of them, the last three apart
-abbrev pub lateTypes : List ParamType
-lateTypes = NodeNumber ∷ Boolean ∷ Bitmask ∷ []
-
+-- T16: all of them
 abbrev pub types : List ParamType
-types = Hex ∷ Number ∷ NumberSigned ∷ lateTypes
+types = Hex ∷ Number ∷ NumberSigned ∷ NodeNumber ∷ Boolean ∷ Bitmask ∷ []
 
 -- the type among these whose word is l
 abbrev pub typeAmong : List ParamType → List ℕ → Typed

@@ -13,10 +13,10 @@ ghost use mathlib.Core.Bool.{_&&_};
 ghost use Rattle.text.specs.Text.{field, number};
 ghost use Rattle.text.specs.Judge.{Checks};
 ghost use Rattle.text.specs.Place.{kindOf, cells, Marked, Has};
-ghost use Rattle.frame_text.specs.Form.{typeAmong, lateTypes, typeOf, known, flags, frequencyForm, baseForm, headerForm, paramNumbers, paramPaths};
+ghost use Rattle.frame_text.specs.Form.{typeAmong, typeOf, known, flags, frequencyForm, baseForm, headerForm, paramNumbers, paramPaths};
 ghost use Rattle.frame_text.specs.Form.{paramWords, paramSaid, validationForm, setForm, entryForm, form};
 ghost use Rattle.frame_text.specs.Rules.{rules};
-ghost use Rattle.frame_text.specs.Shape.{levelOf, shape, tagged};
+ghost use Rattle.frame_text.specs.Shape.{lateTypes, levelOf, shape, tagged};
 
 // The type of a field, by the XML names of the source.
 pub enum ParamType {
