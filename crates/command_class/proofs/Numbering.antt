@@ -23,7 +23,7 @@ use Rattle.command_text.specs.Form.{said, form}
 use Rattle.command_text.specs.Rules.{rules}
 use Rattle.command_text.specs.declared.ParamType.the-variants.{Byte}
 use Rattle.command_text.proofs.Laws.{bits-shift}
-use Rattle.command_class.specs.Definition.{Item, letter, readAs, numbered}
+use Rattle.command_class.specs.Definition.{Item, letter, readAs, numbered, constOf, constIn}
 use Rattle.command_class.specs.Find.{from, among, Says, Numbers, Begins}
 use Rattle.command_class.specs.declared.Row.{Row}
 use Rattle.command_class.proofs.Saying.{kind-letter}
@@ -69,6 +69,39 @@ field-ends (x ∷ xs) g h gs r e = go (eqb x 10) (eqb x 9) (first xs) refl refl 
     go false false unended is same y ih = absurd (let z : _≡_ {A = ℕ} 0 1 = cc in omega arith)
     go false false (ended [] q) is same y ih = absurd (let z : _≡_ {A = ℕ} 0 1 = cc in omega arith)
     go false false (ended (f ∷ fs) q) is same y ih = longer-ends f fs q same is y ih
+
+-- ---- the last field of a line ends at the line's end
+some-fields : (l q : List ℕ) → first l ≡ ended [] q → ⊥
+some-fields [] q e = let z : _≡_ {A = ℕ} 0 1 = cc in omega arith
+some-fields (x ∷ xs) q e = go (eqb x 10) (eqb x 9) (first xs) e
+  where
+    go : (a b : Bool) (f : First) → cond a (ended ([] ∷ []) xs) (cond b (after ([] ∷ []) f) (longer x f)) ≡ ended [] q → ⊥
+    go true b f y = let z : _≡_ {A = ℕ} 0 1 = cc in omega arith
+    go false true unended y = let z : _≡_ {A = ℕ} 0 1 = cc in omega arith
+    go false true (ended fs r) y = let z : _≡_ {A = ℕ} 0 1 = cc in omega arith
+    go false false unended y = let z : _≡_ {A = ℕ} 0 1 = cc in omega arith
+    go false false (ended [] r) y = let z : _≡_ {A = ℕ} 0 1 = cc in omega arith
+    go false false (ended (f ∷ fs) r) y = let z : _≡_ {A = ℕ} 0 1 = cc in omega arith
+
+last-ends : (l g r : List ℕ) → first l ≡ ended (g ∷ []) r → (take (cut 10 l) l ≡ g) × (cut 10 l < length l)
+last-ends [] g r e = absurd (let z : _≡_ {A = ℕ} 0 1 = cc in omega arith)
+last-ends (x ∷ xs) g r e = go (eqb x 10) (eqb x 9) (first xs) refl refl e (λ f q is. last-ends xs f q is)
+  where
+    go : (a b : Bool) (f : First) → eqb x 10 ≡ a → first xs ≡ f
+        → cond a (ended ([] ∷ []) xs) (cond b (after ([] ∷ []) f) (longer x f)) ≡ ended (g ∷ []) r
+        → ((f q : List ℕ) → first xs ≡ ended (f ∷ []) q → (take (cut 10 xs) xs ≡ f) × (cut 10 xs < length xs))
+        → (take (cut 10 (x ∷ xs)) (x ∷ xs) ≡ g) × (cut 10 (x ∷ xs) < length (x ∷ xs))
+    go true b f is same y ih = let a : [] ≡ g = cc in (rw is a, rw is (omega arith))
+    go false true unended is same y ih = absurd (let z : _≡_ {A = ℕ} 0 1 = cc in omega arith)
+    go false true (ended [] q) is same y ih = absurd (some-fields xs q same)
+    go false true (ended (f ∷ fs) q) is same y ih = absurd (let z : _≡_ {A = ℕ} 0 1 = cc in omega arith)
+    go false false unended is same y ih = absurd (let z : _≡_ {A = ℕ} 0 1 = cc in omega arith)
+    go false false (ended [] q) is same y ih = absurd (some-fields xs q same)
+    go false false (ended (f ∷ (h ∷ hs)) q) is same y ih = absurd (let z : _≡_ {A = ℕ} 0 1 = cc in omega arith)
+    go false false (ended (f ∷ []) q) is same y ih =
+        let i = ih f q same in
+        let a : x ∷ f ≡ g = cc in
+        (rw is (ap (λ (k : List ℕ). x ∷ k) (i .0) ∙ a), rw is (omega (arith, i .1)))
 
 -- ---- behind the kind, which is one byte
 pub record Behind (l : List ℕ) (fs : List (List ℕ)) (r : List ℕ) : Type 0 where
@@ -187,18 +220,32 @@ module _ (t : List ℕ) (p : Place) (readable : Readable rules t p) (inside : p 
   abbrev tail-here : List ℕ
   tail-here = take (length t - (p .at + 2)) (drop (p .at + 2) t)
 
-  -- the first number
-  first-field : (kind ≡ 0 → ⊥) → 3 ≤ length fs → (b : Behind (drop (p .at) t) fs (here .more))
-      → Ends tail-here (b .one) (ended (b .two ∷ b .others) (here .more))
-  first-field h long b =
-      field-ends tail-here (b .one) (b .two) (b .others) (here .more)
-      (rw (tail t (p .at + 2), ← drop-drop 2 (p .at) t) (b .next))
+  -- what stands behind a tab at e
+  abbrev behind-tab : ℕ → List ℕ
+  behind-tab e = take (length tail-here - (e + 1)) (drop (e + 1) tail-here)
+
+  -- the first number, and what stands behind it
+  module _ (e : ℕ) (e-is : e ≡ cut 9 tail-here) (h : kind ≡ 0 → ⊥) (long : 3 ≤ length fs) where
+    abbrev parts : Behind (drop (p .at) t) fs (here .more)
+    parts = fields-behind h long
+
+    abbrev ends-one : Ends tail-here (parts .one) (ended (parts .two ∷ parts .others) (here .more))
+    ends-one =
+        field-ends tail-here (parts .one) (parts .two) (parts .others) (here .more)
+        (rw (tail t (p .at + 2), ← drop-drop 2 (p .at) t) (parts .next))
+
+    one-field : take e tail-here ≡ field 1 fs
+    one-field = ap (λ (k : ℕ). take k tail-here) e-is ∙ ends-one .is ∙ parts .one-is
+
+    more-room : e + 1 ≤ length tail-here
+    more-room = let a : cut 9 tail-here < length tail-here = ends-one .inside in omega (arith, e-is)
+
+    more-is : first (behind-tab e) ≡ ended (parts .two ∷ parts .others) (here .more)
+    more-is = ap first (tail tail-here (e + 1)) ∙ ap (λ (k : ℕ). first (drop (k + 1) tail-here)) e-is ∙ ends-one .next
 
   module _ (e : ℕ) (e-is : e ≡ cut 9 tail-here) (n : ℕ) (n-is : n ≡ value 255 (take e tail-here)) where
     number-is : (kind ≡ 0 → ⊥) → 3 ≤ length fs → n ≡ value 255 (field 1 fs)
-    number-is h long =
-        let b : Behind (drop (p .at) t) fs (here .more) = fields-behind h long in
-        n-is ∙ ap (value 255) (ap (λ (k : ℕ). take k tail-here) e-is ∙ first-field h long b .is ∙ b .one-is)
+    number-is h long = n-is ∙ ap (value 255) (one-field e e-is h long)
 
     says-as : (x : Record) (r : Row) → form fs ≡ some x → kind ≡ letter x → r .kind ≡ kind → Says x r → Numbers t p r
     says-as x r is l k s =
@@ -241,31 +288,35 @@ module _ (t : List ℕ) (p : Place) (readable : Readable rules t p) (inside : p 
           go true q y = eqb-true kind 83 q
           go false q y = absurd (let z : _≡_ {A = ℕ} 0 1 = cc in omega arith)
 
-      abbrev parts : Behind (drop (p .at) t) fs (here .more)
-      parts = fields-behind (λ z. omega (arith, is-field)) (omega (arith, field-long is-field))
+      no-zero : kind ≡ 0 → ⊥
+      no-zero z = omega (arith, is-field)
 
-      abbrev ends-one : Ends tail-here (parts .one) (ended (parts .two ∷ parts .others) (here .more))
-      ends-one = first-field (λ z. omega (arith, is-field)) (omega (arith, field-long is-field)) parts
+      four : 3 ≤ length fs
+      four = omega (arith, field-long is-field)
+
+      abbrev fours : Behind (drop (p .at) t) fs (here .more)
+      fours = parts e e-is no-zero four
 
       pub numbered-more : e + 1 ≤ length tail-here
-      numbered-more = let a : cut 9 tail-here < length tail-here = ends-one .inside in omega (arith, e-is)
+      numbered-more = more-room e e-is no-zero four
 
-      abbrev more : List ℕ
-      more = take (length tail-here - (e + 1)) (drop (e + 1) tail-here)
-
-      second-field : (d : ℕ) → d ≡ cut 9 more → take d more ≡ field 2 fs
-      second-field d d-is = go (parts .others) refl
+      second-field : (d : ℕ) → d ≡ cut 9 (behind-tab e) → take d (behind-tab e) ≡ field 2 fs
+      second-field d d-is = go (fours .others) refl
         where
-          go : (os : List (List ℕ)) → parts .others ≡ os → take d more ≡ field 2 fs
-          go [] q = absurd (let a = parts .many in let b = field-long is-field in let c : length (parts .others) ≡ 0 = ap length q in omega arith)
+          go : (os : List (List ℕ)) → fours .others ≡ os → take d (behind-tab e) ≡ field 2 fs
+          go [] q =
+              absurd
+              (let a = fours .many in
+              let b = field-long is-field in
+              let c : length (fours .others) ≡ 0 = ap length q in
+              omega arith)
           go (o ∷ os) q =
-              let f : first more ≡ ended (parts .two ∷ o ∷ os) (here .more) =
-              ap first (tail tail-here (e + 1)) ∙ ap (λ (k : ℕ). first (drop (k + 1) tail-here)) e-is ∙ ends-one .next
-              ∙ ap (λ (x : List (List ℕ)). ended (parts .two ∷ x) (here .more)) q in
-              let i : Ends more (parts .two) (ended (o ∷ os) (here .more)) = field-ends more (parts .two) o os (here .more) f in
-              ap (λ (k : ℕ). take k more) d-is ∙ i .is ∙ parts .two-is
+              let f : first (behind-tab e) ≡ ended (fours .two ∷ o ∷ os) (here .more) =
+              more-is e e-is no-zero four ∙ ap (λ (x : List (List ℕ)). ended (fours .two ∷ x) (here .more)) q in
+              let i = field-ends (behind-tab e) (fours .two) o os (here .more) f in
+              ap (λ (k : ℕ). take k (behind-tab e)) d-is ∙ i .is ∙ fours .two-is
 
-      pub numbered-field : (d s : ℕ) → d ≡ cut 9 more → s ≡ optionalValue 255 (take d more)
+      pub numbered-field : (d s : ℕ) → d ≡ cut 9 (behind-tab e) → s ≡ optionalValue 255 (take d (behind-tab e))
           → Numbers t p (record { kind = kind; level = 0; typed = Byte; offset = 0; mask = n; shift = s; value = 0; ascii = false })
       numbered-field d s d-is s-is =
           let w = field-said fs formed (kind-is ∙ is-field) in
@@ -275,5 +326,61 @@ module _ (t : List ℕ) (p : Place) (readable : Readable rules t p) (inside : p 
                 ∙ value-of 255 (field 1 fs) (and-left (upTo 255 (field 1 fs)) _ f),
             s-is ∙ ap (optionalValue 255) (second-field d d-is) ∙ optional-value-of 255 (field 2 fs) (bits-shift fs f),
           )
+
+  -- the name of a K
+  module _ (is : kind ≡ 75) where
+    no-zero-const : kind ≡ 0 → ⊥
+    no-zero-const z = omega (arith, is)
+
+    three : 3 ≤ length fs
+    three = omega (arith, const-long is)
+
+    pub const-room : p .at + 2 ≤ length t
+    const-room = room no-zero-const three
+
+    module _ (e : ℕ) (e-is : e ≡ cut 9 tail-here) where
+      pub const-more : e + 1 ≤ length tail-here
+      const-more = more-room e e-is no-zero-const three
+
+      abbrev threes : Behind (drop (p .at) t) fs (here .more)
+      threes = parts e e-is no-zero-const three
+
+      name-ends : take (cut 10 (behind-tab e)) (behind-tab e) ≡ field 2 fs
+      name-ends = go (threes .others) refl
+        where
+          go : (os : List (List ℕ)) → threes .others ≡ os → take (cut 10 (behind-tab e)) (behind-tab e) ≡ field 2 fs
+          go (o ∷ os) q =
+              absurd
+              (let a = threes .many in
+              let b = const-long is in
+              let c : length (threes .others) ≡ length (o ∷ os) = ap length q in
+              omega arith)
+          go [] q =
+              let f : first (behind-tab e) ≡ ended (threes .two ∷ []) (here .more) =
+              more-is e e-is no-zero-const three
+              ∙ ap (λ (x : List (List ℕ)). ended (threes .two ∷ x) (here .more)) q in
+              last-ends (behind-tab e) (threes .two) (here .more) f .0 ∙ threes .two-is
+
+      pub const-named : (d : ℕ) → d ≡ cut 10 (behind-tab e) → take d (behind-tab e) ≡ constIn (from t p)
+      const-named d d-is =
+          let s = const-said fs formed (is-const is) in
+          let same : here .said ≡ item (const (worth 0 (field 1 fs)) (field 2 fs)) =
+          (let z : some (here .said) ≡ some (item (const (worth 0 (field 1 fs)) (field 2 fs))) = sym (here .form-is) ∙ s .1 in cc) in
+          ap (λ (k : ℕ). take k (behind-tab e)) d-is ∙ name-ends ∙ sym (ap constIn (begin .lines) ∙ ap constOf (sym said-is ∙ same))
+
+  pub const-unnamed : (kind ≡ 75 → ⊥) → [] ≡ constIn (from t p)
+  const-unnamed h = rw (begin .lines) (go (begin .said) (λ z. h (begin .kind ∙ z)))
+    where
+      go : (x : Record) → (letter x ≡ 75 → ⊥) → [] ≡ constOf x
+      go (param q) k = refl
+      go (group g) k = refl
+      go (item (variant s)) k = refl
+      go (item (array m a)) k = refl
+      go (item (bitFlag m l)) k = refl
+      go (item (bitField m)) k = refl
+      go (item (const w l)) k = absurd (k refl)
+      go (item (bitmask m)) k = refl
+
+pub ruleset name-laws = (const-room, const-more, const-named, const-unnamed)
 
 pub ruleset numbered-laws = (numbered-room, numbered-const, numbered-flag, numbered-more, numbered-field)

@@ -102,3 +102,24 @@ isValue v (some value) = eqb value v
 abbrev pub firstConst : ℕ → List Item → ℕ
 firstConst v [] = 0
 firstConst v (i ∷ is) = cond (isValue v (ofItem asConst (i .says))) (i .line) (firstConst v is)
+
+-- C12: is the first of these lines a K of this value
+abbrev pub valueIn : ℕ → List Item → Bool
+valueIn v [] = false
+valueIn v (i ∷ is) = isValue v (ofItem asConst (i .says))
+
+-- the name of a K
+abbrev pub constOf : Record → List ℕ
+constOf (param q) = []
+constOf (group g) = []
+constOf (item (variant s)) = []
+constOf (item (array length ascii)) = []
+constOf (item (bitFlag mask name)) = []
+constOf (item (bitField b)) = []
+constOf (item (const value name)) = name
+constOf (item (bitmask length)) = []
+
+-- C12: the name of the first of these lines, if it is a K
+abbrev pub constIn : List Item → List ℕ
+constIn [] = []
+constIn (i ∷ is) = constOf (i .says)

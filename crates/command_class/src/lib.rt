@@ -14,7 +14,7 @@ ghost use Rattle.text.specs.Place.{cells, Has};
 ghost use Rattle.text.specs.Records.{Readable};
 ghost use Rattle.command_text.specs.Form.{typeOf};
 ghost use Rattle.command_text.specs.Rules.{rules};
-ghost use Rattle.command_class.specs.Definition.{under, readAs, firstConst};
+ghost use Rattle.command_class.specs.Definition.{under, readAs, firstConst, valueIn, constIn};
 ghost use Rattle.command_class.specs.Find.{from, Good, among, optionalOr, Tells, Numbers, IsRead, Begins, Follows};
 
 // What a line says, as numbers; 256 for a missing offset, mask or length, 0 where the line has no such number.
@@ -271,6 +271,19 @@ pub fn pass_at(text: &[u8], place: Place) -> Place
     place.pass(text)
 }
 
+// Is the line at a place a K with this value?
+fn is_const(text: &[u8], place: Place, value: u16) -> bool
+    requires { ⌜ (Readable rules (now text) place) × (place .at < length (now text)) ⌝ }
+    ensures { λ r. ⌜ r ≡ valueIn value (from (now (text .entry)) place) ⌝ }
+{
+    let kind = kind_at(text, place);
+    if kind != b'K' {
+        return false;
+    }
+    let row = read_numbered(text, place, kind);
+    row.value == value
+}
+
 // The line of the first K with a value under the Q before the place, or 0.
 pub fn find_const(text: &[u8], start: Place, value: u16) -> usize
     requires { ⌜ Readable rules (now text) start ⌝ }
@@ -278,19 +291,29 @@ pub fn find_const(text: &[u8], start: Place, value: u16) -> usize
 {
     let mut place = start;
     while place.at < text.len() {
-        let kind = kind_at(text, place);
-        if kind == b'K' {
-            let read = read_at(text, place);
-            if read.row.value == value {
-                return place.line;
-            }
-            place = read.next;
-            continue;
-        }
-        if is_entry(kind) {
+        if is_entry(kind_at(text, place)) {
             return 0;
+        }
+        if is_const(text, place, value) {
+            return place.line;
         }
         place = pass_at(text, place);
     }
     0
+}
+
+// The name of the line at a place, if it is a K: it stands behind the number, up to the line's end.
+pub fn const_name(text: &[u8], place: Place) -> &[u8]
+    requires { ⌜ (Readable rules (now text) place) × (place .at < length (now text)) ⌝ }
+    ensures { λ r. ⌜ now r ≡ constIn (from (now (text .entry)) place) ⌝ }
+{
+    if kind_at(text, place) != b'K' {
+        return &text[..0];
+    }
+    let at = place.at + 2;
+    let rest = &text[at..];
+    let e = text::find(rest, 9) + 1;
+    let more = &rest[e..];
+    let d = text::find(more, 10);
+    &more[..d]
 }

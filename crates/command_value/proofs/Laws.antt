@@ -11,10 +11,14 @@ use borrow.Author.Tests.{eq-eqb, ne-eqb, lt-ltb}
 use Rattle.laws.proofs.Lists.{done, tail}
 use Rattle.refusal.specs.declared.Refusal.{Refusal}
 use Rattle.refusal.specs.declared.Refusal.the-variants.{TooLong}
+use Rattle.text.specs.Records.{Readable}
+use Rattle.text.specs.declared.Place.{Place}
 use Rattle.text.specs.declared.Verdict.{Verdict}
 use Rattle.text.specs.declared.Verdict.the-variants as text
-use Rattle.command_text.specs.Rules.{verdict}
-use Rattle.command_class.specs.Definition.{definition}
+use Rattle.command_text.specs.Rules.{rules, verdict}
+use Rattle.command_class.specs.Definition.{definition, under}
+use Rattle.command_class.specs.Find.{from}
+use Rattle.command_class.proofs.Limits.{accepted-within}
 use Rattle.buffer.specs.declared.Written.{Written}
 use Rattle.buffer.specs.declared.Written.the-variants as written
 use Rattle.buffer.specs.Buffer.{Writes}
@@ -24,7 +28,9 @@ use Rattle.command_rules.specs.declared.Row.{Row}
 use Rattle.command_row.specs.Answer.{rowBy, rowOf}
 use Rattle.command_row.specs.declared.Found.{Found}
 use Rattle.command_row.specs.declared.Found.the-variants as found
-use Rattle.command_value.specs.Params.{asciiAt, constName, isFlag, bytesBetween, paramText, bitText, rowText}
+use Rattle.command_rules.specs.Field.{isAscii}
+use Rattle.command_value.specs.Params.{constName, isFlag, bytesBetween, paramText, bitText, rowText}
+use Rattle.command_value.specs.Lookup.{Behind}
 use Rattle.command_value.specs.Answer.{ofFound, leftBy, CommandValue}
 use Rattle.command_value.proofs.LookupLaws.{lookup-laws}
 
@@ -43,11 +49,17 @@ module _ (p : List ℕ) (start end : ℕ) where
   between-short l e h = rw e (simp (length-take, length-drop) (omega arith))
 
 -- ---- param_value, bit_value
-pub param-shown : (t p : List ℕ) (r : Row) (ascii : Bool) (name bytes b : List ℕ) (w : Written) (b′ : List ℕ)
-    → Writes (display ascii name bytes) b w b′
-    → ascii ≡ asciiAt t (r .line) → name ≡ constName t (r .named) → bytes ≡ bytesBetween p (r .start) (r .end) → Writes (paramText t p r) b w b′
+pub param-shown : (t p : List ℕ) (r : Row) (q : Place) (ascii : Bool) (name bytes b : List ℕ) (w : Written) (b′ : List ℕ)
+    → Behind t (r .line) q → Writes (display ascii name bytes) b w b′ → ascii ≡ isAscii (under (from t q))
+    → name ≡ constName (r .named) (under (from t q)) → bytes ≡ bytesBetween p (r .start) (r .end) → Writes (paramText t p r) b w b′
 unfolding paramText
-param-shown t p r ascii name bytes b w b′ s x y z = rw (x, y, z) at s
+param-shown t p r q ascii name bytes b w b′ is s x y z = rw (x, y, z, is .lines) at s
+
+pub text-short : (t : List ℕ) → verdict t ≡ text.Accepted → length t ≤ 60000
+text-short t a = accepted-within t a .0
+
+pub items-readable : (t : List ℕ) (n : ℕ) (q : Place) → Behind t n q → Readable rules t q
+items-readable t n q is = is .readable
 
 pub bit-shown : (t : List ℕ) (r : Row) (flag : Bool) (b : List ℕ) (w : Written) (b′ : List ℕ) → Writes (displayBit flag (r .value)) b w b′
     → flag ≡ isFlag t (r .line) → Writes (bitText t r) b w b′
@@ -112,6 +124,8 @@ pub ruleset row-laws = (
   between-rest,
   between-short,
   param-shown,
+  text-short,
+  items-readable,
   bit-shown,
   row-param,
   row-bit,

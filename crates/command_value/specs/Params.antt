@@ -1,14 +1,14 @@
 -- VT2 (docs/RULES.md): what is shown of a row of a command.
 use Prim.Native.Nat.{ℕ, _-_}
-use mathlib.Core.Bool.{Bool, true, false, cond, _||_}
+use mathlib.Core.Bool.{Bool, true, false, cond}
 use mathlib.Core.List.{List, [], _∷_}
 use lib.Dec.{eqb}
 use lib.ListN.{take, drop}
 use Rattle.text.specs.Text.{lines}
 use Rattle.text.specs.Records.{records}
-use Rattle.command_text.specs.Form.{Record, param, group, item, variant, array, bitFlag, bitField, const, bitmask, form}
-use Rattle.command_class.specs.Definition.{Item, numbered, under, letter}
-use Rattle.command_rules.specs.Field.{first, asArray, asVariant, arrayAscii, variantAscii}
+use Rattle.command_text.specs.Form.{form}
+use Rattle.command_class.specs.Definition.{Item, numbered, under, letter, constIn}
+use Rattle.command_rules.specs.Field.{isAscii}
 use Rattle.command_rules.specs.declared.Row.{Row}
 use Rattle.display.specs.Display.{display, displayBit}
 
@@ -28,31 +28,13 @@ abbrev pub behind : List Item → List Item
 behind [] = []
 behind (i ∷ is) = is
 
--- C12: are the lines under a Q those of an ascii field: by its first A, or by its first R
-unfoldable pub isAscii : List Item → Bool
-isAscii is = arrayAscii (first asArray is) || variantAscii (first asVariant is)
+-- VT2: the lines under the Q of line n
+abbrev pub itemsAt : List ℕ → ℕ → List Item
+itemsAt t n = under (behind (since n (linesOf t)))
 
--- VT2: is the Q of line n ascii
-abbrev pub asciiAt : List ℕ → ℕ → Bool
-asciiAt t n = isAscii (under (behind (since n (linesOf t))))
-
-abbrev pub constOf : Record → List ℕ
-constOf (param q) = []
-constOf (group g) = []
-constOf (item (variant s)) = []
-constOf (item (array length ascii)) = []
-constOf (item (bitFlag mask name)) = []
-constOf (item (bitField b)) = []
-constOf (item (const value name)) = name
-constOf (item (bitmask length)) = []
-
-abbrev pub constIn : List Item → List ℕ
-constIn [] = []
-constIn (i ∷ is) = constOf (i .says)
-
--- C12: the name of the K of line n, or none
-abbrev pub constName : List ℕ → ℕ → List ℕ
-constName t n = constIn (since n (linesOf t))
+-- C12: the name of the K of line n among these, or none
+abbrev pub constName : ℕ → List Item → List ℕ
+constName n is = constIn (since n is)
 
 abbrev pub flagIn : List Item → Bool
 flagIn [] = false
@@ -70,7 +52,8 @@ bytesBetween p start end = take (end - start) (drop start p)
 
 -- VT2: what is shown of a parameter, a bit child, a repetition
 unfoldable pub paramText : List ℕ → List ℕ → Row → List ℕ
-paramText t p r = display (asciiAt t (r .line)) (constName t (r .named)) (bytesBetween p (r .start) (r .end))
+paramText t p r =
+    display (isAscii (itemsAt t (r .line))) (constName (r .named) (itemsAt t (r .line))) (bytesBetween p (r .start) (r .end))
 
 unfoldable pub bitText : List ℕ → Row → List ℕ
 bitText t r = displayBit (isFlag t (r .line)) (r .value)

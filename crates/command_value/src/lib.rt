@@ -6,12 +6,13 @@ use command_row::Found;
 use command_row::row_accepted;
 use command_rules::Offsets;
 use command_rules::Row;
+use command_schema::is_ascii;
 use command_text::check_command_text;
 use display::display;
 use display::display_bit;
 use display::write_nothing;
-use lookup::ascii_at;
 use lookup::const_name;
+use lookup::find_items;
 use lookup::is_flag;
 use text::Verdict;
 ghost use mathlib.Core.Path.{_≡_};
@@ -47,8 +48,9 @@ fn param_value(text: &[u8], payload: &[u8], row: Row, buffer: &mut [u8]) -> Writ
     requires { ⌜ (verdict (now text) ≡ Accepted) × (length (now payload) ≤ 2048) ⌝ }
     ensures { λ r. ⌜ Writes (paramText (now (text .entry)) (now (payload .entry)) row) (now (buffer .entry)) r (now (buffer .exit)) ⌝ }
 {
-    let ascii = ascii_at(text, row.line);
-    let name = const_name(text, row.named);
+    let items = find_items(text, row.line);
+    let ascii = is_ascii(text, items);
+    let name = const_name(text, items, row.named);
     let bytes = bytes_between(payload, row.start, row.end);
     display(ascii, name, bytes, buffer)
 }

@@ -22,8 +22,6 @@ find-const-spec =
     (λ c κs. search (needs, const-laws))
     (λ c κs. search (needs, const-laws))
     (λ c. search (needs, const-laws))
-    (λ c. search (needs, const-laws))
-    (λ c. search (needs, const-laws))
     (λ c κs. search (needs, const-laws))
     (λ c. search (needs, const-laws))
     (λ c κs. search (needs, const-laws))

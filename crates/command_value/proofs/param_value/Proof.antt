@@ -12,5 +12,6 @@ param-value-spec =
     (λ c κs. search (needs, laws))
     (λ c κs. search (needs, laws))
     (λ c κs. search (needs, laws))
+    (λ c κs. search (needs, laws))
     (λ c. search (needs, laws))
     (λ c. search (needs, laws)))

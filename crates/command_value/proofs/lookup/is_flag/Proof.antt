@@ -7,5 +7,8 @@ use Rattle.command_value.proofs.lookup.is_flag.Tie as tie
 pub is-flag-spec : {M : Type 1} → statement M
 is-flag-spec =
     tie.close
-    (tie.spec (λ c κs. search (needs, laws)) (λ c. search (needs, laws)) (λ c. search (needs, laws)) (λ c. search (needs, laws))
-    (λ c κs. search (needs, laws)) (λ c. search (needs, laws)))
+    (tie.spec
+    (λ c κs. search (needs, laws))
+    (λ c κs. search (needs, laws))
+    (λ c. search (needs, laws))
+    (λ c. search (needs, laws)))
