@@ -104,10 +104,6 @@ isConst Variant = false
 isConst Bitmask = false
 isConst MultiArray = false
 
--- C12: are these the lines of an ascii Q: by its first A, or by its first R
-unfoldable pub isAscii : List Item → Bool
-isAscii is = arrayAscii (first asArray is) || variantAscii (first asVariant is)
-
 -- C12: is the value named by a K
 abbrev pub isNamed : ParamType → Option (ℕ × Bool) → Option Size → Bool
 isNamed type a r = isConst type && (not (arrayAscii a) && not (variantAscii r))

@@ -1,6 +1,6 @@
 -- Laws of the small functions: one for each way through the code. Assumes nothing.
-use mathlib.Core.Path.{_≡_, refl, sym, _∙_}
-use mathlib.Core.Bool.{Bool, true, false, cond, not, _&&_, _||_}
+use mathlib.Core.Path.{_≡_, refl}
+use mathlib.Core.Bool.{Bool, true, false, cond}
 use mathlib.Core.List.{List}
 use mathlib.Core.Option.{none, some}
 use Prim.Native.Nat.{ℕ, _*_, _≤_, _<_}
@@ -201,30 +201,16 @@ module _ (g : Gathered) where
       pub named-not : x ≡ false → _≡_ {A = ℕ} 0 (cond (isNamed type (arrayIn g) (variantIn g)) 1 0)
       named-not e = rw (← is-x, e)
 
-      module _ (a : Bool) (is-a : a ≡ (arrayAscii (arrayIn g) || variantAscii (variantIn g))) (const : x ≡ true) where
-        pub named-ascii : a ≡ true → _≡_ {A = ℕ} 0 (cond (isNamed type (arrayIn g) (variantIn g)) 1 0)
-        named-ascii e = rw (← is-x, const) (go (arrayAscii (arrayIn g)) (variantAscii (variantIn g)) (sym is-a ∙ e))
-          where
-            go : (y z : Bool) → (y || z) ≡ true → _≡_ {A = ℕ} 0 (cond (not y && not z) 1 0)
-            go true z h = refl
-            go false true h = refl
-            go false false h = absurd (let w : _≡_ {A = ℕ} 0 1 = cc in omega arith)
+      module _ (a : Bool) (is-a : a ≡ arrayAscii (arraySaid (g .array))) (const : x ≡ true) where
+        pub named-array : a ≡ true → _≡_ {A = ℕ} 0 (cond (isNamed type (arrayIn g) (variantIn g)) 1 0)
+        named-array e = rw (← is-x, const, ← is-a, e)
 
-        pub named-is : a ≡ false → _≡_ {A = ℕ} 1 (cond (isNamed type (arrayIn g) (variantIn g)) 1 0)
-        named-is e = rw (← is-x, const) (go (arrayAscii (arrayIn g)) (variantAscii (variantIn g)) (sym is-a ∙ e))
-          where
-            go : (y z : Bool) → (y || z) ≡ false → _≡_ {A = ℕ} 1 (cond (not y && not z) 1 0)
-            go true z h = absurd (let w : _≡_ {A = ℕ} 0 1 = cc in omega arith)
-            go false true h = absurd (let w : _≡_ {A = ℕ} 0 1 = cc in omega arith)
-            go false false h = refl
+        module _ (v : Bool) (is-v : v ≡ variantAscii (variantSaid (g .variant))) (plain : a ≡ false) where
+          pub named-variant : v ≡ true → _≡_ {A = ℕ} 0 (cond (isNamed type (arrayIn g) (variantIn g)) 1 0)
+          named-variant e = rw (← is-x, const, ← is-a, plain, ← is-v, e)
 
--- ---- is_gathered_ascii
-module _ (g : Gathered) (a : Bool) (is-a : a ≡ arrayAscii (arraySaid (g .array))) where
-  pub ascii-array : a ≡ true → true ≡ (arrayAscii (arrayIn g) || variantAscii (variantIn g))
-  ascii-array e = rw (← is-a, e)
-
-  pub ascii-variant : (v : Bool) → v ≡ variantAscii (variantSaid (g .variant)) → a ≡ false → v ≡ (arrayAscii (arrayIn g) || variantAscii (variantIn g))
-  ascii-variant v is-v e = rw (← is-a, e) is-v
+          pub named-is : v ≡ false → _≡_ {A = ℕ} 1 (cond (isNamed type (arrayIn g) (variantIn g)) 1 0)
+          named-is e = rw (← is-x, const, ← is-a, plain, ← is-v, e)
 
 pub param-loaded : (r : Row) (p next : Place) (g : Gathered) (length named : ℕ)
     → length ≡ lengthNumber (ruleOf (r .typed) (bitmaskIn g) (arrayIn g) (variantIn g))
@@ -291,9 +277,8 @@ pub ruleset laws = (
   length-bitmask,
   length-multi,
   named-not,
-  named-ascii,
+  named-array,
+  named-variant,
   named-is,
-  ascii-array,
-  ascii-variant,
   param-loaded,
 )

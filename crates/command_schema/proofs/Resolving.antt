@@ -24,11 +24,9 @@ use Rattle.command_lengths.specs.Entries.{given}
 use Rattle.command_rules.specs.declared.Rule.{Rule}
 use Rattle.command_rules.specs.declared.Rule.the-variants.{Fixed, Open, Counted}
 use Rattle.command_rules.specs.Field.{orElse, first, asVariant, asArray, asBitmask, arrayRule, variantRule, variableRule, ruleOf}
-use Rattle.command_rules.specs.Field.{arrayAscii, variantAscii, isAscii}
-use Rattle.command_schema.specs.Gathered.{gatheredNone, noted, gathered, Gathers, bitmaskIn, arrayIn, variantIn, lengthNumber}
+use Rattle.command_schema.specs.Gathered.{noted, gathered, bitmaskIn, arrayIn, variantIn, lengthNumber}
 use Rattle.command_rules.specs.Limits.{isBits, countBits}
 use Rattle.command_schema.specs.declared.items.Gathered.{Gathered}
-use Rattle.command_schema.specs.declared.items.Under.{Under}
 
 -- ---- lines that say numbers of 0 to 255
 abbrev pub AllFit : List Item → Type 0
@@ -156,14 +154,6 @@ variant-step g (item (bitmask l)) fit = alike variantIn (eqb (g .bitmask) 257) _
 
 pub gathered-variant : (g : Gathered) (is : List Item) → AllFit is → variantIn (gathered g is) ≡ orElse (variantIn g) (first asVariant is)
 gathered-variant = by-steps variantIn asVariant variant-step
-
--- what is gathered is ascii as the lines are
-pub ascii-gathered : (t : List ℕ) (p : Place) (u : Under) (b : Bool) → Gathers t p u
-    → b ≡ (arrayAscii (arrayIn (u .gathered)) || variantAscii (variantIn (u .gathered))) → b ≡ isAscii (under (from t p))
-unfolding isAscii
-ascii-gathered t p u b g e =
-    let fit = under-from-fit t p in
-    e ∙ rw (g .all, gathered-array gatheredNone (under (from t p)) fit, gathered-variant gatheredNone (under (from t p)) fit) refl
 
 -- the T and S
 bits-step : (g : Gathered) (r : Record) → noted g r .bits ≡ g .bits + cond (isBits r) 1 0

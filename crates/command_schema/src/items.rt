@@ -3,14 +3,12 @@ use command_class::Row;
 use command_text::ParamType;
 use text::Place;
 ghost use mathlib.Core.Path.{_≡_};
-ghost use mathlib.Core.Bool.{cond, _||_};
+ghost use mathlib.Core.Bool.{cond};
 ghost use Prim.Native.Nat.{_<_, _≤_};
 ghost use lib.ListN.{length};
 ghost use Rattle.text.specs.Records.{Readable};
 ghost use Rattle.command_text.specs.Rules.{rules};
-ghost use Rattle.command_class.specs.Definition.{under};
-ghost use Rattle.command_class.specs.Find.{from};
-ghost use Rattle.command_rules.specs.Field.{isAscii, arrayAscii, variantAscii, variantRule, variableRule, ruleOf, isConst, isNamed};
+ghost use Rattle.command_rules.specs.Field.{arrayAscii, variantAscii, variantRule, variableRule, ruleOf, isConst, isNamed};
 ghost use Rattle.command_schema.specs.Gathered.{gatheredNone, withVariant, withArray, withBitmask, withBits, notedRow, Gathers, bitmaskIn, arraySaid};
 ghost use Rattle.command_schema.specs.Gathered.{arrayIn, variantSaid, variantIn, lengthNumber};
 
@@ -262,34 +260,17 @@ fn is_variant_ascii(variant: Variant) -> bool
     variant.ascii
 }
 
-// Is a Q ascii, by its first A or its first R?
-fn is_gathered_ascii(g: Gathered) -> bool
-    ensures { λ r. ⌜ r ≡ (arrayAscii (arrayIn g) || variantAscii (variantIn g)) ⌝ }
-{
-    let array = g.array;
-    let variant = g.variant;
-    if is_array_ascii(array) {
-        return true;
-    }
-    is_variant_ascii(variant)
-}
-
-// Is the Q before the place ascii?
-pub fn is_ascii(text: &[u8], start: Place) -> bool
-    requires { ⌜ (Readable rules (now text) start) × (length (now text) ≤ 60000) ⌝ }
-    ensures { λ r. ⌜ r ≡ isAscii (under (from (now (text .entry)) start)) ⌝ }
-{
-    let under = gather(text, start);
-    let gathered = under.gathered;
-    is_gathered_ascii(gathered)
-}
-
 // 1 for a Q whose value a K names, else 0.
 pub fn named_of(typed: ParamType, g: Gathered) -> u16
     ensures { λ r. ⌜ r ≡ cond (isNamed typed (arrayIn g) (variantIn g)) 1 0 ⌝ }
 {
+    let array = g.array;
+    let variant = g.variant;
     if is_const(typed) {
-        if is_gathered_ascii(g) {
+        if is_array_ascii(array) {
+            return 0;
+        }
+        if is_variant_ascii(variant) {
             return 0;
         }
         return 1;

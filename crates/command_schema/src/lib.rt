@@ -9,7 +9,6 @@ use crate::items::named_of;
 use command_class::Row;
 use command_rules::BitShift;
 use command_rules::Rule;
-pub use items::is_ascii;
 use text::Place;
 ghost use mathlib.Core.Path.{_≡_};
 ghost use Prim.Native.Nat.{_+_, _*_, _<_, _≤_};

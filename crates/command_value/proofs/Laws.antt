@@ -16,9 +16,8 @@ use Rattle.text.specs.declared.Place.{Place}
 use Rattle.text.specs.declared.Verdict.{Verdict}
 use Rattle.text.specs.declared.Verdict.the-variants as text
 use Rattle.command_text.specs.Rules.{rules, verdict}
-use Rattle.command_class.specs.Definition.{definition, under}
+use Rattle.command_class.specs.Definition.{Item, definition, under}
 use Rattle.command_class.specs.Find.{from}
-use Rattle.command_class.proofs.Limits.{accepted-within}
 use Rattle.buffer.specs.declared.Written.{Written}
 use Rattle.buffer.specs.declared.Written.the-variants as written
 use Rattle.buffer.specs.Buffer.{Writes}
@@ -28,9 +27,10 @@ use Rattle.command_rules.specs.declared.Row.{Row}
 use Rattle.command_row.specs.Answer.{rowBy, rowOf}
 use Rattle.command_row.specs.declared.Found.{Found}
 use Rattle.command_row.specs.declared.Found.the-variants as found
-use Rattle.command_rules.specs.Field.{isAscii}
-use Rattle.command_value.specs.Params.{constName, isFlag, bytesBetween, paramText, bitText, rowText}
-use Rattle.command_value.specs.Lookup.{Behind}
+use Rattle.command_value.specs.Params.{isAscii, constName, isFlag, bytesBetween, paramText, bitText, rowText}
+use Rattle.command_value.specs.Lookup.{Behind, IsShown, asciiBy, nameBy}
+use Rattle.command_value.specs.declared.lookup.Shown.{Shown}
+use Rattle.command_value.specs.declared.lookup.Shown.the-variants.{Ascii, Named, Plain}
 use Rattle.command_value.specs.Answer.{ofFound, leftBy, CommandValue}
 use Rattle.command_value.proofs.LookupLaws.{lookup-laws}
 
@@ -49,14 +49,19 @@ module _ (p : List ℕ) (start end : ℕ) where
   between-short l e h = rw e (simp (length-take, length-drop) (omega arith))
 
 -- ---- param_value, bit_value
-pub param-shown : (t p : List ℕ) (r : Row) (q : Place) (ascii : Bool) (name bytes b : List ℕ) (w : Written) (b′ : List ℕ)
-    → Behind t (r .line) q → Writes (display ascii name bytes) b w b′ → ascii ≡ isAscii (under (from t q))
-    → name ≡ constName (r .named) (under (from t q)) → bytes ≡ bytesBetween p (r .start) (r .end) → Writes (paramText t p r) b w b′
-unfolding paramText
-param-shown t p r q ascii name bytes b w b′ is s x y z = rw (x, y, z, is .lines) at s
+shown-as : (t : List ℕ) (n : ℕ) (is : List Item) (bytes : List ℕ) (s : Shown) → IsShown t n is s
+    → display (isAscii is) (constName n is) bytes ≡ display (asciiBy s) (nameBy t s) bytes
+unfolding display
+shown-as t n is bytes Ascii k = rw k refl
+shown-as t n is bytes (Named p) k = rw (k .0, k .1 .name) refl
+shown-as t n is bytes Plain k = rw (k .0, k .1) refl
 
-pub text-short : (t : List ℕ) → verdict t ≡ text.Accepted → length t ≤ 60000
-text-short t a = accepted-within t a .0
+pub param-shown : (t p : List ℕ) (r : Row) (q : Place) (s : Shown) (ascii : Bool) (name bytes b : List ℕ) (w : Written) (b′ : List ℕ)
+    → Behind t (r .line) q → IsShown t (r .named) (under (from t q)) s → Writes (display ascii name bytes) b w b′ → ascii ≡ asciiBy s
+    → name ≡ nameBy t s → bytes ≡ bytesBetween p (r .start) (r .end) → Writes (paramText t p r) b w b′
+unfolding paramText
+param-shown t p r q s ascii name bytes b w b′ is how d x y z =
+    rw (← is .lines, ← z, shown-as t (r .named) (under (from t q)) bytes s how) (rw (x, y) at d)
 
 pub items-readable : (t : List ℕ) (n : ℕ) (q : Place) → Behind t n q → Readable rules t q
 items-readable t n q is = is .readable
@@ -124,7 +129,6 @@ pub ruleset row-laws = (
   between-rest,
   between-short,
   param-shown,
-  text-short,
   items-readable,
   bit-shown,
   row-param,

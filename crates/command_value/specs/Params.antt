@@ -1,6 +1,6 @@
 -- VT2 (docs/RULES.md): what is shown of a row of a command.
 use Prim.Native.Nat.{ℕ, _-_}
-use mathlib.Core.Bool.{Bool, true, false, cond}
+use mathlib.Core.Bool.{Bool, true, false, cond, _||_}
 use mathlib.Core.List.{List, [], _∷_}
 use lib.Dec.{eqb}
 use lib.ListN.{take, drop}
@@ -8,7 +8,7 @@ use Rattle.text.specs.Text.{lines}
 use Rattle.text.specs.Records.{records}
 use Rattle.command_text.specs.Form.{form}
 use Rattle.command_class.specs.Definition.{Item, numbered, under, letter, constIn}
-use Rattle.command_rules.specs.Field.{isAscii}
+use Rattle.command_rules.specs.Field.{first, asArray, asVariant, arrayAscii, variantAscii}
 use Rattle.command_rules.specs.declared.Row.{Row}
 use Rattle.display.specs.Display.{display, displayBit}
 
@@ -27,6 +27,10 @@ since n (i ∷ is) = cond (eqb (i .line) n) (i ∷ is) (since n is)
 abbrev pub behind : List Item → List Item
 behind [] = []
 behind (i ∷ is) = is
+
+-- C12: are the lines under a Q those of an ascii field: by its first A, or by its first R
+unfoldable pub isAscii : List Item → Bool
+isAscii is = arrayAscii (first asArray is) || variantAscii (first asVariant is)
 
 -- VT2: the lines under the Q of line n
 abbrev pub itemsAt : List ℕ → ℕ → List Item

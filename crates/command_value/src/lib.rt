@@ -6,14 +6,15 @@ use command_row::Found;
 use command_row::row_accepted;
 use command_rules::Offsets;
 use command_rules::Row;
-use command_schema::is_ascii;
 use command_text::check_command_text;
 use display::display;
 use display::display_bit;
 use display::write_nothing;
-use lookup::const_name;
 use lookup::find_items;
+use lookup::is_ascii;
 use lookup::is_flag;
+use lookup::name_by;
+use lookup::shown_by;
 use text::Verdict;
 ghost use mathlib.Core.Path.{_≡_};
 ghost use Prim.Native.Nat.{_≤_};
@@ -49,10 +50,9 @@ fn param_value(text: &[u8], payload: &[u8], row: Row, buffer: &mut [u8]) -> Writ
     ensures { λ r. ⌜ Writes (paramText (now (text .entry)) (now (payload .entry)) row) (now (buffer .entry)) r (now (buffer .exit)) ⌝ }
 {
     let items = find_items(text, row.line);
-    let ascii = is_ascii(text, items);
-    let name = const_name(text, items, row.named);
     let bytes = bytes_between(payload, row.start, row.end);
-    display(ascii, name, bytes, buffer)
+    let shown = shown_by(text, items, row.named);
+    display(is_ascii(shown), name_by(text, shown), bytes, buffer)
 }
 
 // What is shown of a bit child.

@@ -6,8 +6,11 @@ use Rattle.command_schema.proofs.items.named_of.Tie as tie
 
 pub named-of-spec : {M : Type 1} → statement M
 named-of-spec =
-    tie.close (tie.spec
+    tie.close
+    (tie.spec
     (λ c κs. search (needs, laws))
+    (λ c κs. search (needs, laws))
+    (λ c. search (needs, laws))
     (λ c κs. search (needs, laws))
     (λ c. search (needs, laws))
     (λ c. search (needs, laws))
