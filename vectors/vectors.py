@@ -1,10 +1,10 @@
-"""The notation of definition-texts.txt, tidied-texts.txt and shown-values.txt, read.
+"""The notation of definition-texts.txt, tidied-texts.txt, shown-values.txt and xml-texts.txt, read.
 
 A line of the first is `WORD | TEXT | ANSWER | WHY`, one of the second `CAP | TEXT | TIDIED | WHY`, one
-of the third `WORD | BYTES | SHOWN | WHY`; an empty line or one that starts with # is none. In TEXT,
-TIDIED, BYTES and SHOWN, \\t, \\n, \\\\ and \\xHH are single bytes, {N*...} is what stands in it N times
-over (it may hold others), and every other sign is the byte that it is. TIDIED may be a refusal
-instead.
+of the third `WORD | BYTES | SHOWN | WHY`, one of the fourth `WORD | CAP | GIVEN | ANSWER | WHY`; an
+empty line or one that starts with # is none. In TEXT, TIDIED, BYTES, SHOWN, GIVEN and the fourth's
+ANSWER, \\t, \\n, \\\\ and \\xHH are single bytes, {N*...} is what stands in it N times over (it may hold
+others), and every other sign is the byte that it is. TIDIED and that ANSWER may be a refusal instead.
 """
 
 import pathlib
@@ -13,6 +13,7 @@ from typing import NamedTuple
 FILE = pathlib.Path(__file__).parent / "definition-texts.txt"
 TIDIED = pathlib.Path(__file__).parent / "tidied-texts.txt"
 SHOWN = pathlib.Path(__file__).parent / "shown-values.txt"
+XML = pathlib.Path(__file__).parent / "xml-texts.txt"
 
 
 class Vector(NamedTuple):
@@ -81,6 +82,17 @@ def asked_of_value(word, given):
     return f"64 1 0 0 {hexed(NINE_BYTES)} {hexed(bytes([0]) + given)}"
 
 
+def asked_of_xml(word, cap, given, answer):
+    """The requests of a line of xml-texts.txt: of each its word, what stands behind it, and its answer."""
+    if word == "both":
+        text, xml = read(given), read(answer)
+        yield "xml", f"{len(xml)} {hexed(text)}", f"xml {hexed(xml)}"
+        yield "unxml", f"{len(text)} {hexed(xml)}", f"unxml {hexed(text)}"
+    else:
+        refused = answer.startswith("refused ")
+        yield word, f"{cap} {hexed(read(given))}", answer if refused else f"{word} {hexed(read(answer))}"
+
+
 def vectors(words=None):
     """The vectors of all files; of these request words, where words are given."""
     for number, (word, notation, answer, why) in parted(FILE):
@@ -93,3 +105,7 @@ def vectors(words=None):
     for number, (word, notation, shown, why) in parted(SHOWN):
         if words is None or word in words:
             yield Vector(SHOWN, number, word, asked_of_value(word, read(notation)), f"{word} {hexed(read(shown))}", why)
+    for number, (given_word, cap, given, given_answer, why) in parted(XML):
+        for word, asked, answer in asked_of_xml(given_word, cap, given, given_answer):
+            if words is None or word in words:
+                yield Vector(XML, number, word, asked, answer, why)
