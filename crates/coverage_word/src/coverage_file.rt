@@ -159,6 +159,10 @@ pub fn show_coverage() {
     let Asked::Options(options) = files::options::read_some(&USAGE) else {
         return;
     };
+    if options.folder != 0 {
+        fail(b"tap: coverage takes no --definitions, but a frame text and one capture or more\n");
+        return;
+    }
     if options.count < 2 {
         fail(&USAGE);
         return;
