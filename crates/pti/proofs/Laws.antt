@@ -69,6 +69,14 @@ low-start w s b x p f is-x e is-f within =
     let few = length-take (b .end .0 - b .start .0) (drop (b .start .0) s) in
     record { behind = within .behind; mpdu = omega (arith, within .ordered, within .before, within .short, inside .some, inside .inside) }
 
+-- a body that is shorter than every frame holds none
+pub writes-short : (w : Rules) (s : List ℕ) (b : Span) (k n : ℕ) (t : List ℕ) → length (bytesIn s b) < 18 → Writes w s b k n t n t
+writes-short w s b k n t h = go (isFrame w (bytesIn s b)) refl
+  where
+    go : (y : Bool) → isFrame w (bytesIn s b) ≡ y → Writes w s b k n t n t
+    go true e = absurd (omega (arith, frame-long w (bytesIn s b) e))
+    go false e = record { next = rw e (omega arith); table = rw e refl }
+
 module _ (w : Rules) (s : List ℕ) (b : Span) (k n : ℕ) (t : List ℕ) (x : Split) (is-x : x ≡ splitOf w (bytesIn s b)) where
   pub writes-none : x ≡ NoSplit → Writes w s b k n t n t
   writes-none e = let none = split-none w (bytesIn s b) x is-x e in record { next = rw none (omega arith); table = rw none refl }
@@ -513,6 +521,7 @@ pub ruleset laws = (
   low-start,
   row-fits,
   next-fits,
+  writes-short,
   writes-none,
   writes-row,
   writes-frame,

@@ -57,8 +57,11 @@ pub const POWER: usize = 12;
 // The numbers of a frame's row.
 pub const ROW_WIDTH: usize = POWER + 1;
 
-// The fewest bytes of a record with a frame: 4 around the body, a header of 12, a middle byte, a trailer of 5.
-const SHORTEST: usize = 22;
+// The fewest bytes of a body with a frame: a header of 12, a middle byte, a trailer of 5.
+const SHORTEST_BODY: usize = 18;
+
+// The fewest bytes of its record: 4 stand around the body.
+const SHORTEST: usize = SHORTEST_BODY + 4;
 
 // How many rows a payload has, all of them written.
 pub enum Frames {
@@ -189,6 +192,9 @@ fn write_frame(
     let start = body.start.0;
     let end = body.end.0;
     let bytes = &payload[start..end];
+    if bytes.len() < SHORTEST_BODY {
+        return n;
+    }
     let Split::Into(parts) = split_body(rates, bytes, rules) else {
         return n;
     };
