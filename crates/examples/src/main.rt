@@ -16,11 +16,12 @@ use pti::speed_for;
 use readers::line_fields::field_of;
 use records::Counted;
 use refusal::Refusal;
+use writer::print_number;
 
 fn print(name: &[u8], value: u64) {
     io::write_all(1, name);
     io::write_all(1, b" ");
-    io::print_decimal(1, value);
+    print_number(1, value);
     io::write_all(1, b"\n");
 }
 
@@ -32,7 +33,7 @@ fn print_piece(names: &[u8], k: usize, value: u64) {
 fn print_refusal(name: &[u8], refusal: Refusal) {
     io::write_all(1, name);
     io::write_all(1, b" refused ");
-    io::print_decimal(1, refusal.number() as u64);
+    print_number(1, refusal.number() as u64);
     print(b"", refusal.carried() as u64);
 }
 

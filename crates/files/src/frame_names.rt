@@ -5,6 +5,7 @@ use frame_text::check_frame_text;
 use libc::STDERR_FILENO;
 use refusal::Refusal;
 use text::Verdict;
+use writer::print_number;
 ghost use Prim.Native.Nat.{_≤_};
 ghost use lib.ListN.{length};
 ghost use Rattle.files.specs.Accepted.{Accepts};
@@ -28,9 +29,9 @@ fn say_refused(refusal: Refusal) {
         STDERR_FILENO,
         b"tap: no frame has a name, as the frame text is refused by ",
     );
-    io::print_decimal(STDERR_FILENO, refusal.number() as u64);
+    print_number(STDERR_FILENO, refusal.number() as u64);
     io::write_all(STDERR_FILENO, b" at line ");
-    io::print_decimal(STDERR_FILENO, refusal.carried() as u64);
+    print_number(STDERR_FILENO, refusal.carried() as u64);
     io::write_all(STDERR_FILENO, b": 'tap check' says why\n");
 }
 

@@ -9,7 +9,7 @@ use screen::FrameRecord;
 use std::num::wrapping_sub_u64;
 use writer::Buffer;
 use writer::put;
-use writer::put_digits;
+use writer::put_hex;
 use writer::put_marked;
 use writer::put_number_left;
 use writer::put_right;
@@ -28,13 +28,19 @@ fn put_count(out: &mut Buffer, at: usize, beams: u16, colour: bool) -> usize {
     put_number_left(out, place, beams as u64, COUNTS)
 }
 
+// The two digits of a hash that is there.
+pub fn put_hash_digits(out: &mut Buffer, at: usize, hash: u16) -> usize {
+    let one = [(number_of(hash) % 256) as u8];
+    put_hex(out, at, &one)
+}
+
 // The hash, in the column of the home id.
 fn put_hash(out: &mut Buffer, at: usize, hash: u16) -> usize {
     if hash == 0 {
         return put_right(out, at, b"-", HOME);
     }
     let place = put_right(out, at, b"hash ", HOME - 2);
-    put_digits(out, place, number_of(hash), 2)
+    put_hash_digits(out, place, hash)
 }
 
 // The node, in the column of the destination.

@@ -10,6 +10,7 @@ use output::refusals::put_reason;
 use refusal::Refusal;
 use std::num::wrapping_add_u64;
 use writer::Buffer;
+use writer::print_number;
 use writer::put;
 use writer::put_number;
 
@@ -131,7 +132,7 @@ pub fn tell_progress(sheet: Sheet) {
     if sheet.progress {
         if sheet.frames % 1000 == 0 {
             io::write_all(STDERR_FILENO, b"\r");
-            io::print_decimal(STDERR_FILENO, sheet.frames);
+            print_number(STDERR_FILENO, sheet.frames);
             io::write_all(STDERR_FILENO, b" frames");
         }
     }
@@ -186,7 +187,7 @@ pub fn put_passed(line: u64, column: u64, out: &mut Buffer, sheet: Sheet) -> She
 
 // A count and what it counts.
 fn print_count(n: u64, what: &[u8]) {
-    io::print_decimal(STDOUT_FILENO, n);
+    print_number(STDOUT_FILENO, n);
     io::write_all(STDOUT_FILENO, what);
     if n != 1 {
         io::write_all(STDOUT_FILENO, b"s");

@@ -16,6 +16,7 @@ use std::num::wrapping_sub_usize;
 use trees::field_tree::put_field;
 use writer::Buffer;
 use writer::flush;
+use writer::print_number;
 use writer::put;
 use writer::put_number;
 
@@ -83,7 +84,7 @@ fn put_differs(out: &mut Buffer, at: usize, listing: &[u8], line: usize) -> usiz
 // The last line of the output where a line differs.
 fn end_differing(line: usize) {
     io::write_all(STDOUT_FILENO, b"differs ");
-    io::print_decimal(STDOUT_FILENO, line as u64);
+    print_number(STDOUT_FILENO, line as u64);
     io::write_all(STDOUT_FILENO, b"\n");
 }
 

@@ -21,6 +21,7 @@ use show_word::show_file::fail_number;
 use show_word::show_file::read_number;
 use show_word::show_file::search;
 use std::num::wrapping_sub_u64;
+use writer::print_number;
 
 // What is asked for: the number of a frame, and the argument that names the listing, 0 for our own.
 struct Task {
@@ -31,7 +32,7 @@ struct Task {
 // A beam has no header.
 fn fail_beam(number: u64) {
     io::write_all(STDERR_FILENO, b"tap: frame ");
-    io::print_decimal(STDERR_FILENO, number);
+    print_number(STDERR_FILENO, number);
     fail(b" is a beam, which has no header\n");
 }
 

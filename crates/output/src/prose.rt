@@ -2,6 +2,7 @@
 use libc::STDOUT_FILENO;
 use writer::Buffer;
 use writer::flush;
+use writer::print_number;
 use writer::put;
 use writer::put_byte;
 use writer::put_hex;
@@ -14,7 +15,7 @@ pub fn say(what: &[u8]) {
 }
 
 pub fn say_number(n: usize) {
-    io::print_decimal(STDOUT_FILENO, n as u64);
+    print_number(STDOUT_FILENO, n as u64);
 }
 
 // A byte that isn't printable.

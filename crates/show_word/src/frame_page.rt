@@ -2,6 +2,7 @@
 use crate::frame_search::Hit;
 use files::options::Options;
 use frame_line::beam_columns::number_of;
+use frame_line::beam_columns::put_hash_digits;
 use frame_line::frame_row::put_rate;
 use frame_line::frame_row::put_rssi;
 use frame_line::mpdu_columns::put_why;
@@ -16,7 +17,6 @@ use trees::hex_dump::put_dump;
 use trees::ruler::put_ruler;
 use writer::Buffer;
 use writer::put;
-use writer::put_digits;
 use writer::put_marked;
 use writer::put_number;
 
@@ -59,7 +59,7 @@ fn put_hash(out: &mut Buffer, at: usize, hash: u16) -> usize {
         return at;
     }
     let place = put(out, at, b"  hash ");
-    put_digits(out, place, number_of(hash), 2)
+    put_hash_digits(out, place, hash)
 }
 
 // How often a beam was heard, and whom it wakes. Any other frame has none.

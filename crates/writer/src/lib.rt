@@ -1,12 +1,15 @@
 // Text on its way to standard output. It gathers in a lent buffer, `at` bytes of it so far, and is written whenever the buffer is full: no call of the
 // system for a byte. Each function returns how many bytes have gathered after it. A number past the buffer's length counts as a full buffer, so each
-// of them takes any.
-ghost use mathlib.Core.Path.{_≡_};
-ghost use Prim.Native.Nat.{_<_};
-ghost use Rattle.io.specs.Digits.{glyph as Digits·glyph};
+// of them takes any. Numbers are spelled by `numerals`.
+use numerals::ROOM;
+use numerals::decimal;
+use numerals::glyph;
 
 // Where text gathers.
 pub type Buffer = [u8; 4096];
+
+// The digit for ten, as bytes are printed.
+const SMALL: u8 = b'a';
 
 // Writes the first n bytes, or all where there are fewer. What cannot be written is lost: there is nobody to tell.
 fn write_first(bytes: &[u8], n: usize) {
@@ -71,44 +74,37 @@ pub fn put_left(out: &mut Buffer, at: usize, bytes: &[u8], width: usize) -> usiz
 
 // A number in decimal.
 pub fn put_number(out: &mut Buffer, at: usize, n: u64) -> usize {
-    let mut digits = [0u8; 20];
-    let count = io::decimal(n, &mut digits);
-    put(out, at, &digits[..count])
+    let mut digits = [0u8; ROOM];
+    let start = decimal(n, &mut digits);
+    put(out, at, &digits[start..])
 }
 
 // A number at the left of a column.
 pub fn put_number_left(out: &mut Buffer, at: usize, n: u64, width: usize) -> usize {
-    let mut digits = [0u8; 20];
-    let count = io::decimal(n, &mut digits);
-    put_left(out, at, &digits[..count], width)
+    let mut digits = [0u8; ROOM];
+    let start = decimal(n, &mut digits);
+    put_left(out, at, &digits[start..], width)
 }
 
 // A number at the right of a column, with a mark right before its digits.
 pub fn put_marked(out: &mut Buffer, at: usize, mark: &[u8], n: u64, width: usize) -> usize {
-    let mut digits = [0u8; 20];
-    let count = io::decimal(n, &mut digits);
-    let mut place = put_spaces(out, at, padding(padding(width, mark.len()), count));
+    let mut digits = [0u8; ROOM];
+    let start = decimal(n, &mut digits);
+    let mut place = put_spaces(out, at, padding(padding(width, mark.len()), ROOM - start));
     place = put(out, place, mark);
-    put(out, place, &digits[..count])
+    put(out, place, &digits[start..])
 }
 
-// A number in hexadecimal, with zeros in front up to a width of at most 16 digits.
-pub fn put_digits(out: &mut Buffer, at: usize, n: u64, width: usize) -> usize {
-    let mut digits = [0u8; 16];
-    let count = io::hex(n, width, &mut digits);
-    put(out, at, &digits[..count])
-}
-
-fn glyph(d: u8) -> u8
-    requires { ⌜ d < 16 ⌝ }
-    ensures { λ r. ⌜ r ≡ Digits·glyph d ⌝ }
-{
-    if d < 10 { 48 + d } else { 87 + d }
+// Writes a number in decimal at once: nothing may have gathered before it.
+pub fn print_number(fd: i32, n: u64) {
+    let mut digits = [0u8; ROOM];
+    let start = decimal(n, &mut digits);
+    io::write_all(fd, &digits[start..]);
 }
 
 fn put_pair(out: &mut Buffer, at: usize, byte: u8) -> usize {
-    let place = put_byte(out, at, glyph(byte / 16));
-    put_byte(out, place, glyph(byte % 16))
+    let place = put_byte(out, at, glyph(SMALL, byte / 16));
+    put_byte(out, place, glyph(SMALL, byte % 16))
 }
 
 // The two digits of each byte.
