@@ -2,8 +2,8 @@
 use mathlib.Core.Path.{_≡_, refl, sym, ap, _∙_}
 use mathlib.Core.Bool.{Bool, true, false, cond}
 use mathlib.Core.List.{List, [], _∷_}
-use mathlib.Core.Option.{some}
-use Prim.Native.Nat.{ℕ, suc, _<_}
+use mathlib.Core.Option.{none, some}
+use Prim.Native.Nat.{ℕ, suc, _-_, _<_}
 use native.Mathlib.Nat.{add-zero}
 use native.Mathlib.Numerals.{add-one}
 use native.Mathlib.Omega.{arith}
@@ -23,7 +23,7 @@ use Rattle.text.proofs.Reading.{Allowed, accepted-line, records-line}
 use Rattle.text.proofs.Passing.{Passed, passed}
 use Rattle.command_text.specs.Form.{Record, param, group, item, variant, array, bitFlag, bitField, const, bitmask, form}
 use Rattle.command_text.specs.Rules.{rules}
-use Rattle.command_class.specs.Definition.{letter, readAs, numbered}
+use Rattle.command_class.specs.Definition.{letter, readAs, numbered, ofItem, asConst, constOf}
 use Rattle.command_class.specs.Find.{Begins, Follows}
 use Rattle.command_class.proofs.Saying.{kind-letter}
 
@@ -130,5 +130,19 @@ follows-at t p q r inside pass =
       readable = h .next;
       on = pass .on;
     }
+
+pub follows-less : (t : List ℕ) (p q : Place) → p .at < length t → Follows t p q → length t - q .at < length t - p .at
+follows-less t p q inside follows = omega (arith, follows .on)
+
+-- only a K has a const's value and name
+pub const-alone : (x : Record) → (letter x ≡ 0x4b → ⊥) → (ofItem asConst x ≡ none) × (constOf x ≡ [])
+const-alone (param q) h = (refl, refl)
+const-alone (group g) h = (refl, refl)
+const-alone (item (variant s)) h = (refl, refl)
+const-alone (item (array n a)) h = (refl, refl)
+const-alone (item (bitFlag m n)) h = (refl, refl)
+const-alone (item (bitField b)) h = (refl, refl)
+const-alone (item (const v n)) h = absurd (h refl)
+const-alone (item (bitmask n)) h = (refl, refl)
 
 pub ruleset begin-laws = (begins-enum, begins-other, follows-at)

@@ -2,7 +2,7 @@
 use mathlib.Core.Path.{_≡_, refl, sym, ap, _∙_}
 use mathlib.Core.Bool.{Bool, true, false, cond}
 use mathlib.Core.List.{List, _∷_}
-use Prim.Native.Nat.{ℕ, _-_, _≤_, _<_}
+use Prim.Native.Nat.{ℕ, _≤_, _<_}
 use native.Mathlib.Omega.{arith}
 use lib.Dec.{eqb}
 use lib.ListN.{length}
@@ -16,6 +16,7 @@ use Rattle.command_class.specs.Definition.{Item, numbered, under, letter
 use Rattle.command_class.specs.Find.{from, among, Says, Numbers, Begins, Follows}
 use Rattle.command_class.specs.declared.Row.{Row}
 use Rattle.command_class.proofs.Finding.{same-line, begins-kind}
+use Rattle.command_class.proofs.Beginning.{follows-less, const-alone}
 
 pub record Naming (t : List ℕ) (p₀ : Place) (v : ℕ) (p : Place) : Type 0 where
   pub readable : Readable rules t p
@@ -50,25 +51,12 @@ module _ (t : List ℕ) (p₀ : Place) (v : ℕ) (p : Place) (k : Naming t p₀ 
           let rest : begin .others ≡ from t q = same-line (p .line) _ _ (begin .others) (from t q) (sym (begin .lines) ∙ follows .lines) .1 in
           record { readable = follows .readable; so = rw (told-const, e, rest) refl }
 
-pub over-less : (t : List ℕ) (p q : Place) → p .at < length t → Follows t p q → length t - q .at < length t - p .at
-over-less t p q inside follows = omega (arith, follows .on)
-
-pub ruleset const-laws = (const-start, const-end, const-in, const-stop, const-hit, const-next, over-less)
+pub ruleset const-laws = (const-start, const-end, const-in, const-stop, const-hit, const-next, follows-less)
 
 -- ---- is_const
 module _ (t : List ℕ) (p : Place) (v kind : ℕ) (begin : Begins t p kind) where
   pub value-not : (kind ≡ 75 → ⊥) → false ≡ valueIn v (from t p)
-  value-not h = rw (begin .lines) (go (begin .said) (λ z. h (begin .kind ∙ z)))
-    where
-      go : (x : Record) → (letter x ≡ 75 → ⊥) → false ≡ isValue v (ofItem asConst x)
-      go (param q) k = refl
-      go (group g) k = refl
-      go (item (variant s)) k = refl
-      go (item (array m a)) k = refl
-      go (item (bitFlag m l)) k = refl
-      go (item (bitField m)) k = refl
-      go (item (const w l)) k = absurd (k refl)
-      go (item (bitmask m)) k = refl
+  value-not h = rw (begin .lines, const-alone (begin .said) (λ z. h (begin .kind ∙ z)) .0) refl
 
   module _ (is-k : kind ≡ 75) where
     pub value-numbered : among 84 83 75 kind ≡ true

@@ -29,7 +29,7 @@ use Rattle.command_class.specs.declared.Row.{Row}
 use Rattle.command_class.proofs.Saying.{kind-letter}
 use Rattle.command_class.proofs.Finding.{same-line, read-other}
 use Rattle.command_class.proofs.Rows.{said-good}
-use Rattle.command_class.proofs.Beginning.{Opened, opened}
+use Rattle.command_class.proofs.Beginning.{Opened, opened, const-alone}
 
 -- ---- a field that another follows ends at the first tab
 pub record Ends (l g : List ℕ) (more : First) : Type 0 where
@@ -369,17 +369,7 @@ module _ (t : List ℕ) (p : Place) (readable : Readable rules t p) (inside : p 
           ap (λ (k : ℕ). take k (behind-tab e)) d-is ∙ name-ends ∙ sym (ap constIn (begin .lines) ∙ ap constOf (sym said-is ∙ same))
 
   pub const-unnamed : (kind ≡ 75 → ⊥) → [] ≡ constIn (from t p)
-  const-unnamed h = rw (begin .lines) (go (begin .said) (λ z. h (begin .kind ∙ z)))
-    where
-      go : (x : Record) → (letter x ≡ 75 → ⊥) → [] ≡ constOf x
-      go (param q) k = refl
-      go (group g) k = refl
-      go (item (variant s)) k = refl
-      go (item (array m a)) k = refl
-      go (item (bitFlag m l)) k = refl
-      go (item (bitField m)) k = refl
-      go (item (const w l)) k = absurd (k refl)
-      go (item (bitmask m)) k = refl
+  const-unnamed h = rw (begin .lines, const-alone (begin .said) (λ z. h (begin .kind ∙ z)) .1) refl
 
 pub ruleset name-laws = (const-room, const-more, const-named, const-unnamed)
 

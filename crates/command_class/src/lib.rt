@@ -1,5 +1,5 @@
-// The definition that an accepted command text stands for. Counterpart of command_class/schema.rs.
-// Looking things up in an accepted command text. Every loop reads on from a place where a line begins.
+// The definition that an accepted command text stands for, and looking things up in it: every loop reads on from a place where a line begins.
+// Counterpart of command_class/schema.rs.
 use command_text::ParamType;
 use command_text::Typed;
 use text::Line;

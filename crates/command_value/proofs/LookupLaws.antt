@@ -2,7 +2,7 @@
 use mathlib.Core.Path.{_≡_, refl, sym, ap, _∙_}
 use mathlib.Core.Bool.{Bool, true, false, cond, not, _&&_, _||_}
 use mathlib.Core.List.{List, [], _∷_}
-use Prim.Native.Nat.{ℕ, _-_, _≤_, _<_}
+use Prim.Native.Nat.{ℕ, _≤_, _<_}
 use native.Mathlib.Omega.{arith}
 use lib.Dec.{eqb}
 use lib.ListN.{length}
@@ -19,7 +19,7 @@ use Rattle.command_class.specs.Definition.{Item, numbered, under, letter, const
 use Rattle.command_class.specs.Find.{from, among, Says, IsRead, Begins, Follows}
 use Rattle.command_class.specs.declared.Row.{Row}
 use Rattle.command_class.specs.declared.Read.{Read}
-use Rattle.command_class.proofs.Beginning.{follows-at}
+use Rattle.command_class.proofs.Beginning.{follows-at, follows-less}
 use Rattle.command_class.proofs.Finding.{same-line, begins-kind}
 use Rattle.command_rules.specs.Field.{first, asArray, asVariant, arrayAscii, variantAscii}
 use Rattle.command_value.specs.Params.{linesOf, since, behind, isAscii, constName, flagIn, isFlag}
@@ -55,9 +55,6 @@ module _ (t : List ℕ) (n : ℕ) (p : Place) (g : Lining t n p) where
   pub line-next : (q : Place) → Follows t p q → (p .line ≡ n → ⊥) → Lining t n q
   unfolding since
   line-next q f e = record { readable = f .readable; so = rw (f .lines, ne-eqb (p .line) n e) at (g .so) }
-
-pub follows-less : (t : List ℕ) (p q : Place) → p .at < length t → Follows t p q → length t - q .at < length t - p .at
-follows-less t p q inside f = omega (arith, f .on)
 
 pub ruleset line-laws = (line-start, line-end, line-hit, line-next, follows-less)
 

@@ -1,7 +1,7 @@
 -- How the answers of the code that looks lines up in an accepted command text are read.
 use Prim.Native.Nat.{ℕ, _<_}
 use mathlib.Core.Path.{_≡_}
-use mathlib.Core.Bool.{Bool, true, false, cond, not, _&&_, _||_}
+use mathlib.Core.Bool.{Bool, true, false, cond, not, _&&_}
 use mathlib.Core.List.{List, [], _∷_}
 use lib.Dec.{eqb}
 use lib.ListN.{length}
@@ -46,7 +46,7 @@ abbrev pub asciiHere : ℕ → Bool → List Item → Bool
 asciiHere k seen [] = false
 asciiHere k seen (i ∷ is) = not seen && (eqb (letter (i .says)) k && asciiOf (i .says))
 
--- the line of number n among these begins at the place p
+-- at the place p begins a line that has the name of the line of number n among these
 pub record NamedAt (t : List ℕ) (n : ℕ) (is : List Item) (p : Place) : Type 0 where
   pub readable : Readable rules t p
   pub inside : p .at < length t

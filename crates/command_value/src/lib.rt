@@ -95,8 +95,7 @@ pub fn value_accepted(
 }
 
 // A value of a command as people read it: of the row of this number, from 0, with offsets read in one of the two ways. Answers its length, or refuses
-// by 1 to 5,
-// 11 or 12; a refusal writes nothing, an answer nothing past its length.
+// by 1 to 5, 11 or 12; a refusal writes nothing, an answer nothing past its length.
 pub fn command_value(
     text: &[u8],
     payload: &[u8],
