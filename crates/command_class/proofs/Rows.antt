@@ -7,7 +7,7 @@ use Prim.Native.Nat.{ℕ, _<_}
 use native.Mathlib.Omega.{arith}
 use lib.Dec.{eqb, leb}
 use lib.ListN.{length}
-use borrow.Author.Tests.{eqb-true, ne-eqb}
+use borrow.Author.Tests.{eqb-true, eq-eqb, ne-eqb}
 use Rattle.text.specs.Text.{field, worth, decimal, upTo, value, missing, name, optionalUpTo, optionalValue, optional}
 use Rattle.text.specs.Text as text
 use Rattle.text.specs.Place.{cells, Steps, Passes, Has}
@@ -20,18 +20,18 @@ use Rattle.text.specs.declared.Optional.{Optional}
 use Rattle.text.specs.declared.Optional.the-variants.{Given, Missing, Wrong}
 use Rattle.text.proofs.Laws.{cells-length}
 use Rattle.text.proofs.Tests.{and-left, and-right, value-of, optional-value-of}
-use Rattle.command_text.specs.Form.{Record, param, group, item, variant, array, bitFlag, bitField, const, bitmask, typeOf, paramWords, paramCondition}
-use Rattle.command_text.specs.Form.{paramFields, paramForm, paramOf, groupFields, groupForm, groupOf, variantFields, variantForm, sizeOf, arrayForm, asciiOf}
-use Rattle.command_text.specs.Form.{namedForm, bitsFields, bitsForm, bitsOf, bitmaskForm, given, ofType, said, form}
+use Rattle.command_text.specs.Form.{Record, param, group, item, variant, array, bitFlag, bitField, const, bitmask, typeOf, known, paramOf}
+use Rattle.command_text.specs.Form.{groupFields, groupForm, groupOf, variantFields, variantForm, sizeOf, arrayForm, asciiOf}
+use Rattle.command_text.specs.Form.{bitmaskForm, given, ofType, said, form}
 use Rattle.command_text.specs.Rules.{rules}
 use Rattle.command_class.specs.Definition.{Item, letter, readAs}
-use Rattle.command_class.specs.Find.{from, Good, among, orMissing, optionalOr, Tells, Numbers, IsRead, Begins, Follows}
+use Rattle.command_class.specs.Find.{from, Good, among, orMissing, optionalOr, numberOr, Tells, Numbers, IsRead, Begins, Follows}
 use Rattle.command_class.specs.declared.Row.{Row}
 use Rattle.command_text.specs.declared.ParamType.{ParamType}
 use Rattle.command_text.specs.declared.ParamType.the-variants.{Byte}
 use Rattle.command_text.specs.declared.Typed.{Typed}
 use Rattle.command_text.specs.declared.Typed.the-variants.{Is, Not}
-use Rattle.command_text.proofs.Laws.{group-shift, variant-shift, bits-shift, param-level}
+use Rattle.command_text.proofs.Laws.{group-shift, variant-shift}
 use Rattle.command_class.proofs.Saying.{kind-letter}
 use Rattle.command_class.proofs.Finding.{Lined, lined, same-line, read-other}
 use Rattle.command_class.proofs.Beginning.{follows-at}
@@ -45,17 +45,21 @@ module _ (l : List ℕ) where
   or-missing-given false true false e = absurd (let z : _≡_ {A = ℕ} 0 1 = cc in omega arith)
   or-missing-given false false u e = absurd (let z : _≡_ {A = ℕ} 0 1 = cc in omega arith)
 
-  or-missing : optionalUpTo 255 l ≡ true → optionalOr (optional 255 l) ≡ orMissing (given l)
+  pub or-missing : optionalUpTo 255 l ≡ true → numberOr l ≡ orMissing (given l)
+  unfolding numberOr
   or-missing e = or-missing-given (missing l) (decimal l) (leb (worth 0 l) 255) e
 
-module _ (r o : Optional) (is : r ≡ o) where
-  pub optional-given : (n : ℕ) → r ≡ Given n → n ≡ optionalOr o
+module _ (s : List ℕ) (r : Optional) (is : r ≡ optional 255 s) where
+  pub optional-given : (n : ℕ) → r ≡ Given n → n ≡ numberOr s
+  unfolding numberOr
   optional-given n e = rw (← is, e)
 
-  pub optional-missing : r ≡ Missing → 256 ≡ optionalOr o
+  pub optional-missing : r ≡ Missing → 256 ≡ numberOr s
+  unfolding numberOr
   optional-missing e = rw (← is, e)
 
-  pub optional-wrong : r ≡ Wrong → 256 ≡ optionalOr o
+  pub optional-wrong : r ≡ Wrong → 256 ≡ numberOr s
+  unfolding numberOr
   optional-wrong e = rw (← is, e)
 
 pub ruleset optional-laws = (optional-given, optional-missing, optional-wrong)
@@ -66,7 +70,7 @@ pub said-good : (fs : List (List ℕ)) (b : Bool) (y : Record) → form fs ≡ s
 said-good fs true y e f = (refl, e)
 said-good fs false y e f = absurd (let z : _≡_ {A = Bool} false true = rw e at f in let w : _≡_ {A = ℕ} 0 1 = cc in omega arith)
 
-param-good : (fs : List (List ℕ)) (b : Bool) (o : Typed) → form fs ≡ said b (ofType fs o) → isSome (form fs) ≡ true → (b ≡ true)
+pub param-good : (fs : List (List ℕ)) (b : Bool) (o : Typed) → form fs ≡ said b (ofType fs o) → isSome (form fs) ≡ true → (b ≡ true)
     × ((type : ParamType) × (o ≡ Is type) × (form fs ≡ some (param (paramOf fs type))))
 param-good fs true (Is type) e f = (refl, (type, refl, e))
 param-good fs true Not e f = absurd (let z : _≡_ {A = Bool} false true = rw e at f in let w : _≡_ {A = ℕ} 0 1 = cc in omega arith)
@@ -82,40 +86,6 @@ module _ (t : List ℕ) (l : Line) (good : Good t l) where
     there =
         omega (arith, cells-length t (l .marks) (l .fields) 0, eqb-true (length fs) n (and-left (eqb (length fs) n) b e));
   }
-
-  -- Q
-  module _ (is : l .kind ≡ 81) where
-    q-said : (paramForm fs ≡ true) × ((type : ParamType) × (typeOf (field 2 fs) ≡ Is type) × (form fs ≡ some (param (paramOf fs type))))
-    q-said = param-good fs (paramForm fs) (typeOf (field 2 fs)) (rw (sym (good .kind-is) ∙ is)) (good .formed)
-
-    pub param-has : (k : ℕ) → k < 6 → Has t l k
-    param-has k h = has-of 6 (paramFields fs) (q-said .0) k h
-
-    pub type-says : (s : List ℕ) (r : Typed) (type : ParamType) → s ≡ field 2 fs → r ≡ typeOf s → r ≡ Is type → typeOf (field 2 fs) ≡ Is type
-    type-says s r type part e q = rw (← part, ← e) q
-
-    pub type-never : (s : List ℕ) (r : Typed) → s ≡ field 2 fs → r ≡ typeOf s → r ≡ Not → typeOf (field 2 fs) ≡ Is Byte
-    type-never s r part e q =
-        absurd (let z : Is (q-said .1 .0) ≡ Not = sym (q-said .1 .1) ∙ (rw part at (sym e ∙ q)) in let w : _≡_ {A = ℕ} 0 1 = cc in omega arith)
-
-    pub param-tells : (v o m : ℕ) (type : ParamType) → v ≡ value 1 (field 1 fs) → typeOf (field 2 fs) ≡ Is type
-        → o ≡ optionalOr (optional 255 (field 4 fs)) → m ≡ optionalOr (optional 255 (field 5 fs))
-        → Tells t l (record { kind = 81; level = v; typed = type; offset = o; mask = m; shift = 0; value = 0; ascii = false })
-    param-tells v o m type ev et eo em =
-        let w : paramFields fs ≡ true = and-right (eqb (length fs) 6) (paramFields fs) (q-said .0) in
-        let c : paramCondition fs ≡ true = and-right (paramWords fs) (paramCondition fs) w in
-        let same : q-said .1 .0 ≡ type = let z : Is (q-said .1 .0) ≡ Is type = sym (q-said .1 .1) ∙ et in cc in
-        record {
-          said = param (paramOf fs type);
-          form-is = q-said .1 .2 ∙ ap (λ (x : ParamType). some (param (paramOf fs x))) same;
-          kind = refl;
-          says = (
-            ev ∙ value-of 1 (field 1 fs) (param-level fs w),
-            refl,
-            eo ∙ or-missing (field 4 fs) (and-left (optionalUpTo 255 (field 4 fs)) (optionalUpTo 255 (field 5 fs)) c),
-            em ∙ or-missing (field 5 fs) (and-right (optionalUpTo 255 (field 4 fs)) (optionalUpTo 255 (field 5 fs)) c),
-          );
-        }
 
   -- G
   module _ (is : l .kind ≡ 71) where
@@ -203,24 +173,29 @@ module _ (t : List ℕ) (l : Line) (good : Good t l) where
     pub bitmask-has : (k : ℕ) → k < 2 → Has t l k
     bitmask-has k h = has-of 2 _ (m-said .0) k h
 
-    pub bitmask-tells : (v : ℕ) → v ≡ optionalOr (optional 255 (field 1 fs))
+    pub bitmask-tells : (s : List ℕ) (v : ℕ) → s ≡ field 1 fs → v ≡ numberOr s
         → Tells t l (record { kind = 77; level = 0; typed = Byte; offset = 0; mask = 0; shift = 0; value = v; ascii = false })
-    bitmask-tells v e = record {
+    bitmask-tells s v is e = record {
       said = item (bitmask (given (field 1 fs)));
       form-is = m-said .1;
       kind = refl;
       says =
-          e ∙ or-missing (field 1 fs) (and-right (eqb (length fs) 2) (optionalUpTo 255 (field 1 fs)) (m-said .0));
+          (rw is at e) ∙ or-missing (field 1 fs) (and-right (eqb (length fs) 2) (optionalUpTo 255 (field 1 fs)) (m-said .0));
     }
 
   -- no other kind
-  pub last-kind : among 84 83 75 (readAs (l .kind)) ≡ false → (l .kind ≡ 81 → ⊥) → (l .kind ≡ 71 → ⊥) → (l .kind ≡ 82 → ⊥)
+  pub last-kind : among 84 83 75 (readAs (l .kind)) ≡ false → eqb (l .kind) 81 ≡ false → (l .kind ≡ 71 → ⊥) → (l .kind ≡ 82 → ⊥)
       → (l .kind ≡ 65 → ⊥)
       → l .kind ≡ 77
   last-kind other q g r a = go (form fs) refl (good .formed)
     where
       of-record : (x : Record) → readAs (l .kind) ≡ letter x → l .kind ≡ 77
-      of-record (param y) e = absurd (q (read-other (l .kind) 81 (λ z. omega arith) e))
+      of-record (param y) e =
+          absurd
+          (let k : l .kind ≡ 81 = read-other (l .kind) 81 (λ z. omega arith) e in
+          let z : true ≡ false = sym (eq-eqb (l .kind) 81 k) ∙ q in
+          let w : _≡_ {A = ℕ} 0 1 = cc in
+          omega arith)
       of-record (group y) e = absurd (g (read-other (l .kind) 71 (λ z. omega arith) e))
       of-record (item (variant y)) e = absurd (r (read-other (l .kind) 82 (λ z. omega arith) e))
       of-record (item (array n y)) e = absurd (a (read-other (l .kind) 65 (λ z. omega arith) e))
@@ -233,7 +208,15 @@ module _ (t : List ℕ) (l : Line) (good : Good t l) where
       go none e h = absurd (let z : _≡_ {A = ℕ} 0 1 = cc in omega arith)
       go (some x) e h = of-record x (ap readAs (good .kind-is) ∙ kind-letter fs x e)
 
-pub ruleset param-laws = (param-has, type-says, type-never, param-tells)
+-- ---- a field that names a type
+module _ (s : List ℕ) (r : Typed) (is : r ≡ typeOf s) where
+  pub type-says : (type : ParamType) → r ≡ Is type → typeOf s ≡ Is type
+  type-says type e = sym is ∙ e
+
+  pub type-never : known (typeOf s) ≡ true → r ≡ Not → typeOf s ≡ Is Byte
+  type-never h e = absurd (let z : false ≡ true = rw (sym is ∙ e) at h in let w : _≡_ {A = ℕ} 0 1 = cc in omega arith)
+
+pub ruleset type-laws = (type-says, type-never)
 
 pub ruleset row-laws = (
   group-has,
@@ -254,10 +237,15 @@ module _ (t : List ℕ) (p : Place) (l : Line) (readable : Readable rules t p) (
   pub read-good : Good t l
   read-good = record { marked = step .marked; kind-is = step .kind-is; formed = rw (line-here .form-is) }
 
+  same-begin : (kind : ℕ) (begin : Begins t p kind) → line-here .says ≡ begin .said
+  same-begin kind begin = same-line (p .line) _ _ (from t (l .next)) (begin .others) (sym (line-here .lines) ∙ begin .lines) .0
+
   pub read-rest : (kind : ℕ) (x : Bool) → Begins t p kind → x ≡ among 84 83 75 kind → x ≡ false → among 84 83 75 (readAs (l .kind)) ≡ false
   read-rest kind x begin is-x e =
-      let same : line-here .says ≡ begin .said = same-line (p .line) _ _ (from t (l .next)) (begin .others) (sym (line-here .lines) ∙ begin .lines) .0 in
-      ap (among 84 83 75) (line-here .kind-is ∙ ap letter same ∙ sym (begin .kind)) ∙ sym is-x ∙ e
+      ap (among 84 83 75) (line-here .kind-is ∙ ap letter (same-begin kind begin) ∙ sym (begin .kind)) ∙ sym is-x ∙ e
+
+  pub read-no-param : (kind : ℕ) → Begins t p kind → (kind ≡ 81 → ⊥) → eqb (l .kind) 81 ≡ false
+  read-no-param kind begin other = ne-eqb (l .kind) 81 (λ z. other (begin .kind ∙ ap letter (sym (same-begin kind begin)) ∙ sym (line-here .kind-is) ∙ ap readAs z))
 
   pub read-is : (r : Row) → Tells t l r → IsRead t p (record { row = r; next = l .next })
   read-is r h =
@@ -287,7 +275,10 @@ read-numbers t p q r readable inside pass h =
       on = pass .on;
     }
 
+pub read-asked : (t : List ℕ) (p : Place) (kind : ℕ) → Begins t p kind → kind ≡ 81 → Begins t p 81
+read-asked t p kind begin e = rw e at begin
+
 pub read-numbered : (kind : ℕ) (x : Bool) → x ≡ among 84 83 75 kind → x ≡ true → among 84 83 75 kind ≡ true
 read-numbered kind x is-x e = sym is-x ∙ e
 
-pub ruleset read-laws = (read-good, read-rest, read-is, read-numbers, read-numbered)
+pub ruleset read-laws = (read-good, read-rest, read-no-param, read-is, read-numbers, read-asked, read-numbered)

@@ -5,6 +5,9 @@ use mathlib.Core.Path.{_≡_}
 use mathlib.Core.List.{List, _∷_}
 use mathlib.Core.Option.{Option, none, some}
 use lib.Dec.{eqb}
+use lib.ListN.{length, drop}
+use Rattle.text.specs.Text.{field, optional}
+use Rattle.text.specs.Scan.{cut}
 use Rattle.text.specs.Place.{kindOf, cells, Marked}
 use Rattle.text.specs.Records.{isSome, rest, Readable}
 use Rattle.text.specs.declared.Place.{Place}
@@ -13,9 +16,11 @@ use Rattle.text.specs.declared.Optional.{Optional}
 use Rattle.text.specs.declared.Optional.the-variants.{Given, Missing, Wrong}
 use Rattle.command_text.specs.Form.{Record, param, group, item, Detail, variant, array, bitFlag, bitField, const, bitmask, form}
 use Rattle.command_text.specs.Rules.{rules}
+use Rattle.command_class.specs.Fields.{fieldsAt}
 use Rattle.command_class.specs.Definition.{Item, numbered, letter}
 use Rattle.command_class.specs.declared.Row.{Row}
 use Rattle.command_class.specs.declared.Read.{Read}
+use Rattle.command_class.specs.declared.Condition.{Condition}
 
 -- the lines of t from the place p on
 abbrev pub from : List ℕ → Place → List Item
@@ -41,6 +46,10 @@ abbrev pub optionalOr : Optional → ℕ
 optionalOr (Given n) = n
 optionalOr Missing = 256
 optionalOr Wrong = 256
+
+-- the number that a field says, 256 where it is missing
+unfoldable pub numberOr : List ℕ → ℕ
+numberOr l = optionalOr (optional 255 l)
 
 -- the numbers of a row are what an item says
 abbrev pub SaysItem : Detail → Row → Type 0
@@ -81,6 +90,13 @@ pub record IsRead (t : List ℕ) (p : Place) (r : Read) : Type 0 where
   pub next : Readable rules t (r .next)
   pub count : r .next .line ≡ p .line + 1
   pub on : p .at < r .next .at
+
+-- the last two fields of a Q line, which begin at a: what they say, and where the line ends
+pub record IsCondition (t : List ℕ) (a : ℕ) (r : Condition) : Type 0 where
+  pub offset : r .offset ≡ numberOr (field 0 (fieldsAt t a))
+  pub mask : r .mask ≡ numberOr (field 1 (fieldsAt t a))
+  pub end : r .end ≡ a + cut 0x0a (drop a t)
+  pub inside : r .end < length t
 
 -- a line that is read as one of the kind k begins at the place p
 pub record Begins (t : List ℕ) (p : Place) (k : ℕ) : Type 0 where

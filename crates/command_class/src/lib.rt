@@ -7,15 +7,15 @@ use text::Optional;
 use text::Place;
 ghost use mathlib.Core.Path.{_≡_};
 ghost use mathlib.Core.Bool.{true, false};
-ghost use Prim.Native.Nat.{_<_};
+ghost use Prim.Native.Nat.{_≤_, _<_};
+ghost use lib.Dec.{eqb};
 ghost use lib.ListN.{length};
-ghost use Rattle.text.specs.Text.{field, optional};
-ghost use Rattle.text.specs.Place.{cells, Has};
 ghost use Rattle.text.specs.Records.{Readable};
-ghost use Rattle.command_text.specs.Form.{typeOf};
+ghost use Rattle.command_text.specs.Form.{typeOf, known};
 ghost use Rattle.command_text.specs.Rules.{rules};
 ghost use Rattle.command_class.specs.Definition.{under, readAs, firstConst, valueIn, constIn};
-ghost use Rattle.command_class.specs.Find.{from, Good, among, optionalOr, Tells, Numbers, IsRead, Begins, Follows};
+ghost use Rattle.command_class.specs.Fields.{fieldsAt, FieldEnds, LineEnds};
+ghost use Rattle.command_class.specs.Find.{from, Good, among, numberOr, Tells, Numbers, IsRead, IsCondition, Begins, Follows};
 
 // What a line says, as numbers; 256 for a missing offset, mask or length, 0 where the line has no such number.
 pub struct Row {
@@ -35,6 +35,13 @@ pub struct Read {
     pub next: Place,
 }
 
+// What the last two fields of a Q line say, and where the line ends.
+struct Condition {
+    offset: u16,
+    mask: u16,
+    end: usize,
+}
+
 // Is it a kind that begins an entry: a Q or a G?
 pub fn is_entry(kind: u8) -> bool
     ensures { λ r. ⌜ r ≡ among 81 71 71 kind ⌝ }
@@ -45,43 +52,25 @@ pub fn is_entry(kind: u8) -> bool
     kind == b'G'
 }
 
-// The number that field k says, or 256 where it is missing.
-fn or_missing(text: &[u8], line: Line, k: usize) -> u16
-    requires { ⌜ Has (now text) line k ⌝ }
-    ensures { λ r. ⌜ r ≡ optionalOr (optional 255 (field k (cells (now (text .entry)) line))) ⌝ }
+// The number that a field says, or 256 where it is missing.
+fn or_missing(s: &[u8]) -> u16
+    ensures { λ r. ⌜ r ≡ numberOr (now (s .entry)) ⌝ }
 {
-    match line.optional(text, k, 255) {
+    match text::read_optional(s, 255) {
         Optional::Given(n) => n,
         Optional::Missing => 256,
         Optional::Wrong => 256,
     }
 }
 
-// The type that field 2 of a Q names.
-fn type_of(text: &[u8], line: Line) -> ParamType
-    requires { ⌜ (Good (now text) line) × (line .kind ≡ 81) ⌝ }
-    ensures { λ r. ⌜ typeOf (field 2 (cells (now (text .entry)) line)) ≡ Typed.Is r ⌝ }
+// The type that a field names, where it names one.
+fn type_of(s: &[u8]) -> ParamType
+    requires { ⌜ known (typeOf (now s)) ≡ true ⌝ }
+    ensures { λ r. ⌜ typeOf (now (s .entry)) ≡ Typed.Is r ⌝ }
 {
-    match command_text::read_type(line.field(text, 2)) {
+    match command_text::read_type(s) {
         Typed::Is(found) => found,
         Typed::Not => ParamType::Byte,
-    }
-}
-
-// What a Q line says.
-fn read_param(text: &[u8], line: Line) -> Row
-    requires { ⌜ (Good (now text) line) × (line .kind ≡ 81) ⌝ }
-    ensures { λ r. ⌜ Tells (now (text .entry)) line r ⌝ }
-{
-    Row {
-        kind: b'Q',
-        level: line.value(text, 1, 1),
-        typed: type_of(text, line),
-        offset: or_missing(text, line, 4),
-        mask: or_missing(text, line, 5),
-        shift: 0,
-        value: 0,
-        ascii: false,
     }
 }
 
@@ -148,19 +137,18 @@ fn read_bitmask(text: &[u8], line: Line) -> Row
         offset: 0,
         mask: 0,
         shift: 0,
-        value: or_missing(text, line, 1),
+        value: or_missing(line.field(text, 1)),
         ascii: false,
     }
 }
 
-// What a line says that is no T, S or K.
+// What a line says that is no T, S, K or Q.
 fn read_row(text: &[u8], line: Line) -> Row
-    requires { ⌜ (Good (now text) line) × (among 84 83 75 (readAs (line .kind)) ≡ false) ⌝ }
+    requires { ⌜ (Good (now text) line) × (among 84 83 75 (readAs (line .kind)) ≡ false) × (eqb (line .kind) 81 ≡ false) ⌝ }
     ensures { λ r. ⌜ Tells (now (text .entry)) line r ⌝ }
 {
     let kind = line.kind;
     match kind {
-        b'Q' => read_param(text, line),
         b'G' => read_group(text, line),
         b'R' => read_variant(text, line),
         b'A' => read_array(text, line),
@@ -194,6 +182,66 @@ fn is_numbered(kind: u8) -> bool
     kind == b'K'
 }
 
+// Where the field that begins at `at` ends, if another follows: only the tab between them is looked for.
+fn field_end(text: &[u8], at: usize) -> usize
+    requires { ⌜ 2 ≤ length (fieldsAt (now text) at) ⌝ }
+    ensures { λ r. ⌜ FieldEnds (now (text .entry)) at r ⌝ }
+{
+    at + text::find(&text[at..], 9)
+}
+
+// Where the last field of a line ends, which begins at `at`: with the line.
+fn line_end(text: &[u8], at: usize) -> usize
+    requires { ⌜ length (fieldsAt (now text) at) ≡ 1 ⌝ }
+    ensures { λ r. ⌜ LineEnds (now (text .entry)) at r ⌝ }
+{
+    at + text::find(&text[at..], 10)
+}
+
+// The last two fields of a Q line, which begin at `at`.
+fn read_condition(text: &[u8], at: usize) -> Condition
+    requires { ⌜ length (fieldsAt (now text) at) ≡ 2 ⌝ }
+    ensures { λ r. ⌜ IsCondition (now (text .entry)) at r ⌝ }
+{
+    let offset_end = field_end(text, at);
+    let mask = offset_end + 1;
+    let end = line_end(text, mask);
+    Condition {
+        offset: or_missing(&text[at..offset_end]),
+        mask: or_missing(&text[mask..end]),
+        end,
+    }
+}
+
+// A Q line, and the place after it. The level is one digit; of the other fields only those are read that say the type and numbers.
+fn read_param(text: &[u8], place: Place) -> Read
+    requires { ⌜ (Readable rules (now text) place) × (place .at < length (now text)) × (Begins (now text) place 81) ⌝ }
+    ensures { λ r. ⌜ IsRead (now (text .entry)) place r ⌝ }
+{
+    let level = place.at + 2;
+    let level_end = place.at + 3;
+    let at = place.at + 4;
+    let type_end = field_end(text, at);
+    let name = type_end + 1;
+    let condition = read_condition(text, field_end(text, name) + 1);
+    Read {
+        row: Row {
+            kind: b'Q',
+            level: text::read_value(&text[level..level_end], 1),
+            typed: type_of(&text[at..type_end]),
+            offset: condition.offset,
+            mask: condition.mask,
+            shift: 0,
+            value: 0,
+            ascii: false,
+        },
+        next: Place {
+            at: condition.end + 1,
+            line: place.line + 1,
+        },
+    }
+}
+
 // What a T, S or K line says. Of its fields only the numbers are looked for: they stand behind the kind, and a tab ends each.
 fn read_numbered(text: &[u8], place: Place, kind: u8) -> Row
     requires { ⌜ (Readable rules (now text) place) × (place .at < length (now text)) × (Begins (now text) place kind)
@@ -201,9 +249,8 @@ fn read_numbered(text: &[u8], place: Place, kind: u8) -> Row
     ensures { λ r. ⌜ Numbers (now (text .entry)) place r ⌝ }
 {
     let at = place.at + 2;
-    let rest = &text[at..];
-    let e = text::find(rest, 9);
-    let number = text::read_value(&rest[..e], 255);
+    let end = field_end(text, at);
+    let number = text::read_value(&text[at..end], 255);
     if kind == b'K' {
         return Row {
             kind,
@@ -228,16 +275,15 @@ fn read_numbered(text: &[u8], place: Place, kind: u8) -> Row
             ascii: false,
         };
     }
-    let after = e + 1;
-    let more = &rest[after..];
-    let d = text::find(more, 9);
+    let shift = end + 1;
+    let shift_end = field_end(text, shift);
     Row {
         kind,
         level: 0,
         typed: ParamType::Byte,
         offset: 0,
         mask: number,
-        shift: text::read_optional_value(&more[..d], 255),
+        shift: text::read_optional_value(&text[shift..shift_end], 255),
         value: 0,
         ascii: false,
     }
@@ -254,6 +300,9 @@ pub fn read_at(text: &[u8], place: Place) -> Read
             row: read_numbered(text, place, kind),
             next: place.pass(text),
         };
+    }
+    if kind == b'Q' {
+        return read_param(text, place);
     }
     let line = place.step(text);
     let next = line.next;
@@ -311,9 +360,7 @@ pub fn const_name(text: &[u8], place: Place) -> &[u8]
         return &text[..0];
     }
     let at = place.at + 2;
-    let rest = &text[at..];
-    let e = text::find(rest, 9) + 1;
-    let more = &rest[e..];
-    let d = text::find(more, 10);
-    &more[..d]
+    let name = field_end(text, at) + 1;
+    let end = line_end(text, name);
+    &text[name..end]
 }

@@ -7,6 +7,11 @@ use Rattle.command_class.proofs.or_missing.Tie as tie
 pub or-missing-spec : {M : Type 1} → statement M
 or-missing-spec =
     tie.close
-    (tie.spec (λ c κs. search (needs, optional-laws)) (λ c. search (needs, optional-laws)) (λ c. search (needs, optional-laws))
-    (λ c. search (needs, optional-laws)) (λ c. search (needs, optional-laws)) (λ c. search (needs, optional-laws))
+    (tie.spec
+    (λ c κs. search (needs, optional-laws))
+    (λ c. search (needs, optional-laws))
+    (λ c. search (needs, optional-laws))
+    (λ c. search (needs, optional-laws))
+    (λ c. search (needs, optional-laws))
+    (λ c. search (needs, optional-laws))
     (λ c. search (needs, optional-laws)))

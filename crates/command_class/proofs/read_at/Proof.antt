@@ -14,5 +14,7 @@ read-at-spec =
     (λ c κs. search (needs, read-laws))
     (λ c. search (needs, read-laws))
     (λ c κs. search (needs, read-laws))
+    (λ c. search (needs, read-laws))
+    (λ c κs. search (needs, read-laws))
     (λ c κs. search (needs, read-laws))
     (λ c. search (needs, read-laws)))

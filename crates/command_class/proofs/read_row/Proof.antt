@@ -12,8 +12,6 @@ read-row-spec =
     (λ c κs. search (needs, last-kind))
     (λ c κs. search (needs, last-kind))
     (λ c κs. search (needs, last-kind))
-    (λ c κs. search (needs, last-kind))
-    (λ c. search (needs, last-kind))
     (λ c. search (needs, last-kind))
     (λ c. search (needs, last-kind))
     (λ c. search (needs, last-kind))
