@@ -156,13 +156,12 @@ fn cover_file(name: &[u8], fd: i32, options: Options) {
 
 // `tap coverage FILE CAPTURE ..`.
 pub fn show_coverage() {
-    let Asked::Options(options) = files::options::read_some(&USAGE) else {
+    let Asked::Options(options) = files::options::read_some(
+        b"--missing\t--region\t--progress\t--firmware\t--beams",
+        &USAGE,
+    ) else {
         return;
     };
-    if options.folder != 0 {
-        fail(b"tap: coverage takes no --definitions, but a frame text and one capture or more\n");
-        return;
-    }
     if options.count < 2 {
         fail(&USAGE);
         return;

@@ -3,6 +3,7 @@ use frame::region_bits;
 use libc::STDERR_FILENO;
 use output::outcome::fail;
 use output::refusals::refuse_capture;
+use readers::line_fields::count_pieces;
 use readers::line_fields::find_field;
 use readers::numeral::Numeral;
 use readers::numeral::read_numeral;
@@ -38,7 +39,7 @@ pub struct Options {
     pub third: usize,
     // The option that the next argument is for: 0, DEFINITIONS, FIRMWARE, BEAMS or REGION.
     open: u8,
-    // An option that there isn't, 0 where there is none.
+    // The first option that the word does not take, 0 where there is none.
     wrong: usize,
     // Is the firmware said by something else than a number?
     is_unnumbered: bool,
@@ -204,7 +205,9 @@ impl Options {
     }
 
     fn with_wrong(mut self, k: usize) -> Self {
-        self.wrong = k;
+        if self.wrong == 0 {
+            self.wrong = k;
+        }
         self
     }
 }
@@ -259,23 +262,48 @@ fn take_argument(options: Options, k: usize) -> Options {
     take_bytes(options, k, &bytes[..n])
 }
 
-fn take_all() -> Options {
+// Is argument k an option that is none of those that a word takes?
+fn is_foreign(k: usize, takes: &[u8]) -> bool {
+    let mut bytes = io::buffer();
+    let n = os::arg(k, &mut bytes);
+    is_option(&bytes[..n]) && find_field(takes, &bytes[..n]) == count_pieces(takes, 9)
+}
+
+// One more argument of a word that takes these options.
+fn take_one(options: Options, k: usize, takes: &[u8]) -> Options {
+    if options.open == 0 {
+        if is_foreign(k, takes) {
+            return options.with_wrong(k);
+        }
+    }
+    take_argument(options, k)
+}
+
+fn take_all(takes: &[u8]) -> Options {
     let end = os::arg_count();
     let mut options = Options::new();
     let mut k: usize = 2;
     while k < end {
-        options = take_argument(options, k);
+        options = take_one(options, k, takes);
         k += 1;
     }
     options
 }
 
-fn fail_option(k: usize) {
+fn say_argument(k: usize) {
     let mut bytes = io::buffer();
     let n = os::arg(k, &mut bytes);
-    io::write_all(STDERR_FILENO, b"tap: there is no option ");
     io::write_all(STDERR_FILENO, &bytes[..n]);
-    fail(b": 'tap help' lists them\n");
+}
+
+fn fail_option(k: usize) {
+    io::write_all(STDERR_FILENO, b"tap: ");
+    say_argument(1);
+    io::write_all(STDERR_FILENO, b" takes no ");
+    say_argument(k);
+    io::write_all(STDERR_FILENO, b": 'tap help ");
+    say_argument(1);
+    fail(b"' says what it takes\n");
 }
 
 // Says which option lacks its argument, or has one that it does not take. Is there such an option?
@@ -320,15 +348,15 @@ fn judged(options: Options, fits: bool, usage: &[u8]) -> Asked {
     Asked::Options(options)
 }
 
-// The options of a word that takes so many arguments.
-pub fn read(count: usize, usage: &[u8]) -> Asked {
-    let options = take_all();
+// The options of a word that takes so many arguments, and the options in `takes`, parted by tabs.
+pub fn read(count: usize, takes: &[u8], usage: &[u8]) -> Asked {
+    let options = take_all(takes);
     judged(options, options.count == count, usage)
 }
 
 // The same of a word that takes one argument or more.
-pub fn read_some(usage: &[u8]) -> Asked {
-    let options = take_all();
+pub fn read_some(takes: &[u8], usage: &[u8]) -> Asked {
+    let options = take_all(takes);
     judged(options, options.count != 0, usage)
 }
 

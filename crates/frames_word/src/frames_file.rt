@@ -91,6 +91,7 @@ fn show_file(name: &[u8], fd: i32, options: Options) {
 pub fn show_frames() {
     let Asked::Options(options) = files::options::read(
         1,
+        b"--definitions\t--plain\t--colour\t--picture\t--progress\t--records\t--firmware\t--beams\t--by-position",
         b"tap: frames takes one FILE, or - for standard input\n",
     ) else {
         return;

@@ -122,6 +122,7 @@ fn open_and_answer(listing: usize, options: Options) {
 pub fn list_frame() {
     let Asked::Options(options) = files::options::read(
         2,
+        b"--definitions\t--firmware\t--beams",
         b"tap: list takes a FILE, or - for standard input, and the number of a frame\n",
     ) else {
         return;
@@ -133,6 +134,7 @@ pub fn list_frame() {
 pub fn judge_frame() {
     let Asked::Options(options) = files::options::read(
         3,
+        b"--definitions\t--firmware\t--beams",
         b"tap: judge takes a FILE, the number of a frame, and the file of a LISTING\n",
     ) else {
         return;

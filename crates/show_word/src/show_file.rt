@@ -220,6 +220,7 @@ fn open_and_show(number: u64, options: Options) {
 pub fn show_frame() {
     let Asked::Options(options) = files::options::read(
         2,
+        b"--definitions\t--plain\t--colour\t--picture\t--progress\t--records\t--firmware\t--beams\t--by-position",
         b"tap: show takes a FILE, or - for standard input, and the number of a frame\n",
     ) else {
         return;

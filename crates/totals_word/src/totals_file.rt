@@ -119,6 +119,7 @@ fn show_by(text: &[u8], options: Options)
 // `tap totals FILE ..`.
 pub fn show_totals() {
     let Asked::Options(options) = files::options::read_some(
+        b"--definitions\t--words\t--region\t--progress\t--firmware\t--beams",
         b"tap: totals takes one FILE or more, or - for standard input\n",
     ) else {
         return;

@@ -9,12 +9,10 @@ show-coverage-spec =
     tie.close
     (tie.spec
     (λ c. search (needs, laws))
-    (λ c κs. search (needs, laws))
-    (λ c. search (needs, laws))
-    (λ c. search (needs, laws))
-    (λ c. search (needs, laws))
     (λ c. search (needs, laws))
     (λ c κs. search (needs, laws))
+    (λ c. search (needs, laws))
+    (λ c. search (needs, laws))
     (λ c. search (needs, laws))
     (λ c. search (needs, laws))
     (λ c κs. search (needs, laws))

@@ -5,10 +5,10 @@ use Rattle.files.proofs.options.take_all.Statement.{statement}
 use Rattle.files.proofs.options.take_all.Tie as tie
 
 abbrev Inv-loop : tie.InvT-loop
-Inv-loop end options₀ k₀ options k = Unit {0}
+Inv-loop takes end options₀ k₀ options k = Unit {0}
 
 abbrev μ-loop : tie.MeasureT-loop
-μ-loop end options₀ k₀ options k = end - k
+μ-loop takes end options₀ k₀ options k = end - k
 
 pub take-all-spec : {M : Type 1} → statement M
 take-all-spec =

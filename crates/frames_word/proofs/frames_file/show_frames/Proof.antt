@@ -9,6 +9,7 @@ show-frames-spec =
     tie.close
     (tie.spec
     (λ c. search (needs, laws))
+    (λ c. search (needs, laws))
     (λ c κs. search (needs, laws))
     (λ c. search (needs, laws))
     (λ c. search (needs, laws))
