@@ -33,6 +33,8 @@ use Rattle.frame.specs.Steps.{splitOf, framedBy}
 use Rattle.frame.proofs.Ranges.{mpdu-inside}
 use Rattle.frame.proofs.Laws.{split-frame, split-none, split-framed, parts-in}
 use Rattle.pti.specs.Payload.{rowOf, rowsIn, rowsOf}
+use Rattle.pti.specs.Steps.{Within, bytesIn}
+use Rattle.pti.proofs.Laws.{within-end, leads-within}
 use Rattle.header.specs.declared.DecodedHeader.{DecodedHeader}
 use Rattle.header.specs.declared.Decoded.{Decoded}
 use Rattle.header.specs.declared.Decoded.the-variants as header
@@ -42,7 +44,7 @@ use Rattle.totals.specs.declared.Framed.the-variants.{Is, Nothing}
 use Rattle.totals.specs.declared.Added.{Added}
 use Rattle.totals.specs.declared.Added.the-variants.{Counted, Refused}
 use Rattle.totals.specs.Totals.{size, refusedCounts, headerCounts, beamCounts, room, frameCounts, raisedBy, within, Adds}
-use Rattle.totals.specs.Steps.{zeros, tally, tallyRows, Room, Tallies, Lies, Spans, spanned, framedIn, bodyCounts, plus, AddsSums}
+use Rattle.totals.specs.Steps.{zeros, tally, tallyRows, Room, Tallies, Lies, framedIn, bodyCounts, plus, AddsSums}
 use Rattle.totals.proofs.Sums.{adds-none, adds-both, adds-within, grown, length-rows, room-less, sum-laws}
 use Rattle.totals.proofs.Keys.{key-low}
 
@@ -122,34 +124,31 @@ not-framed : (t : Bool) (f : PtiFrame) → cond t (Is f) Nothing ≡ Nothing →
 not-framed true f e = cc
 not-framed false f e = refl
 
-module _ (w : Rules) (t : List ℕ) (region : ℕ) (s : List ℕ) (b : Span) (x : Framed) (is-x : x ≡ framedIn w (spanned s b)) where
+module _ (w : Rules) (t : List ℕ) (region : ℕ) (s : List ℕ) (b : Span) (x : Framed) (is-x : x ≡ framedIn w (bytesIn s b)) where
   pub body-none : (a : List ℕ) → x ≡ Nothing → Tallies 3 (bodyCounts w t region s b) a a
-  body-none a e = rw (not-framed (isFrame w (spanned s b)) (frameOf w (spanned s b)) (sym is-x ∙ e)) (adds-none 3 a)
+  body-none a e = rw (not-framed (isFrame w (bytesIn s b)) (frameOf w (bytesIn s b)) (sym is-x ∙ e)) (adds-none 3 a)
 
   module _ (f : PtiFrame) (e : x ≡ Is f) where
-    one : (isFrame w (spanned s b) ≡ true) × (f ≡ frameOf w (spanned s b))
-    one = is-framed (isFrame w (spanned s b)) (frameOf w (spanned s b)) f (sym is-x ∙ e)
+    one : (isFrame w (bytesIn s b) ≡ true) × (f ≡ frameOf w (bytesIn s b))
+    one = is-framed (isFrame w (bytesIn s b)) (frameOf w (bytesIn s b)) f (sym is-x ∙ e)
 
     pub body-counted : (a c : List ℕ) → Tallies 3 (frameCounts t region s (rowOf 0 (b .start .0) f)) a c → Tallies 3 (bodyCounts w t region s b) a c
     body-counted a c q = rw (one .0) (rw (one .1) at q)
 
-    pub body-lies : Spans s b → Lies s (b .start .0) f
-    body-lies spans =
-        let few : length (spanned s b) ≤ b .end .0 - b .start .0 = rw length-take (omega arith) in
+    pub body-lies : Within s b → Lies s (b .start .0) f
+    body-lies within =
+        let few : length (bytesIn s b) ≤ b .end .0 - b .start .0 = rw length-take (omega arith) in
         rw (one .1)
         (record {
-          rate = omega (arith, rate-low (fields (w .width) (spanned s b) .channel) (fields (w .width) (spanned s b) .region));
-          inside = omega (arith, mpdu-inside w (spanned s b) (one .0), spans .ordered, spans .inside);
+          rate = omega (arith, rate-low (fields (w .width) (bytesIn s b) .channel) (fields (w .width) (bytesIn s b) .region));
+          inside = omega (arith, mpdu-inside w (bytesIn s b) (one .0), within .ordered, within .before);
         })
 
-pub body-short : (s : List ℕ) (b : Span) → Spans s b → length (spanned s b) < 65535
-body-short s b spans = rw length-take (omega (arith, spans .inside, spans .short))
+pub body-short : (s : List ℕ) (b : Span) → Within s b → length (bytesIn s b) < 65535
+body-short s b within = rw length-take (omega (arith, within .before, within .short))
 
-pub body-ordered : (s : List ℕ) (b : Span) → Spans s b → b .start .0 ≤ b .end .0
-body-ordered s b spans = spans .ordered
-
-pub body-inside : (s : List ℕ) (b : Span) → Spans s b → b .end .0 ≤ length s
-body-inside s b spans = omega (arith, spans .inside)
+pub body-ordered : (s : List ℕ) (b : Span) → Within s b → b .start .0 ≤ b .end .0
+body-ordered s b within = within .ordered
 
 -- ---- body by body: with those that are left counted, the sums are those of all rows; the next body has some number
 pub record Counting (w : Rules) (t : List ℕ) (region : ℕ) (s sums : List ℕ) (at : ℕ) : Type 0 where
@@ -182,8 +181,8 @@ module _ (w : Rules) (t : List ℕ) (region : ℕ) (s sums : List ℕ) (at : ℕ
   counting-done e = let none : bodiesFrom s at ≡ [] = rw e at follows in rw none at (inv .rest)
 
   module _ (b : Span) (is-b : r ≡ Body b) (short : length s ≤ 65535) where
-    pub counting-spans : Spans s b
-    counting-spans = let l = led s at r b follows is-b in record { ordered = l .ordered; inside = l .inside; short = short }
+    pub counting-within : Within s b
+    counting-within = leads-within s at b (led s at r b follows is-b) (omega (arith, inv .some)) short
 
     pub counting-room : Room 3 sums
     counting-room =
@@ -196,7 +195,7 @@ module _ (w : Rules) (t : List ℕ) (region : ℕ) (s sums : List ℕ) (at : ℕ
         let l = led s at r b follows is-b in
         record {
           number = inv .number + 1;
-          rest = go (isFrame w (spanned s b)) (counted .is) (rw (l .first) at (inv .rest));
+          rest = go (isFrame w (bytesIn s b)) (counted .is) (rw (l .first) at (inv .rest));
           room =
               counted .room (3 * (65540 - (b .end .0 + 2)))
               (room-less (3 + 3 * (65540 - (b .end .0 + 2))) (3 * (65540 - at)) sums (inv .room) (omega (arith, l .after, l .ordered, l .inside)));
@@ -210,7 +209,7 @@ module _ (w : Rules) (t : List ℕ) (region : ℕ) (s sums : List ℕ) (at : ℕ
         others = rowsIn w s (inv .number + 1) (bodiesFrom s (b .end .0 + 2))
 
         row : ℕ → List ℕ
-        row k = rowOf k (b .start .0) (frameOf w (spanned s b))
+        row k = rowOf k (b .start .0) (frameOf w (bytesIn s b))
 
         go : (y : Bool) → sums′ ≡ tally sums (cond y (counts (row 0)) [])
             → tallyRows counts sums (cond y (row (inv .number) ∷ others) others) ≡ tallyRows counts zeros (rowsOf w s)
@@ -299,12 +298,12 @@ pub ruleset laws = (
   body-lies,
   body-short,
   body-ordered,
-  body-inside,
+  within-end,
   body-nearer,
   after-fits,
   counting-starts,
   counting-done,
-  counting-spans,
+  counting-within,
   counting-room,
   counting-more,
   length-counted,

@@ -2,14 +2,15 @@
 use mathlib.Core.Path.{_≡_}
 use mathlib.Core.Bool.{cond}
 use mathlib.Core.List.{List, [], _∷_}
-use Prim.Native.Nat.{ℕ, _+_, _-_, _*_, _^_, _≤_, _<_}
-use lib.ListN.{length, getD, set, take, drop, replicate}
+use Prim.Native.Nat.{ℕ, _+_, _*_, _^_, _≤_, _<_}
+use lib.ListN.{length, getD, set, replicate}
 use Rattle.refusal.specs.declared.Refusal.the-variants.{PastLimit}
 use Rattle.records.specs.declared.Span.{Span}
 use Rattle.frame.specs.declared.Rules.{Rules}
 use Rattle.frame.specs.declared.PtiFrame.{PtiFrame}
 use Rattle.frame.specs.Frame.{isFrame, frameOf}
 use Rattle.pti.specs.Payload.{rowOf}
+use Rattle.pti.specs.Steps.{bytesIn}
 use Rattle.totals.specs.Totals.{size, frameCounts, within}
 use Rattle.totals.specs.declared.Framed.{Framed}
 use Rattle.totals.specs.declared.Framed.the-variants.{Is, Nothing}
@@ -55,16 +56,6 @@ pub record Lies (s : List ℕ) (body : ℕ) (f : PtiFrame) : Type 0 where
   pub rate : f .rate < 4
   pub inside : body + f .start .0 + f .length ≤ length s
 
--- the span lies in a payload that is not too long
-pub record Spans (s : List ℕ) (b : Span) : Type 0 where
-  pub ordered : b .start .0 ≤ b .end .0
-  pub inside : b .end .0 < length s
-  pub short : length s ≤ 65535
-
--- the bytes of a span
-abbrev pub spanned : List ℕ → Span → List ℕ
-spanned s b = take (b .end .0 - b .start .0) (drop (b .start .0) s)
-
 -- the frame of a body, if it holds one
 abbrev pub framedIn : Rules → List ℕ → Framed
 framedIn w b = cond (isFrame w b) (Is (frameOf w b)) Nothing
@@ -72,4 +63,4 @@ framedIn w b = cond (isFrame w b) (Is (frameOf w b)) Nothing
 -- what the frame in a body counts, if it holds one
 abbrev pub bodyCounts : Rules → List ℕ → ℕ → List ℕ → Span → List (ℕ × ℕ)
 bodyCounts w t region s b =
-    cond (isFrame w (spanned s b)) (frameCounts t region s (rowOf 0 (b .start .0) (frameOf w (spanned s b)))) []
+    cond (isFrame w (bytesIn s b)) (frameCounts t region s (rowOf 0 (b .start .0) (frameOf w (bytesIn s b)))) []

@@ -30,8 +30,9 @@ ghost use Rattle.refusal.specs.Refusal.{numberOf};
 ghost use Rattle.header.specs.declared.Decoded.the-variants.{Header};
 ghost use Rattle.header.specs.Decode.{decoded};
 ghost use Rattle.pti.specs.Payload.{rowsOf, rowOf};
+ghost use Rattle.pti.specs.Steps.{Within};
 ghost use Rattle.totals.specs.Totals.{size, refusedCounts, headerCounts, beamCounts, room, frameCounts, within, Adds};
-ghost use Rattle.totals.specs.Steps.{zeros, Room, Tallies, Lies, Spans, framedIn, bodyCounts, tallyRows, plus, AddsSums};
+ghost use Rattle.totals.specs.Steps.{zeros, Room, Tallies, Lies, framedIn, bodyCounts, tallyRows, plus, AddsSums};
 
 // How many rates there are: a key has a count for each.
 pub const RATE_COUNT: usize = 4;
@@ -178,7 +179,7 @@ fn count_body(
 )
     requires { ⌜ RateTable (now rates) ⌝ }
     requires { ⌜ verdict (now text) ≡ Accepted ⌝ }
-    requires { ⌜ (rules .width ≤ 5) × (Spans (now payload) span) ⌝ }
+    requires { ⌜ (rules .width ≤ 5) × (Within (now payload) span) ⌝ }
     requires { ⌜ Room 3 (now sums) ⌝ }
     ensures { λ _.
         ⌜ Tallies 3 (bodyCounts rules (now (text .entry)) region (now (payload .entry)) span) (now (sums .entry)) (now (sums .exit)) ⌝ }
