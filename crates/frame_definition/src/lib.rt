@@ -1,5 +1,5 @@
-// The definition that an accepted frame text stands for. Counterpart of frame_definition/schema.rs.
-// Looking things up in an accepted frame text. Every loop reads on from a place where a line begins.
+// The definition that an accepted frame text stands for, and looking things up in it: every loop reads on from a place where a line begins.
+// Counterpart of frame_definition/schema.rs.
 mod numbered;
 mod sets;
 

@@ -1,7 +1,6 @@
 -- `screen::fill_frames` meets its contract: a walk of its MIR, by hand, with a call before a loop and a call in it. The borrow of frames is opened once,
--- before the loop, and closed
--- once, after it. A turn calls `record_at`, of which only the contract is known, takes record i out of the table, stores to it and puts it back.
--- Assumes nothing.
+-- before the loop, and closed once, after it. A turn calls `record_at`, of which only the contract is known, takes record i out of the table, stores to it
+-- and puts it back. Assumes nothing.
 use mathlib.Core.Path.{_≡_, refl, sym, ap, subst, _∙_}
 use Prim.Native.Nat.{ℕ, _+_, _*_, _<_, _≤_, _-_, _^_}
 use native.Mathlib.Omega.{arith}

@@ -1,6 +1,5 @@
 -- `replay::frame_table::fill_first` meets its contract: a walk of its MIR, by hand. The local array is cut in two, its first cap records are lent for a
--- lifetime that is made for the call,
--- and once the lifetime is over the two parts are one array again. Of `fill_frames` only the contract is known.
+-- lifetime that is made for the call, and once the lifetime is over the two parts are one array again. Of `fill_frames` only the contract is known.
 -- Assumes nothing.
 use mathlib.Core.Path.{_≡_, refl, sym, ap, subst, _∙_}
 use Prim.Native.Nat.{ℕ, _<_, _≤_, _^_}
