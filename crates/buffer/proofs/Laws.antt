@@ -5,12 +5,14 @@ use mathlib.Core.List.{List, [], _∷_, _++_}
 use Prim.Native.Nat.{ℕ, suc, _+_, _≤_, _<_}
 use native.Mathlib.Omega.{arith}
 use lib.Dec.{leb}
-use lib.ListN.{length, getD, set, drop, length-set, length-append}
-use lib.Seq.{sets, sets-eq, length-sets}
+use lib.ListN.{length, getD, set, take, drop, length-set, length-append}
+use lib.Seq.{sets, sets-eq, take-at}
 use borrow.Author.Tests.{le-leb, lt-leb}
 use Rattle.laws.proofs.Lists.{next, done}
 use Rattle.refusal.specs.declared.Refusal.the-variants.{MoreBytes}
-use Rattle.buffer.specs.Buffer.{answerIn, Writes}
+use Rattle.text.specs.declared.Verdict.{Verdict}
+use Rattle.text.specs.declared.Verdict.the-variants.{Accepted, Refused as NotAccepted}
+use Rattle.buffer.specs.Buffer.{answerIn, answerBy, bufferAfter, Writes}
 use Rattle.buffer.specs.declared.Written.{Written}
 use Rattle.buffer.specs.declared.Written.the-variants.{Length, Refused}
 
@@ -49,15 +51,37 @@ module _ (l b : List ℕ) (n : ℕ) (is : n ≡ length l) where
       let z : 0 + length l ≡ length l = omega arith in
       record { answer = rw (is, le-leb (length l) (length b) (omega arith)); buffer = e ∙ sets-eq l b 0 (omega arith) ∙ rw z }
 
--- for callers: so many bytes stand in the buffer
-pub length-written : (l b : List ℕ) (r : Written) (b′ : List ℕ) (n : ℕ) → Writes l b r b′ → r ≡ Length n → n ≤ length b′
-length-written l b r b′ n so e =
-    let q : n ≡ length l = written (leb (length l) (length b)) (sym e ∙ so .answer) in
-    let c : length b′ ≡ length l + length (drop (length l) b) = ap length (rw e at (so .buffer)) ∙ length-append l (drop (length l) b) in
-    omega arith
-  where
-    written : (fits : Bool) → Length n ≡ cond fits (Length (length l)) (Refused (MoreBytes (length l))) → n ≡ length l
-    written true h = cc
-    written false h = absurd (let z : _≡_ {A = ℕ} 0 1 = cc in omega arith)
+-- ---- for callers: the length that is answered for a text, after a check by which that length is the text's
+module _ (v : Verdict) (l b : List ℕ) (size : ℕ) (r : Written) (b′ : List ℕ) (n : ℕ) (long : v ≡ Accepted → size ≡ length l)
+    (answer : r ≡ answerBy v (answerIn size (length b))) (buffer : b′ ≡ bufferAfter l b r) (e : r ≡ Length n) where
+  is-length : n ≡ length l
+  is-length = go v long (leb size (length b)) (sym e ∙ answer)
+    where
+      go : (w : Verdict) → (w ≡ Accepted → size ≡ length l) → (fits : Bool) → Length n ≡ answerBy w (cond fits (Length size) (Refused (MoreBytes size)))
+          → n ≡ length l
+      go Accepted is true h = let z : n ≡ size = cc in z ∙ is refl
+      go Accepted is false h = absurd (let z : _≡_ {A = ℕ} 0 1 = cc in omega arith)
+      go (NotAccepted x) is fits h = absurd (let z : _≡_ {A = ℕ} 0 1 = cc in omega arith)
+
+  left : b′ ≡ l ++ drop (length l) b
+  left = rw e at buffer
+
+  -- so many bytes stand in the buffer
+  pub length-by : n ≤ length b′
+  length-by =
+      let c : length b′ ≡ length l + length (drop (length l) b) = ap length left ∙ length-append l (drop (length l) b) in
+      omega (arith, is-length, c)
+
+  -- and they are the text
+  pub front-by : take n b′ ≡ l
+  front-by = ap (take n) left ∙ take-at l (drop (length l) b) n (sym is-length)
+
+-- the same of a text that no check comes before
+module _ (l b : List ℕ) (r : Written) (b′ : List ℕ) (n : ℕ) (so : Writes l b r b′) (e : r ≡ Length n) where
+  pub length-written : n ≤ length b′
+  length-written = length-by Accepted l b (length l) r b′ n (λ z. refl) (so .answer) (so .buffer) e
+
+  pub front-written : take n b′ ≡ l
+  front-written = front-by Accepted l b (length l) r b′ n (λ z. refl) (so .answer) (so .buffer) e
 
 pub ruleset laws = (put-start, put-more, put-done, writes-short, writes-room)

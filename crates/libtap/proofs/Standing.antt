@@ -40,8 +40,9 @@ use Rattle.header_nodes.specs.Fields.{isMaskRow, maskAt}
 use Rattle.header_nodes.specs.Answer.{noSuchField, ofRow, answerOf, rowsOf, ofDecoded}
 use Rattle.command_nodes.specs.Fields as fields
 use Rattle.command_nodes.specs.Answer as nodes
+use Rattle.buffer.specs.declared.Written.{Written}
 use Rattle.buffer.specs.declared.Written.the-variants as written
-use Rattle.buffer.specs.Buffer.{answerIn}
+use Rattle.buffer.specs.Buffer.{answerIn, answerBy}
 use Rattle.header_value.specs.Fields.{rowText}
 use Rattle.header_value.specs.Answer as value
 use Rattle.command_value.specs.Params as shown-rows
@@ -191,7 +192,7 @@ command-nodes-stand offsets t payload k table r table′ p same = rw (p .told-so
     by-found (found.Row row) = by-row row (fields.isMaskRow t row)
     by-found (found.Refused x) = refused-stands table′ x
 
--- ---- the text of a header's row
+-- ---- a text in a buffer
 pub written-stands : (n : ℕ) (b b′ : List ℕ) → length b′ ≡ length b → Stands b′ (toldWritten (answerIn n (length b)))
 written-stands n b b′ same = go (leb n (length b)) refl
   where
@@ -199,6 +200,11 @@ written-stands n b b′ same = go (leb n (length b)) refl
     go true e = λ z. omega (arith, same, leb-true n (length b) e)
     go false e = refused-stands b′ (MoreBytes n)
 
+checked-stands : (v : Verdict) (a : Written) (b : List ℕ) → Stands b (toldWritten a) → Stands b (toldWritten (answerBy v a))
+checked-stands Accepted a b s = s
+checked-stands (Unfit x) a b s = refused-stands b x
+
+-- ---- the text of a header's row
 pub value-stands : (t d : List ℕ) (region speed k : ℕ) (b : List ℕ) (r : TapAnswer) (b′ : List ℕ)
     → ToldHeaderValue t d region speed k b r b′ → length b′ ≡ length b → Stands b′ r
 value-stands t d region speed k b r b′ p same = rw (p .told-so, p .shows .answer) (by-answer (answerOf t d region speed))
@@ -228,15 +234,12 @@ totals-stand totals b r b′ p same = rw (p .told-so, p .writes .answer) (writte
 
 -- ---- a frame text as XML
 pub xml-stands : (t b : List ℕ) (r : TapAnswer) (b′ : List ℕ) → ToldXml t b r b′ → length b′ ≡ length b → Stands b′ r
-xml-stands t b r b′ p same = rw (p .told-so, p .writes .answer) (by-verdict (frameVerdict t))
+xml-stands t b r b′ p same =
+    rw (p .told-so, p .writes .answer) (checked-stands (frameVerdict t) (writer.plainAnswer t (length b)) b′ (by-plain (isPlain t)))
   where
     by-plain : (x : Bool) → Stands b′ (toldWritten (cond x (answerIn (length (xmlOf t)) (length b)) (written.Refused (NotPlain (outOfOrder t)))))
     by-plain true = written-stands (length (xmlOf t)) b b′ same
     by-plain false = refused-stands b′ (NotPlain (outOfOrder t))
-
-    by-verdict : (v : Verdict) → Stands b′ (toldWritten (writer.answerBy v (writer.plainAnswer t (length b))))
-    by-verdict Accepted = by-plain (isPlain t)
-    by-verdict (Unfit x) = refused-stands b′ x
 
 -- ---- XML as a frame text
 pub text-stands : (x b : List ℕ) (r : TapAnswer) (b′ : List ℕ) → ToldText x b r b′ → length b′ ≡ length b → Stands b′ r
@@ -245,13 +248,8 @@ text-stands x b r b′ p same = rw (p .told-so, p .turns .answer) (by-fault (doc
     said : List ℕ
     said = document.textOf x
 
-    by-text : (v : Verdict) → Stands b′ (toldWritten (reader.byText v (answerIn (length said) (length b))))
-    by-text Accepted = written-stands (length said) b b′ same
-    by-text (Unfit y) = refused-stands b′ y
-
-    by-fault : (f : Fault)
-        → Stands b′ (toldWritten (reader.byFault f (reader.byText (frameVerdict said) (answerIn (length said) (length b)))))
-    by-fault Fine = by-text (frameVerdict said)
+    by-fault : (f : Fault) → Stands b′ (toldWritten (reader.byFault f (answerBy (frameVerdict said) (answerIn (length said) (length b)))))
+    by-fault Fine = checked-stands (frameVerdict said) (answerIn (length said) (length b)) b′ (written-stands (length said) b b′ same)
     by-fault (At place) = refused-stands b′ (Xml place)
 
 pub ruleset standing-laws = (stands-in, frames-stand, tidied-stands, header-stands, params-stand)

@@ -6,16 +6,13 @@ use mathlib.Core.List.{List, [], _∷_, _++_}
 use lib.Dec.{eqb}
 use lib.ListN.{length, take, drop}
 use lib.Seq.{sets}
-use Rattle.buffer.specs.Buffer.{answerIn, bufferAfter}
+use Rattle.buffer.specs.Buffer.{answerIn, answerBy, bufferAfter}
 use Rattle.buffer.specs.declared.Written.{Written}
-use Rattle.buffer.specs.declared.Written.the-variants.{Refused}
 use Rattle.text.specs.Text.{lines, field, fields}
 use Rattle.text.specs.Scan.{cut}
 use Rattle.text.specs.Print.{Every}
 use Rattle.text.specs.Records.{Readable}
 use Rattle.text.specs.declared.Place.{Place}
-use Rattle.text.specs.declared.Verdict.{Verdict}
-use Rattle.text.specs.declared.Verdict.the-variants.{Accepted, Refused as NotAccepted}
 use Rattle.frame_text.specs.Rules.{rules, verdict}
 use Rattle.reorder.specs.Blocks.{only, letterOf, ownsMore, untilNext, ended, Line, saysOf}
 use Rattle.reorder.specs.Sorted.{upTo, sortBy, placed, sortedText}
@@ -23,14 +20,9 @@ use Rattle.sorting.specs.declared.Chosen.{Chosen}
 
 -- ---- the answer
 
--- O6, R10: 1 to 3 come first
-abbrev pub judged : Verdict → Written → Written
-judged Accepted answer = answer
-judged (NotAccepted r) answer = Refused r
-
--- O6: what `sort_headers` answers for any text, and leaves in the buffer b
+-- O6, R10: what `sort_headers` answers for any text, and leaves in the buffer b
 pub record Sorts (t b : List ℕ) (r : Written) (b′ : List ℕ) : Type 0 where
-  pub answer : r ≡ judged (verdict t) (answerIn (length t) (length b))
+  pub answer : r ≡ answerBy (verdict t) (answerIn (length t) (length b))
   pub buffer : b′ ≡ bufferAfter (sortedText t) b r
 
 -- ---- places in a text

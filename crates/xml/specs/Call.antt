@@ -4,29 +4,22 @@ use mathlib.Core.List.{List}
 use Prim.Native.Nat.{ℕ}
 use lib.ListN.{length}
 use Rattle.refusal.specs.declared.Refusal.the-variants.{Xml}
-use Rattle.buffer.specs.Buffer.{answerIn, bufferAfter}
+use Rattle.buffer.specs.Buffer.{answerIn, answerBy, bufferAfter}
 use Rattle.buffer.specs.declared.Written.{Written}
 use Rattle.buffer.specs.declared.Written.the-variants.{Refused}
-use Rattle.text.specs.declared.Verdict.{Verdict}
-use Rattle.text.specs.declared.Verdict.the-variants.{Accepted, Refused as NotAccepted}
 use Rattle.frame_text.specs.Rules as frame
 use Rattle.xml_tags.specs.declared.Fault.{Fault}
 use Rattle.xml_tags.specs.declared.Fault.the-variants.{Fine, At}
 use Rattle.xml_document.specs.Document.{verdict, textOf}
-
--- X11, R10: refusal 1, 2 or 3 by the text that is written, before any other answer
-abbrev pub byText : Verdict → Written → Written
-byText Accepted answer = answer
-byText (NotAccepted r) answer = Refused r
 
 -- X1, X11: refusal 14 with the place of the first fault, before any other answer
 abbrev pub byFault : Fault → Written → Written
 byFault Fine answer = answer
 byFault (At place) answer = Refused (Xml place)
 
--- X11: the answer for the XML x in room for so many bytes
+-- X11, R10: the answer for the XML x in room for so many bytes: 14, then 1 to 3 by the text that is written, then 12
 abbrev pub answerOf : List ℕ → ℕ → Written
-answerOf x room = byFault (verdict x) (byText (frame.verdict (textOf x)) (answerIn (length (textOf x)) room))
+answerOf x room = byFault (verdict x) (answerBy (frame.verdict (textOf x)) (answerIn (length (textOf x)) room))
 
 -- X11, R12: what `xml_to_frame_text` answers for the XML x, and leaves in the buffer b
 pub record Turns (x b : List ℕ) (r : Written) (b′ : List ℕ) : Type 0 where
@@ -35,5 +28,5 @@ pub record Turns (x b : List ℕ) (r : Written) (b′ : List ℕ) : Type 0 where
 
 -- what is answered for the text t that is written, and left in the buffer b
 pub record Copies (t b : List ℕ) (r : Written) (b′ : List ℕ) : Type 0 where
-  pub answer : r ≡ byText (frame.verdict t) (answerIn (length t) (length b))
+  pub answer : r ≡ answerBy (frame.verdict t) (answerIn (length t) (length b))
   pub buffer : b′ ≡ bufferAfter t b r

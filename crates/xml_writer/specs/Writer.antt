@@ -5,9 +5,7 @@ use mathlib.Core.List.{List}
 use Prim.Native.Nat.{ℕ}
 use lib.ListN.{length}
 use Rattle.refusal.specs.declared.Refusal.the-variants.{NotPlain}
-use Rattle.text.specs.declared.Verdict.{Verdict}
-use Rattle.text.specs.declared.Verdict.the-variants.{Accepted, Refused as NotAccepted}
-use Rattle.buffer.specs.Buffer.{answerIn, bufferAfter}
+use Rattle.buffer.specs.Buffer.{answerIn, answerBy, bufferAfter}
 use Rattle.buffer.specs.declared.Written.{Written}
 use Rattle.buffer.specs.declared.Written.the-variants.{Refused}
 use Rattle.frame_text.specs.Rules.{verdict}
@@ -18,17 +16,12 @@ use Rattle.xml_elements.specs.Elements.{xmlOf}
 abbrev pub plainAnswer : List ℕ → ℕ → Written
 plainAnswer t room = cond (isPlain t) (answerIn (length (xmlOf t)) room) (Refused (NotPlain (outOfOrder t)))
 
--- X14, R10: what a text is answered; 1 to 3 come first
-abbrev pub answerBy : Verdict → Written → Written
-answerBy Accepted answer = answer
-answerBy (NotAccepted x) answer = Refused x
-
 -- X14, R12: what an accepted text is answered, and what is left in the buffer b
 pub record Plainly (t b : List ℕ) (r : Written) (b′ : List ℕ) : Type 0 where
   pub answer : r ≡ plainAnswer t (length b)
   pub buffer : b′ ≡ bufferAfter (xmlOf t) b r
 
--- X14, R12: what `frame_text_to_xml` answers for any text, and leaves in the buffer b
+-- X14, R10, R12: what `frame_text_to_xml` answers for any text, and leaves in the buffer b
 pub record WritesXml (t b : List ℕ) (r : Written) (b′ : List ℕ) : Type 0 where
   pub answer : r ≡ answerBy (verdict t) (plainAnswer t (length b))
   pub buffer : b′ ≡ bufferAfter (xmlOf t) b r
