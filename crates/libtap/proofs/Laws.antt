@@ -25,9 +25,6 @@ use Rattle.pti.specs.declared.payload.Frames.the-variants.{Rows, Refused}
 use Rattle.pti.specs.Payload.{said as saidFrames, Parses}
 use Rattle.text.specs.declared.Verdict.{Verdict}
 use Rattle.text.specs.declared.Verdict.the-variants.{Accepted, Refused as Unfit}
-use Rattle.tidy.specs.declared.Tidied.{Tidied}
-use Rattle.tidy.specs.declared.Tidied.the-variants as tidy
-use Rattle.tidy.specs.Tidy.{Tidies}
 use Rattle.bits.specs.declared.Bits.{Bits}
 use Rattle.bits.specs.declared.Bits.the-variants.{Value, Declined}
 use Rattle.header.specs.declared.DecodedHeader.{DecodedHeader}
@@ -47,7 +44,7 @@ use Rattle.libtap.specs.declared.frames.TapTarget.{TapTarget}
 use Rattle.libtap.specs.declared.headers.TapBits.{TapBits}
 use Rattle.libtap.specs.declared.headers.TapHeader.{TapHeader}
 use Rattle.libtap.specs.declared.commands.TapParams.{TapParams}
-use Rattle.libtap.specs.Answers.{answered, judged, toldTidied, ToldTidied, part, ToldBody, aimed, framed, toldFrame, Told}
+use Rattle.libtap.specs.Answers.{answered, judged, part, ToldBody, aimed, framed, toldFrame, Told}
 use Rattle.libtap.specs.Headers.{toldBits, headed, toldHeader, ToldHeader}
 use Rattle.libtap.specs.Commands.{toldBy}
 
@@ -132,16 +129,6 @@ tells-unfit v x number carried e is-number is-carried = rw (e, is-number, is-car
 pub tells-verdict : (v w : Verdict) (r : TapAnswer) → v ≡ w → r ≡ judged v → r ≡ judged w
 tells-verdict v w r e is-r = rw e at is-r
 
-pub tells-length : (x : Tidied) (n : ℕ) → x ≡ tidy.Length n → record { refusal = 0; value = n } ≡ toldTidied x
-tells-length x n e = rw e refl
-
-pub tells-untidied : (x : Tidied) (y : Refusal) (number carried : ℕ) → x ≡ tidy.Refused y → number ≡ numberOf y → carried ≡ carriedBy y
-    → record { refusal = number; value = carried } ≡ toldTidied x
-tells-untidied x y number carried e is-number is-carried = rw (e, is-number, is-carried) refl
-
-pub tells-tidied : (t b : List ℕ) (x : Tidied) (r : TapAnswer) (b′ : List ℕ) → Tidies t b x b′ → r ≡ toldTidied x → ToldTidied t b r b′
-tells-tidied t b x r b′ so is-r = record { answer = x; tidies = so; told-so = is-r }
-
 -- ---- headers
 pub reads-value : (b : Bits) (n : ℕ) → b ≡ Value n → record { «is_read» = true; value = n } ≡ toldBits b
 reads-value b n e = rw e refl
@@ -214,9 +201,6 @@ pub ruleset laws = (
   tells-accepted,
   tells-unfit,
   tells-verdict,
-  tells-length,
-  tells-untidied,
-  tells-tidied,
   reads-value,
   reads-none,
   reads-all,

@@ -18,8 +18,7 @@ use Rattle.frame.specs.Frame.{regionBits, rulesOf}
 use Rattle.pti.specs.Payload as pti
 use Rattle.command_text.specs.Rules.{verdict}
 use Rattle.frame_text.specs.Rules.{verdict as frameVerdict}
-use Rattle.tidy.specs.declared.Tidied.the-variants as tidied
-use Rattle.tidy.specs.Tidy as tidy
+use Rattle.tidy.specs.Tidy.{tidied}
 use Rattle.header.specs.declared.Decoded.{Decoded}
 use Rattle.header.specs.declared.Decoded.the-variants as decoded
 use Rattle.header.proofs.Room as room
@@ -50,7 +49,7 @@ use Rattle.command_value.specs.Answer as shown
 use Rattle.libtap.specs.declared.TapAnswer.{TapAnswer}
 use Rattle.libtap.specs.declared.headers.TapHeader.{TapHeader}
 use Rattle.libtap.specs.declared.commands.TapParams.{TapParams}
-use Rattle.libtap.specs.Answers.{Stands, toldTidied, ToldTidied, Told}
+use Rattle.libtap.specs.Answers.{Stands, ToldTidied, Told}
 use Rattle.libtap.specs.Headers.{toldHeader, ToldHeader}
 use Rattle.libtap.specs.Commands.{toldBy}
 use Rattle.libtap.specs.Nodes.{toldListed, ToldHeaderNodes, ToldCommandNodes}
@@ -91,19 +90,6 @@ frames-stand firmware reading s t r t′ p same z =
     rw (p .answer) (frames-fit (eqb (regionBits firmware) 0) (leb (length s) 65535) (leb rows (length t / pti.rowWidth)) firmware rows
     (length t / pti.rowWidth) (length s) (leb-true rows (length t / pti.rowWidth)) (rw (p .answer) at z)) in
     omega (arith, few, same)
-
--- ---- the bytes of a tidied text
-pub tidied-stands : (s b : List ℕ) (r : TapAnswer) (b′ : List ℕ) → ToldTidied s b r b′ → length b′ ≡ length b → Stands b′ r
-tidied-stands s b r b′ p same = rw (p .told-so, p .tidies .answer) (by-verdict (verdict s))
-  where
-    by-room : (x : Bool) → leb (length s) (length b) ≡ x
-        → Stands b′ (toldTidied (cond x (tidied.Length (length s)) (tidied.Refused (MoreBytes (length s)))))
-    by-room true e = λ z. omega (arith, same, leb-true (length s) (length b) e)
-    by-room false e = refused-stands b′ (MoreBytes (length s))
-
-    by-verdict : (v : Verdict) → Stands b′ (toldTidied (tidy.answerBy v (tidy.answerIn (length s) (length b))))
-    by-verdict Accepted = by-room (leb (length s) (length b)) refl
-    by-verdict (Unfit x) = refused-stands b′ x
 
 -- ---- the rows of a header
 pub header-stands : (t d : List ℕ) (region speed : ℕ) (table : List ℕ) (r : TapHeader) (table′ : List ℕ)
@@ -203,6 +189,11 @@ written-stands n b b′ same = go (leb n (length b)) refl
 checked-stands : (v : Verdict) (a : Written) (b : List ℕ) → Stands b (toldWritten a) → Stands b (toldWritten (answerBy v a))
 checked-stands Accepted a b s = s
 checked-stands (Unfit x) a b s = refused-stands b x
+
+-- ---- a tidied text
+pub tidied-stands : (t b : List ℕ) (r : TapAnswer) (b′ : List ℕ) → ToldTidied t b r b′ → length b′ ≡ length b → Stands b′ r
+tidied-stands t b r b′ p same =
+    rw (p .told-so, p .tidies .answer) (checked-stands (verdict t) (answerIn (length (tidied t)) (length b)) b′ (written-stands (length (tidied t)) b b′ same))
 
 -- ---- the text of a header's row
 pub value-stands : (t d : List ℕ) (region speed k : ℕ) (b : List ℕ) (r : TapAnswer) (b′ : List ℕ)

@@ -3,7 +3,6 @@ use mathlib.Core.Path.{_≡_}
 use mathlib.Core.List.{List, []}
 use Prim.Native.Nat.{ℕ, _+_, _≤_}
 use lib.ListN.{length, getD, drop}
-use Rattle.refusal.specs.Refusal.{numberOf, carriedBy}
 use Rattle.records.specs.Records.{spanOf}
 use Rattle.frame.specs.declared.Parsed.{Parsed}
 use Rattle.frame.specs.declared.Parsed.the-variants.{Frame, Refused as NoFrame}
@@ -11,14 +10,14 @@ use Rattle.frame.specs.declared.Reading.{Reading}
 use Rattle.frame.specs.Frame.{said, rulesOf}
 use Rattle.pti.specs.Payload.{framesOf, saidOf, tableAfter, LocatedIn}
 use Rattle.text.specs.Judge as text
-use Rattle.tidy.specs.declared.Tidied.{Tidied}
-use Rattle.tidy.specs.declared.Tidied.the-variants.{Length, Refused as Untidied}
+use Rattle.buffer.specs.declared.Written.{Written}
 use Rattle.tidy.specs.Tidy.{Tidies}
 use Rattle.text.specs.declared.Verdict.{Verdict}
 use Rattle.libtap.specs.declared.TapAnswer.{TapAnswer}
 use Rattle.libtap.specs.declared.frames.TapFrame.{TapFrame}
 use Rattle.libtap.specs.declared.frames.TapPart.{TapPart}
 use Rattle.libtap.specs.declared.frames.TapTarget.{TapTarget}
+use Rattle.libtap.specs.Values.{toldWritten}
 
 -- an answer in numbers, as F5 and F18 (docs/RULES.md) have it
 abbrev pub answered : ℕ × ℕ → TapAnswer
@@ -80,16 +79,11 @@ toldFrame (NoFrame x) =
 abbrev pub judged : Verdict → TapAnswer
 judged v = record { refusal = text.numberOf v; value = text.lineOf v }
 
--- the length of a tidied text, or the refusal's number and what it carries
-abbrev pub toldTidied : Tidied → TapAnswer
-toldTidied (Length n) = record { refusal = 0; value = n }
-toldTidied (Untidied x) = record { refusal = numberOf x; value = carriedBy x }
-
 -- what `tap_tidy_command_text` answers and leaves: what `tidy_command_text` does, told so
 pub record ToldTidied (text buffer : List ℕ) (r : TapAnswer) (buffer′ : List ℕ) : Type 0 where
-  pub answer : Tidied
+  pub answer : Written
   pub tidies : Tidies text buffer answer buffer′
-  pub told-so : r ≡ toldTidied answer
+  pub told-so : r ≡ toldWritten answer
 
 -- what `tap_parse_payload` answers and leaves, for a payload s and a table t
 pub record Told (firmware : ℕ) (reading : Reading) (s t : List ℕ) (r : TapAnswer) (t′ : List ℕ) : Type 0 where

@@ -1,14 +1,14 @@
 // The calls on definition texts.
 use crate::TapAnswer;
+use crate::values::tell_written;
 use command_text::check_command_text;
 use frame_text::check_frame_text;
 use text::Verdict;
-use tidy::Tidied;
 use tidy::tidy_command_text;
 ghost use mathlib.Core.Path.{_≡_};
 ghost use Rattle.frame_text.specs.Rules.{verdict as frameVerdict};
 ghost use Rattle.command_text.specs.Rules.{verdict as commandVerdict};
-ghost use Rattle.libtap.specs.Answers.{judged, toldTidied, ToldTidied};
+ghost use Rattle.libtap.specs.Answers.{judged, ToldTidied};
 
 fn tell_verdict(verdict: Verdict) -> TapAnswer
     ensures { λ r. ⌜ r ≡ judged verdict ⌝ }
@@ -43,26 +43,11 @@ pub extern "C" fn tap_check_command_text(text: &[u8]) -> TapAnswer
     tell_verdict(verdict)
 }
 
-fn tell_tidied(tidied: Tidied) -> TapAnswer
-    ensures { λ r. ⌜ r ≡ toldTidied tidied ⌝ }
-{
-    match tidied {
-        Tidied::Length(n) => TapAnswer {
-            refusal: 0,
-            value: n as u64,
-        },
-        Tidied::Refused(refusal) => TapAnswer {
-            refusal: refusal.number() as u64,
-            value: refusal.carried() as u64,
-        },
-    }
-}
-
 // A command text with each U line as an S line, into the buffer. Answers its length, which is that of the text. Refusals 1 to 3, then 12.
 #[no_mangle]
 pub extern "C" fn tap_tidy_command_text(text: &[u8], buffer: &mut [u8]) -> TapAnswer
     ensures { λ r. ⌜ ToldTidied (now (text .entry)) (now (buffer .entry)) r (now (buffer .exit)) ⌝ }
 {
-    let tidied = tidy_command_text(text, buffer);
-    tell_tidied(tidied)
+    let written = tidy_command_text(text, buffer);
+    tell_written(written)
 }

@@ -1,3 +1,3 @@
-pub mod Laws
 pub mod TidiedText
+pub mod Laws
 pub mod Decoding

@@ -22,7 +22,6 @@ use Rattle.command_text.specs.Form.{Record, form}
 use Rattle.command_text.specs.Rules.{over, lost, rules, verdict}
 use Rattle.command_class.specs.Definition.{entriesAt, definition}
 use Rattle.tidy.specs.Tidy.{tidyByte, tidyFrom, tidied}
-use Rattle.tidy.proofs.Laws.{tidy-length}
 
 -- ---- bytes
 end-stays : (first : Bool) (x : ℕ) → eqb (tidyByte first x) 10 ≡ eqb x 10
@@ -53,10 +52,14 @@ pub tidied-twice : (t : List ℕ) → tidied (tidied t) ≡ tidied t
 unfolding tidied
 tidied-twice t = twice-from true t
 
+length-from : (first : Bool) (t : List ℕ) → length (tidyFrom first t) ≡ length t
+length-from first [] = refl
+length-from first (x ∷ xs) = ap suc (length-from (eqb x 10) xs)
+
 -- U4: it is as long
 pub tidied-length : (t : List ℕ) → length (tidied t) ≡ length t
 unfolding tidied
-tidied-length t = tidy-length true t
+tidied-length t = length-from true t
 
 -- does a line begin at byte i, where the first byte is that of a line or not
 abbrev pub beginsAt : Bool → List ℕ → ℕ → Bool

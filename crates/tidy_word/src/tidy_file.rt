@@ -1,4 +1,5 @@
 // The word `tidy`: a command text with S for U. The text is all of the output but its last line, which bin/tap takes off.
+use buffer::Written;
 use files::input::File;
 use files::input::Got;
 use files::input::open_argument;
@@ -9,7 +10,6 @@ use output::outcome::fail_file;
 use output::outcome::refuse;
 use output::outcome::succeed;
 use refusal::Refusal;
-use tidy::Tidied;
 use tidy::tidy_command_text;
 
 fn say_refused(name: &[u8], refusal: Refusal) {
@@ -32,8 +32,8 @@ fn write_text(text: &[u8]) {
 
 fn tidy_text(name: &[u8], text: &[u8], buffer: &mut [u8]) {
     match tidy_command_text(text, buffer) {
-        Tidied::Length(n) => write_text(&buffer[..n]),
-        Tidied::Refused(refusal) => say_refused(name, refusal),
+        Written::Length(n) => write_text(&buffer[..n]),
+        Written::Refused(refusal) => say_refused(name, refusal),
     }
 }
 
