@@ -6,12 +6,9 @@ use Rattle.refusal.specs.declared.Refusal.{Refusal}
 use Rattle.refusal.specs.Refusal.{numberOf, carriedBy}
 use Rattle.listing.specs.declared.Judgement.{Judgement}
 use Rattle.listing.specs.declared.Judgement.the-variants as judgement
-use Rattle.listing.specs.declared.Written.{Written}
-use Rattle.listing.specs.declared.Written.the-variants as written
 use Rattle.listing.specs.Judge.{Judges}
-use Rattle.listing.specs.Write.{Writes}
 use Rattle.libtap.specs.declared.TapAnswer.{TapAnswer}
-use Rattle.libtap.specs.Listings.{toldJudgement, toldWritten, ToldJudgement, ToldWritten}
+use Rattle.libtap.specs.Listings.{toldJudgement, ToldJudgement}
 
 module _ (x : Judgement) where
   pub tells-yes : x ≡ judgement.Yes → record { refusal = 0; value = 0 } ≡ toldJudgement x
@@ -28,16 +25,4 @@ module _ (x : Judgement) where
       → r ≡ toldJudgement x → ToldJudgement text mpdu region speed listing r
   tells-judgement text mpdu region speed listing r so is-r = record { answer = x; judges = so; told-so = is-r }
 
-module _ (x : Written) where
-  pub tells-length : (n : ℕ) → x ≡ written.Length n → record { refusal = 0; value = n } ≡ toldWritten x
-  tells-length n e = rw e refl
-
-  pub tells-unwritten : (y : Refusal) (number carried : ℕ) → x ≡ written.Refused y → number ≡ numberOf y → carried ≡ carriedBy y
-      → record { refusal = number; value = carried } ≡ toldWritten x
-  tells-unwritten y number carried e is-number is-carried = rw (e, is-number, is-carried) refl
-
-  pub tells-written : (text mpdu : List ℕ) (region speed : ℕ) (b : List ℕ) (r : TapAnswer) (b′ : List ℕ) → Writes text mpdu region speed b x b′
-      → r ≡ toldWritten x → ToldWritten text mpdu region speed b r b′
-  tells-written text mpdu region speed b r b′ so is-r = record { answer = x; writes = so; told-so = is-r }
-
-pub ruleset listing-laws = (tells-yes, tells-line, tells-unjudged, tells-judgement, tells-length, tells-unwritten, tells-written)
+pub ruleset listing-laws = (tells-yes, tells-line, tells-unjudged, tells-judgement)

@@ -1,11 +1,11 @@
 // The calls on a listing of a header.
 use crate::TapAnswer;
+use crate::values::tell_written;
 use listing::Judgement;
-use listing::Written;
 use listing::judge_listing;
 use listing::write_listing;
 ghost use mathlib.Core.Path.{_≡_};
-ghost use Rattle.libtap.specs.Listings.{toldJudgement, toldWritten, ToldJudgement, ToldWritten};
+ghost use Rattle.libtap.specs.Listings.{toldJudgement, ToldJudgement, ToldWritten};
 
 fn tell_judgement(judgement: Judgement) -> TapAnswer
     ensures { λ r. ⌜ r ≡ toldJudgement judgement ⌝ }
@@ -20,21 +20,6 @@ fn tell_judgement(judgement: Judgement) -> TapAnswer
             value: line as u64,
         },
         Judgement::Refused(refusal) => TapAnswer {
-            refusal: refusal.number() as u64,
-            value: refusal.carried() as u64,
-        },
-    }
-}
-
-fn tell_written(written: Written) -> TapAnswer
-    ensures { λ r. ⌜ r ≡ toldWritten written ⌝ }
-{
-    match written {
-        Written::Length(n) => TapAnswer {
-            refusal: 0,
-            value: n as u64,
-        },
-        Written::Refused(refusal) => TapAnswer {
             refusal: refusal.number() as u64,
             value: refusal.carried() as u64,
         },

@@ -1,18 +1,18 @@
 -- Laws of judging and writing a listing. Assumes nothing.
 use mathlib.Core.Path.{_≡_, refl, sym, ap, _∙_, subst}
-use mathlib.Core.Bool.{Bool, true, false, cond}
-use mathlib.Core.Logic.{_↔_}
-use mathlib.Core.List.{List, [], _∷_, _++_}
+use mathlib.Core.List.{List}
 use mathlib.Core.Option.{Option, none, some}
-use Prim.Native.Nat.{ℕ, zero, suc, _+_, _*_, _≤_, _<_}
+use Prim.Native.Nat.{ℕ, zero, suc, _*_, _≤_, _<_}
 use native.Mathlib.Omega.{arith}
 use lib.ListN.{length, drop}
-use borrow.Author.Tests.{le-leb, lt-leb}
+use lib.Seq.{sets}
 use Rattle.refusal.specs.declared.Refusal.{Refusal}
 use Rattle.refusal.specs.declared.Refusal.the-variants.{MoreBytes, Listing}
 use Rattle.rows.specs.Rows.{flat}
+use Rattle.buffer.specs.declared.Written.{Written}
+use Rattle.buffer.specs.declared.Written.the-variants as written
+use Rattle.buffer.proofs.Laws.{writes-short, writes-room}
 use Rattle.text.specs.Text.{lines}
-use Rattle.text.specs.Print.{Every}
 use Rattle.text.specs.declared.Verdict.the-variants.{Accepted}
 use Rattle.frame_text.specs.Rules.{verdict}
 use Rattle.frame_definition.specs.Definition.{Base, definition, firstBase}
@@ -32,16 +32,14 @@ use Rattle.header_named.specs.Named.{named, rowsOf, GivesNamed, ReadsNamed}
 use Rattle.header_named.specs.declared.Named.{Named}
 use Rattle.header_named.specs.declared.Named.the-variants as reads
 use Rattle.listing_text.specs.Listing.{closed, textOf, listingOf, formOf, differs}
-use Rattle.listing_text.specs.Steps.{Small, rowsIn, puts, PutsAll}
+use Rattle.listing_text.specs.Steps.{rowsIn, PutsAll}
 use Rattle.listing_text.specs.declared.form.Form.{Form}
 use Rattle.listing_text.specs.declared.form.Form.the-variants.{Names, Wrong}
-use Rattle.listing_text.proofs.Written.{rows-laid, puts-front, names-written, form-written, differs-none, differs-same}
+use Rattle.listing_text.proofs.Written.{rows-laid, puts-all, names-written, form-written, differs-none, differs-same}
 use Rattle.listing.specs.declared.Judgement.{Judgement}
 use Rattle.listing.specs.declared.Judgement.the-variants.{Yes, Differs, Refused}
-use Rattle.listing.specs.declared.Written.{Written}
-use Rattle.listing.specs.declared.Written.the-variants as written
 use Rattle.listing.specs.Judge.{room, orYes, orLast, Against, Judges}
-use Rattle.listing.specs.Write.{answerIn, bufferAfter, Gives, GivesListing, Writes}
+use Rattle.listing.specs.Write.{Writes}
 use Rattle.listing.specs.Steps.{Own, Other, ByForm, WritesRows}
 use Rattle.listing.proofs.Naming.{named-at, named-number, one-first, one-reading, first-reading, table-wide}
 use Rattle.listing.proofs.Owning.{laid-long, header-own}
@@ -258,20 +256,13 @@ judges-form t d region speed l table r table′ h j c size q by =
 
 -- ---- written
 module _ (rows : List (List ℕ)) (b : List ℕ) (size : ℕ) (none₀ none′ : List ℕ) (counts : PutsAll rows none₀ size none′) where
-  pub writes-short : length b < size → WritesRows rows b (written.Refused (MoreBytes size)) b
-  writes-short h =
-      record {
-        gives = record { answer = rw (← counts .count, lt-leb size (length b) h) refl; buffer = refl };
-        small = counts .small;
-      }
+  pub rows-short : length b < size → WritesRows rows b (written.Refused (MoreBytes size)) b
+  rows-short h = record { gives = writes-short (textOf rows) b size (counts .count) h; small = counts .small }
 
-  pub writes-all : (n : ℕ) (b′ : List ℕ) → size ≤ length b → PutsAll rows b n b′ → WritesRows rows b (written.Length size) b′
-  writes-all n b′ h p =
-      let room-is : length (textOf rows) ≤ length b = rw (← counts .count) h in
-      record {
-        gives = record { answer = rw (← counts .count, le-leb size (length b) h) refl; buffer = p .says ∙ puts-front b rows room-is };
-        small = counts .small;
-      }
+  pub rows-room : (n : ℕ) (b′ : List ℕ) → size ≤ length b → PutsAll rows b n b′ → WritesRows rows b (written.Length size) b′
+  rows-room n b′ h p =
+      let all : b′ ≡ sets b 0 (textOf rows) = p .says ∙ puts-all b 0 rows (omega (arith, counts .count)) in
+      record { gives = writes-room (textOf rows) b size (counts .count) b′ all h; small = counts .small }
 
 pub writes-refused : (t d : List ℕ) (region speed : ℕ) (b table : List ℕ) (r : Decoded) (table′ : List ℕ) (x : Refusal)
     → Decodes t d region speed table r table′ → length table ≡ room → r ≡ header.Refused x
@@ -348,8 +339,8 @@ pub ruleset laws = (
   beside-other,
   judges-refused,
   judges-form,
-  writes-short,
-  writes-all,
+  rows-short,
+  rows-room,
   writes-refused,
   writes-own,
   header-few,

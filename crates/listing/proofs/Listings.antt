@@ -1,14 +1,13 @@
 -- LS7, LS8: every listing that is written gets yes, and no other does. Assumes nothing.
-use mathlib.Core.Path.{_≡_, refl, sym, ap, _∙_, subst}
-use mathlib.Core.Bool.{Bool, true, false, cond}
-use mathlib.Core.List.{List, _++_}
+use mathlib.Core.Path.{_≡_, refl, sym, ap, _∙_}
+use mathlib.Core.List.{List}
 use Prim.Native.Nat.{ℕ, _≤_}
 use native.Mathlib.Omega.{arith}
-use lib.Dec.{leb}
-use lib.ListN.{length, take, drop}
-use lib.Seq.{take-at}
-use borrow.Author.Tests.{leb-true}
-use Rattle.refusal.specs.declared.Refusal.the-variants.{MoreBytes, Listing}
+use lib.ListN.{length, take}
+use Rattle.refusal.specs.declared.Refusal.the-variants.{Listing}
+use Rattle.buffer.specs.declared.Written.{Written}
+use Rattle.buffer.specs.declared.Written.the-variants as written
+use Rattle.buffer.proofs.Laws.{length-written, front-written}
 use Rattle.text.specs.Text.{lines}
 use Rattle.frame_definition.specs.Definition.{definition}
 use Rattle.header_rules.specs.Data.{Field, Candidate}
@@ -24,32 +23,11 @@ use Rattle.listing_text.specs.declared.form.Form.{Form}
 use Rattle.listing_text.specs.declared.form.Form.the-variants.{Names, Wrong}
 use Rattle.listing.specs.declared.Judgement.{Judgement}
 use Rattle.listing.specs.declared.Judgement.the-variants.{Yes, Refused}
-use Rattle.listing.specs.declared.Written.{Written}
-use Rattle.listing.specs.declared.Written.the-variants as written
 use Rattle.listing.specs.Judge.{room, Judges}
 use Rattle.listing.specs.Steps.{Own}
-use Rattle.listing.specs.Write.{bufferAfter, Gives, Writes}
+use Rattle.listing.specs.Write.{Writes}
 use Rattle.listing.proofs.Naming.{one-first, one-reading}
 use Rattle.listing.proofs.Owning.{filled, owns}
-
--- what is written is the listing
-given-front : (l b : List ℕ) (r : Written) (b′ : List ℕ) (n : ℕ) → Gives l b r b′ → r ≡ written.Length n → take n b′ ≡ l
-given-front l b r b′ n g e = go (leb (length l) (length b)) (sym (g .answer) ∙ e)
-  where
-    go : (t : Bool) → cond t (written.Length (length l)) (written.Refused (MoreBytes (length l))) ≡ written.Length n → take n b′ ≡ l
-    go true q =
-        let m : length l ≡ n = cc in
-        ap (take n) (g .buffer ∙ ap (bufferAfter l b) e) ∙ take-at l (drop (length l) b) n m
-    go false q = absurd (let z : _≡_ {A = ℕ} 0 1 = cc in omega arith)
-
--- and fits into the buffer
-given-within : (l b : List ℕ) (r : Written) (b′ : List ℕ) (n : ℕ) → Gives l b r b′ → r ≡ written.Length n → n ≤ length b
-given-within l b r b′ n g e = go (leb (length l) (length b)) refl (sym (g .answer) ∙ e)
-  where
-    go : (t : Bool) → leb (length l) (length b) ≡ t
-        → cond t (written.Length (length l)) (written.Refused (MoreBytes (length l))) ≡ written.Length n → n ≤ length b
-    go true h q = let m : length l ≡ n = cc in omega (arith, leb-true (length l) (length b) h)
-    go false h q = absurd (let z : _≡_ {A = ℕ} 0 1 = cc in omega arith)
 
 module _ (t d : List ℕ) (region speed : ℕ) where
   abbrev cs : List (Candidate 7)
@@ -67,21 +45,21 @@ module _ (t d : List ℕ) (region speed : ℕ) where
           let own = owns t d region speed h q in
           let g = w .written h q (own .base) (own .base-is) (own .one) (own .fields) (own .first) in
           let l-is : take n b′ ≡ listingOf (tableOf 7 d (definition t .sets) (own .fields)) (own .one .number) =
-          given-front _ b x b′ n (g .gives) e in
+          front-written _ b x b′ n (g .gives) e in
           j .judged h _ _ q (ap (λ (z : List ℕ). formOf 1 (lines z)) l-is ∙ g .form-is) (own .base) (own .base-is) .exactly .1
           (own .one, own .fields, own .first, l-is)
 
-  -- R12: a length that is answered is within the buffer
+  -- R12: so many bytes as are answered stand in the buffer
   pub written-within : (b : List ℕ) (x : Written) (b′ : List ℕ) (n : ℕ) → Writes t d region speed b x b′ → x ≡ written.Length n
-      → n ≤ length b
+      → n ≤ length b′
   written-within b x b′ n w e = go (decoded t d region speed room) refl
     where
-      go : (y : Decoded) → decoded t d region speed room ≡ y → n ≤ length b
+      go : (y : Decoded) → decoded t d region speed room ≡ y → n ≤ length b′
       go (header.Refused y) q = absurd (let z : written.Length n ≡ written.Refused y = sym e ∙ w .refused y q .0 in let u : _≡_ {A = ℕ} 0 1 = cc in
           omega arith)
       go (header.Header h) q =
           let own = owns t d region speed h q in
-          given-within _ b x b′ n (w .written h q (own .base) (own .base-is) (own .one) (own .fields) (own .first) .gives) e
+          length-written _ b x b′ n (w .written h q (own .base) (own .base-is) (own .one) (own .fields) (own .first) .gives) e
 
   -- LS7: what gets yes is the listing of the first candidate that holds
   yes-own : (l : List ℕ) (r : Judgement) → Judges t d region speed l r → r ≡ Yes → (h : DecodedHeader)

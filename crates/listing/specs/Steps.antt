@@ -2,9 +2,11 @@
 use mathlib.Core.Path.{_≡_}
 use mathlib.Core.List.{List}
 use mathlib.Core.Option.{none, some}
-use Prim.Native.Nat.{ℕ, _*_, _≤_}
+use Prim.Native.Nat.{ℕ, _≤_}
 use lib.ListN.{length}
 use Rattle.refusal.specs.declared.Refusal.the-variants.{Listing}
+use Rattle.buffer.specs.Buffer.{Writes}
+use Rattle.buffer.specs.declared.Written.{Written}
 use Rattle.text.specs.Print.{Every}
 use Rattle.text.specs.declared.Verdict.the-variants.{Accepted}
 use Rattle.frame_text.specs.Rules.{verdict}
@@ -21,9 +23,7 @@ use Rattle.listing_text.specs.declared.form.Form.{Form}
 use Rattle.listing_text.specs.declared.form.Form.the-variants.{Names, Wrong}
 use Rattle.listing.specs.declared.Judgement.{Judgement}
 use Rattle.listing.specs.declared.Judgement.the-variants.{Differs, Refused}
-use Rattle.listing.specs.declared.Written.{Written}
 use Rattle.listing.specs.Judge.{room, orLast, Against}
-use Rattle.listing.specs.Write.{Gives}
 
 -- the answer is a header with this number, the first candidate that holds, and the table has so many rows of it
 pub record Own (t d : List ℕ) (key number count : ℕ) (table : List ℕ) : Type 0 where
@@ -53,5 +53,5 @@ ByForm t d key l (Wrong k) r = r ≡ Refused (Listing k)
 
 -- the listing of the first rows of a table and of a number that fit into a listing
 pub record WritesRows (rows : List (List ℕ)) (b : List ℕ) (r : Written) (b′ : List ℕ) : Type 0 where
-  pub gives : Gives (textOf rows) b r b′
+  pub gives : Writes (textOf rows) b r b′
   pub small : Every Small rows

@@ -1,14 +1,14 @@
 -- LS8 (docs/RULES.md): our own answer as a listing.
 use mathlib.Core.Path.{_≡_}
-use mathlib.Core.Bool.{cond}
-use mathlib.Core.List.{List, _++_}
+use mathlib.Core.List.{List}
 use mathlib.Core.Option.{some}
 use Prim.Native.Nat.{ℕ, _+_}
-use lib.Dec.{leb}
-use lib.ListN.{length, drop}
+use lib.ListN.{length}
 use Rattle.refusal.specs.declared.Refusal.{Refusal}
-use Rattle.refusal.specs.declared.Refusal.the-variants.{MoreBytes}
 use Rattle.text.specs.Text.{lines}
+use Rattle.buffer.specs.Buffer.{Writes as WritesText}
+use Rattle.buffer.specs.declared.Written.{Written}
+use Rattle.buffer.specs.declared.Written.the-variants.{Refused}
 use Rattle.frame_definition.specs.Definition.{Base, definition, firstBase}
 use Rattle.header_rules.specs.Data.{Field, Candidate}
 use Rattle.header_rules.specs.Demand.{First}
@@ -20,27 +20,11 @@ use Rattle.header.specs.declared.DecodedHeader.{DecodedHeader}
 use Rattle.header.specs.declared.Decoded.the-variants as header
 use Rattle.listing_text.specs.Listing.{listingOf, formOf}
 use Rattle.listing_text.specs.declared.form.Form.the-variants.{Names}
-use Rattle.listing.specs.declared.Written.{Written}
-use Rattle.listing.specs.declared.Written.the-variants.{Length, Refused}
 use Rattle.listing.specs.Judge.{room}
 
--- LS8: the answer for a listing that needs so many bytes of the buffer
-abbrev pub answerIn : ℕ → ℕ → Written
-answerIn needed bytes = cond (leb needed bytes) (Length needed) (Refused (MoreBytes needed))
-
--- LS8, R12: the buffer b after an answer or a refusal
-abbrev pub bufferAfter : List ℕ → List ℕ → Written → List ℕ
-bufferAfter l b (Length n) = l ++ drop (length l) b
-bufferAfter l b (Refused x) = b
-
--- the listing l is answered, and left in the buffer b
-pub record Gives (l b : List ℕ) (r : Written) (b′ : List ℕ) : Type 0 where
-  pub answer : r ≡ answerIn (length l) (length b)
-  pub buffer : b′ ≡ bufferAfter l b r
-
--- LS8: the listing of the rows and the number, which has the form of a listing
+-- LS8, VT8: the listing of the rows and the number, which has the form of a listing, is answered and left in the buffer b
 pub record GivesListing (rows : List (List ℕ)) (number : ℕ) (b : List ℕ) (r : Written) (b′ : List ℕ) : Type 0 where
-  pub gives : Gives (listingOf rows number) b r b′
+  pub gives : WritesText (listingOf rows number) b r b′
   pub form-is : formOf 1 (lines (listingOf rows number)) ≡ Names number (1 + length rows)
 
 -- LS8: what `write_listing` answers and leaves: as the header's call refuses, or the listing of the first candidate that holds

@@ -1,4 +1,5 @@
 // A dealer's listing of a header, judged; and our own answer as such a listing.
+use buffer::Written;
 use frame_definition::base_key;
 use header::Decoded;
 use header::MOST_NUMBERS;
@@ -28,13 +29,6 @@ pub enum Judgement {
     Yes,
     // The first line that differs.
     Differs(usize),
-    Refused(Refusal),
-}
-
-// What writing a listing answers.
-pub enum Written {
-    // So many bytes are written.
-    Length(usize),
     Refused(Refusal),
 }
 

@@ -5,7 +5,7 @@ use mathlib.Core.List.{List, [], _∷_, _++_, map, append-nil, append-assoc}
 use Prim.Native.Nat.{ℕ, zero, suc, _+_, _≤_, _<_}
 use native.Mathlib.Omega.{arith}
 use lib.ListN.{length, take, drop, length-append, take-append-drop}
-use lib.Seq.{take-at, drop-at, sets, sets-eq, length-sets}
+use lib.Seq.{take-at, drop-at, sets, length-sets}
 use borrow.Author.Tests.{eq-eqb}
 use Rattle.rows.specs.Rows.{flat}
 use Rattle.rows.specs.Parts.{Wide}
@@ -35,11 +35,6 @@ puts-all b at (r ∷ rs) h =
     let n : length (textOf (r ∷ rs)) ≡ length (lineOf r) + length (textOf rs) = length-append (lineOf r) (textOf rs) in
     rw (put-room b (lineOf r) at (omega arith), sets-append b at (lineOf r) (textOf rs))
     (puts-all (sets b at (lineOf r)) (at + length (lineOf r)) rs (rw length-sets (omega arith)))
-
-pub puts-front : (b : List ℕ) (rs : List (List ℕ)) → length (textOf rs) ≤ length b → puts b 0 rs ≡ textOf rs ++ drop (length (textOf rs)) b
-puts-front b rs h =
-    let e : 0 + length (textOf rs) ≡ length (textOf rs) = omega arith in
-    puts-all b 0 rs (omega arith) ∙ sets-eq (textOf rs) b 0 (omega arith) ∙ rw e refl
 
 -- ---- the lines of a listing
 joined-behind : (p : List ℕ) (ps : List (List ℕ)) → 1 ≤ length ps → joined 10 (p ∷ ps) ≡ p ++ 10 ∷ joined 10 ps

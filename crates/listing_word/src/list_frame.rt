@@ -1,6 +1,6 @@
 // The word `list`: our own listing of a frame's header. The listing is all of the output but its last line, which bin/tap takes off.
+use buffer::Written;
 use libc::STDOUT_FILENO;
-use listing::Written;
 use listing::write_listing;
 use output::outcome::fail;
 use output::outcome::refuse;
