@@ -1,3 +1,4 @@
 pub mod Says
 pub mod Laws
 pub mod Room
+pub mod OneRow

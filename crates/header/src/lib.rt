@@ -14,6 +14,7 @@ use header_fields::LINE_WIDTH;
 use header_paths::BitOffset;
 use header_paths::SCRATCH_WIDTH;
 use header_rows::ROW_WIDTH;
+use header_rows::write_row;
 use header_rows::write_rows;
 use refusal::Refusal;
 use text::Part;
@@ -29,7 +30,8 @@ ghost use Rattle.frame_definition.specs.declared.Found.the-variants.{At};
 ghost use Rattle.header_rules.specs.Told.{offsetOf};
 ghost use Rattle.header_rules.specs.Table.{rowWidth};
 ghost use Rattle.header.specs.Decode.{decoded, Decodes};
-ghost use Rattle.header.specs.Steps.{Ready, headed, Shows, Picks, Reads, Answers};
+ghost use Rattle.header.specs.declared.Wanted.the-variants.{One};
+ghost use Rattle.header.specs.Steps.{Ready, headed, rowsRead, wantedIn, Shows, Picks, Reads, Answers};
 ghost use Rattle.header_candidates.specs.Read.{Roomy, baseOf, HoldsBase};
 
 // The numbers of a table that has room for every header: 128 rows are enough (`enough` of `ByReadings`).
@@ -50,6 +52,13 @@ pub struct DecodedHeader {
 pub enum Decoded {
     Header(DecodedHeader),
     Refused(Refusal),
+}
+
+// Which rows of a header are wanted in the table: all of them, none, or the one of a number, from 0. Each stands in its place.
+pub enum Wanted {
+    All,
+    Nothing,
+    One(usize),
 }
 
 // The byte behind the covered bits.
@@ -79,14 +88,37 @@ fn heading_of(candidate: Candidate, read: Read, right: bool) -> DecodedHeader
     }
 }
 
-// The answer, if the table has room for the rows of what was read, which are written if they are wanted; or refusal 8.
+// Writes the rows that are wanted of what was read.
+fn write_wanted(
+    text: &[u8],
+    fields: &[u64],
+    scratch: &[u64],
+    read: Read,
+    wanted: Wanted,
+    rows: &mut [u64],
+)
+    requires { ⌜ (verdict (now text) ≡ Accepted) × (Ready (now fields) (now scratch) read) × (read .rows * rowWidth ≤ length (now rows)) ⌝ }
+    ensures { λ _. ⌜ now (rows .exit) ≡ wantedIn wanted (now (rows .entry)) (rowsRead (now (text .entry)) (now (fields .entry)) (now (scratch .entry)) read) ⌝ }
+{
+    match wanted {
+        Wanted::All => write_rows(text, fields, read.count, scratch, read.rows, rows),
+        Wanted::Nothing => {}
+        Wanted::One(k) => {
+            if k < read.rows {
+                write_row(text, fields, read.count, scratch, k, rows);
+            }
+        }
+    }
+}
+
+// The answer, if the table has room for the rows of what was read, of which those are written that are wanted; or refusal 8.
 fn show(
     text: &[u8],
     fields: &[u64],
     scratch: &[u64],
     read: Read,
     header: DecodedHeader,
-    wanted: bool,
+    wanted: Wanted,
     rows: &mut [u64],
 ) -> Decoded
     requires { ⌜ (verdict (now text) ≡ Accepted) × (Ready (now fields) (now scratch) read) ⌝ }
@@ -97,17 +129,15 @@ fn show(
     if rows.len() / ROW_WIDTH < n {
         return Decoded::Refused(Refusal::MoreRows(n));
     }
-    if wanted {
-        write_rows(text, fields, read.count, scratch, n, rows);
-    }
+    write_wanted(text, fields, scratch, read, wanted, rows);
     Decoded::Header(header)
 }
 
-// What is sought: the base key, at a speed, and whether the rows are to be written.
+// What is sought: the base key, at a speed, and which rows are to be written.
 struct Sought {
     key: u64,
     speed: u64,
-    wanted: bool,
+    wanted: Wanted,
 }
 
 // The answer for the first candidate that holds; or refusal 7 or 8.
@@ -132,15 +162,8 @@ fn pick(
     };
     let right = check_crc(mpdu, sought.speed);
     let header = heading_of(candidate, read, right);
-    show(
-        text,
-        &fields[..],
-        &scratch[..],
-        read,
-        header,
-        sought.wanted,
-        rows,
-    )
+    let wanted = sought.wanted;
+    show(text, &fields[..], &scratch[..], read, header, wanted, rows)
 }
 
 // The header by the base whose P lines follow the place, after n P lines of the text; or refusal 7 or 8.
@@ -163,13 +186,13 @@ fn read_header(
     pick(text, mpdu, sought, &mut fields, &mut scratch, base, rows)
 }
 
-// The header of an MPDU by a text that is accepted, its rows in the table if they are wanted; or refusal 4 to 8.
+// The header of an MPDU by a text that is accepted, with those of its rows in the table that are wanted; or refusal 4 to 8.
 fn decode_by(
     text: &[u8],
     mpdu: &[u8],
     region: u64,
     speed: u64,
-    wanted: bool,
+    wanted: Wanted,
     rows: &mut [u64],
 ) -> Decoded
     requires { ⌜ verdict (now text) ≡ Accepted ⌝ }
@@ -204,7 +227,22 @@ pub fn decode_accepted(
     requires { ⌜ verdict (now text) ≡ Accepted ⌝ }
     ensures { λ r. ⌜ Decodes (now (text .entry)) (now (mpdu .entry)) region speed (now (rows .entry)) r (now (rows .exit)) ⌝ }
 {
-    decode_by(text, mpdu, region, speed, true, rows)
+    decode_by(text, mpdu, region, speed, Wanted::All, rows)
+}
+
+// The same, but for the rows: only that of this number is written, in its place, and only its symbol is looked up.
+pub fn decode_row(
+    text: &[u8],
+    mpdu: &[u8],
+    region: u64,
+    speed: u64,
+    row: usize,
+    rows: &mut [u64],
+) -> Decoded
+    requires { ⌜ verdict (now text) ≡ Accepted ⌝ }
+    ensures { λ r. ⌜ Answers (now (text .entry)) (now (mpdu .entry)) region speed (One row) (now (rows .entry)) r (now (rows .exit)) ⌝ }
+{
+    decode_by(text, mpdu, region, speed, Wanted::One(row), rows)
 }
 
 // What `decode_accepted` answers for a table that has room for every header. No row is written, nor its symbol looked up.
@@ -213,7 +251,7 @@ pub fn identify_accepted(text: &[u8], mpdu: &[u8], region: u64, speed: u64) -> D
     ensures { λ r. ⌜ r ≡ decoded (now (text .entry)) (now (mpdu .entry)) region speed (128 * rowWidth) ⌝ }
 {
     let mut rows = [0u64; MOST_NUMBERS];
-    decode_by(text, mpdu, region, speed, false, &mut rows)
+    decode_by(text, mpdu, region, speed, Wanted::Nothing, &mut rows)
 }
 
 // The header of an MPDU, its rows in the table; or refusal 1 to 8. A refusal writes nothing, an answer nothing past its last row.

@@ -106,7 +106,14 @@ fn row_of(text: &[u8], fields: &[u64], count: usize, row: Row) -> [u64; ROW_WIDT
 }
 
 // Writes the row of the answer that the scratch row k tells.
-fn write_row(text: &[u8], fields: &[u64], count: usize, scratch: &[u64], k: usize, rows: &mut [u64])
+pub fn write_row(
+    text: &[u8],
+    fields: &[u64],
+    count: usize,
+    scratch: &[u64],
+    k: usize,
+    rows: &mut [u64],
+)
     requires { ⌜ verdict (now text) ≡ Accepted ⌝ }
     requires { ⌜ (count * lineWidth ≤ length (now fields)) × ((k + 1) * scratchWidth ≤ length (now scratch))
         × (k * rowWidth ≤ length (now rows)) ⌝ }

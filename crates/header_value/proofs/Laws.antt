@@ -1,5 +1,5 @@
 -- Laws of showing a row of a header. Assumes nothing.
-use mathlib.Core.Path.{_≡_, refl, sym, _∙_}
+use mathlib.Core.Path.{_≡_, refl, sym, ap, _∙_}
 use mathlib.Core.Bool.{Bool, true, false, cond}
 use mathlib.Core.List.{List, []}
 use mathlib.Core.Option.{some}
@@ -22,13 +22,17 @@ use Rattle.header_rules.specs.Table.{rowWidth}
 use Rattle.header.specs.declared.DecodedHeader.{DecodedHeader}
 use Rattle.header.specs.declared.Decoded.{Decoded}
 use Rattle.header.specs.declared.Decoded.the-variants.{Header, Refused}
-use Rattle.header.specs.Decode.{Within, judged, ofTold, toldOf, numberIn as numberOf, Decodes}
+use Rattle.header.specs.declared.Wanted.the-variants.{One}
+use Rattle.header.specs.Decode.{Within, judged, ofTold, toldOf, tableAfter, numberIn as numberOf, Decodes}
+use Rattle.header.specs.Steps.{Answers}
+use Rattle.header.proofs.Says.{decodes}
+use Rattle.header.proofs.OneRow.{one-row, rows-told}
 use Rattle.header.proofs.Room.{header-stands}
 use Rattle.crc.specs.Crc.{right}
 use Rattle.header_nodes.specs.Answer.{answerOf, rowsOf}
 use Rattle.buffer.specs.declared.Written.{Written}
 use Rattle.buffer.specs.declared.Written.the-variants as written
-use Rattle.buffer.specs.Buffer.{Writes, bufferAfter}
+use Rattle.buffer.specs.Buffer.{Writes, answerIn, bufferAfter}
 use Rattle.display.specs.declared.Value.{Value}
 use Rattle.display.specs.declared.Value.the-variants.{Is, Not}
 use Rattle.display.specs.Display.{displayValue}
@@ -90,18 +94,25 @@ module _ (t d rows : List ℕ) (k : ℕ) (x : NextParam) (found : FindsNumbered 
 
 pub ruleset row-laws = (field-shown, row-none, row-shown)
 
--- ---- value_accepted: behind `decode_header`'s answer x and its rows
-module _ (t d : List ℕ) (region speed : ℕ) (x : Decoded) (rows : List ℕ) (dec : Decodes t d region speed (replicate {A = ℕ} 896 0) x rows) where
+-- ---- value_accepted: behind `decode_row`'s answer x and the table in which that row stands
+module _ (t d : List ℕ) (region speed k : ℕ) (x : Decoded) (rows : List ℕ) (dec : Answers t d region speed (One k) (replicate {A = ℕ} 896 0) x rows) where
+  abbrev zeros : List ℕ
+  zeros = replicate {A = ℕ} 896 0
+
   answer-is : x ≡ answerOf t d region speed
   unfolding answerOf
   answer-is = dec .answer
 
-  rows-are : rows ≡ rowsOf t d region speed
+  -- with all rows
+  whole : Decodes t d region speed zeros x (tableAfter zeros (toldOf t d region speed (length zeros)) x)
+  whole = decodes t d region speed zeros x (tableAfter zeros (toldOf t d region speed (length zeros)) x) (dec .answer) refl
+
+  whole-is : tableAfter zeros (toldOf t d region speed (length zeros)) x ≡ rowsOf t d region speed
   unfolding rowsOf
-  rows-are = rw (dec .answer) at (dec .rows)
+  whole-is = rw (dec .answer) refl
 
   eight : Within t d → numberOf (answerOf t d region speed) ≡ 8 → ⊥
-  eight w e = dec .by-readings w .enough (rw (length-replicate {A = ℕ} 896 0) (omega arith)) (rw answer-is e)
+  eight w e = whole .by-readings w .enough (rw (length-replicate {A = ℕ} 896 0) (omega arith)) (rw answer-is e)
 
   -- a header is answered only for an MPDU within limits
   mpdu-short : (h : DecodedHeader) → x ≡ Header h → length d ≤ 2048
@@ -114,16 +125,28 @@ module _ (t d : List ℕ) (region speed : ℕ) (x : Decoded) (rows : List ℕ) (
       go text.Accepted true q e = absurd (let z : _≡_ {A = ℕ} 0 1 = cc in omega arith)
       go text.Accepted false q e = ltb-false 2048 (length d) q
 
-  pub row-stands : (k : ℕ) (h : DecodedHeader) → x ≡ Header h → k < h .rows → length rows ≡ 896 → Stands d rows k
-  row-stands k h is inside long =
-      let s : h .rows * rowWidth ≤ 896 = rw (is, length-replicate {A = ℕ} 896 0) at
-      (header-stands t d region speed (replicate {A = ℕ} 896 0) x rows dec) in
-      record { short = mpdu-short h is; row = omega arith }
+  module _ (h : DecodedHeader) (is : x ≡ Header h) where
+    room : h .rows * rowWidth ≤ length zeros
+    room = rw is at (header-stands t d region speed zeros x (tableAfter zeros (toldOf t d region speed (length zeros)) x) whole)
 
-  module _ (k : ℕ) (b : List ℕ) where
-    told : (r : Written) (b′ : List ℕ) → r ≡ ofDecoded (rowText t d rows k) k (length b) x → b′ ≡ bufferAfter (rowText t d rows k) b r
+    pub row-stands : k < h .rows → length rows ≡ 896 → Stands d rows k
+    row-stands inside long =
+        let s : h .rows * rowWidth ≤ 896 = rw (length-replicate {A = ℕ} 896 0) at room in
+        record { short = mpdu-short h is; row = omega arith }
+
+    row-same : k < h .rows → rowText t d rows k ≡ rowText t d (rowsOf t d region speed) k
+    unfolding rowText
+    row-same inside =
+        let many = rows-told t d region speed (length zeros) h (sym is ∙ dec .answer) in
+        let same : (c : ℕ) → c < rowWidth → numberIn rows k c ≡ numberIn (rowsOf t d region speed) k c =
+        λ c l. one-row t d region speed k zeros x rows h dec is many room inside c l ∙ ap (λ (all : List ℕ). numberIn all k c) whole-is in
+        rw (same 0 (omega arith), same 2 (omega arith), same 3 (omega arith), same 4 (omega arith), same 5 (omega arith), same 6 (omega arith)) refl
+
+  module _ (b : List ℕ) where
+    told : (r : Written) (b′ : List ℕ) → r ≡ ofDecoded (rowText t d (rowsOf t d region speed) k) k (length b) x
+        → b′ ≡ bufferAfter (rowText t d (rowsOf t d region speed) k) b r
         → HeaderValue t d region speed k b r b′
-    told r b′ e l = record { answer = rw (← rows-are, ← answer-is) e; leaves = rw (← rows-are) l; enough = eight }
+    told r b′ e l = record { answer = rw (← answer-is) e; leaves = l; enough = eight }
 
     pub told-refused : (y : Refusal) → x ≡ Refused y → HeaderValue t d region speed k b (written.Refused y) b
     told-refused y is = told _ _ (rw is refl) refl
@@ -133,7 +156,10 @@ module _ (t d : List ℕ) (region speed : ℕ) (x : Decoded) (rows : List ℕ) (
       told-past past = told _ _ (rw (is, le-leb (h .rows) k past) refl) refl
 
       pub told-row : (r : Written) (b′ : List ℕ) → Writes (rowText t d rows k) b r b′ → k < h .rows → HeaderValue t d region speed k b r b′
-      told-row r b′ w inside = told r b′ (rw (is, lt-leb (h .rows) k inside) (w .answer)) (w .buffer)
+      told-row r b′ w inside =
+          let same : rowText t d rows k ≡ rowText t d (rowsOf t d region speed) k = row-same h is inside in
+          told r b′ (rw (is, lt-leb (h .rows) k inside) (w .answer ∙ ap (λ (l : List ℕ). answerIn (length l) (length b)) same))
+          (w .buffer ∙ ap (λ (l : List ℕ). bufferAfter l b r) same)
 
 -- ---- header_value
 pub told-not : (t d : List ℕ) (region speed k : ℕ) (b : List ℕ) (v : Verdict) (y : Refusal) → v ≡ verdict t → v ≡ text.Refused y

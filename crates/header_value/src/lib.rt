@@ -1,5 +1,5 @@
-// What is shown of a field of a header: VT1 and VT9 of docs/RULES.md. The header is read into rows of its own; the row that is asked for names the P line,
-// whose type and define set say the rest.
+// What is shown of a field of a header: VT1 and VT9 of docs/RULES.md. The header is read, and of its rows only the one that is asked for is written into a
+// table of our own: it names the P line, whose type and define set say the rest.
 mod lookup;
 
 use buffer::Written;
@@ -12,7 +12,7 @@ use frame_definition::find_param;
 use frame_text::check_frame_text;
 use header::Decoded;
 use header::MOST_NUMBERS;
-use header::decode_accepted;
+use header::decode_row;
 use header_paths::part_of;
 use header_rows::BITS;
 use header_rows::NUMBER;
@@ -118,7 +118,7 @@ pub fn value_accepted(
     ensures { λ r. ⌜ HeaderValue (now (text .entry)) (now (mpdu .entry)) region speed row (now (buffer .entry)) r (now (buffer .exit)) ⌝ }
 {
     let mut rows = [0u64; MOST_NUMBERS];
-    match decode_accepted(text, mpdu, region, speed, &mut rows) {
+    match decode_row(text, mpdu, region, speed, row, &mut rows) {
         Decoded::Header(header) => {
             if header.rows <= row {
                 return Written::Refused(Refusal::NoSuchField(row));

@@ -6,8 +6,8 @@ use Rattle.header_value.proofs.value_accepted.Tie as tie
 
 row-value-requires : tie.Need-row-value-requires
 row-value-requires c κs =
-    let dec = c .before .before .before .before .before .before .before .before .decode-accepted .ensures in
-    (search (needs, laws), row-stands _ _ _ _ _ _ dec _ _ (c .before .before .before .before .before .header .given .1) (search needs) (search needs))
+    let dec = c .before .before .before .before .before .before .before .before .decode-row .ensures in
+    (search (needs, laws), row-stands _ _ _ _ _ _ _ dec _ (c .before .before .before .before .before .header .given .1) (search needs) (search needs))
 
 pub value-accepted-spec : {M : Type 1} → statement M
 value-accepted-spec =
