@@ -10,8 +10,10 @@ use lib.ListN.{length, take, drop}
 use borrow.Author.Tests.{eqb-true, ne-eqb}
 use Rattle.text.specs.Text.{field, worth, value, optionalValue, upTo, name}
 use Rattle.text.specs.Place.{kindOf}
+use Rattle.text.specs.Fields.{fieldsOf, fieldsAt, FieldEnds, LineEnds}
 use Rattle.text.specs.Records.{isSome, Readable}
 use Rattle.text.specs.declared.Place.{Place}
+use Rattle.text.proofs.Fields.{field-room, short-ended, Stands, stands-first, stands-many, stands-is, stands-next, stands-two}
 use Rattle.text.proofs.Tests.{and-left, and-right, value-of, optional-value-of}
 use Rattle.command_text.specs.Form.{Record, item, bitFlag, bitField, const, namedForm, bitsFields, bitsForm, bitsOf}
 use Rattle.command_text.specs.Form.{said, form}
@@ -19,12 +21,10 @@ use Rattle.command_text.specs.Rules.{rules}
 use Rattle.command_text.specs.declared.ParamType.the-variants.{Byte}
 use Rattle.command_text.proofs.Laws.{bits-shift}
 use Rattle.command_class.specs.Definition.{letter, readAs, numbered, constOf, constIn}
-use Rattle.command_class.specs.Fields.{fieldsOf, fieldsAt, FieldEnds, LineEnds}
 use Rattle.command_class.specs.Find.{from, among, Says, Numbers, Begins}
 use Rattle.command_class.specs.declared.Row.{Row}
 use Rattle.command_class.proofs.Saying.{kind-letter}
 use Rattle.command_class.proofs.Finding.{same-line, read-other}
-use Rattle.command_class.proofs.Fields.{field-room, short-ended, Stands, stands-first, stands-many, stands-is, stands-next, stands-two}
 use Rattle.command_class.proofs.Rows.{said-good}
 use Rattle.command_class.proofs.Beginning.{Opened, opened, const-alone}
 

@@ -12,20 +12,20 @@ use borrow.Author.Tests.{eqb-true, eq-eqb, leb-true}
 use Rattle.text.specs.Text.{field, worth, decimal, within, upTo, value, optionalUpTo}
 use Rattle.text.specs.Scan.{cut}
 use Rattle.text.specs.Place.{left, kindOf, Passes}
+use Rattle.text.specs.Fields.{fieldsAt, FieldEnds, LineEnds}
 use Rattle.text.specs.Records.{Readable}
 use Rattle.text.specs.declared.Place.{Place}
 use Rattle.text.proofs.Laws.{worth-grows}
+use Rattle.text.proofs.Fields.{field-room, short-ended, Stands, stands-many, stands-field, stands-is, stands-next}
 use Rattle.text.proofs.Tests.{and-left, and-right, value-of}
 use Rattle.command_text.specs.Form.{param, typeOf, known, paramWords, paramCondition, paramFields, paramForm, paramOf, form}
 use Rattle.command_text.specs.Rules.{rules}
 use Rattle.command_text.specs.declared.ParamType.{ParamType}
 use Rattle.command_text.specs.declared.Typed.the-variants.{Is}
 use Rattle.command_text.proofs.Laws.{param-level, param-type}
-use Rattle.command_class.specs.Fields.{fieldsAt, FieldEnds, LineEnds}
 use Rattle.command_class.specs.Find.{numberOr, IsRead, IsCondition, Begins}
 use Rattle.command_class.specs.declared.Condition.{Condition}
 use Rattle.command_class.proofs.Finding.{read-other}
-use Rattle.command_class.proofs.Fields.{field-room, short-ended, Stands, stands-many, stands-field, stands-is, stands-next}
 use Rattle.command_class.proofs.Rows.{or-missing, param-good, read-numbers}
 use Rattle.command_class.proofs.Numbering.{fs, formed, kind-is, behind-kind, said-as}
 

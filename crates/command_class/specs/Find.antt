@@ -9,6 +9,7 @@ use lib.ListN.{length, drop}
 use Rattle.text.specs.Text.{field, optional}
 use Rattle.text.specs.Scan.{cut}
 use Rattle.text.specs.Place.{kindOf, cells, Marked}
+use Rattle.text.specs.Fields.{fieldsAt}
 use Rattle.text.specs.Records.{isSome, rest, Readable}
 use Rattle.text.specs.declared.Place.{Place}
 use Rattle.text.specs.declared.Line.{Line}
@@ -16,7 +17,6 @@ use Rattle.text.specs.declared.Optional.{Optional}
 use Rattle.text.specs.declared.Optional.the-variants.{Given, Missing, Wrong}
 use Rattle.command_text.specs.Form.{Record, param, group, item, Detail, variant, array, bitFlag, bitField, const, bitmask, form}
 use Rattle.command_text.specs.Rules.{rules}
-use Rattle.command_class.specs.Fields.{fieldsAt}
 use Rattle.command_class.specs.Definition.{Item, numbered, letter}
 use Rattle.command_class.specs.declared.Row.{Row}
 use Rattle.command_class.specs.declared.Read.{Read}

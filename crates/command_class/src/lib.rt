@@ -7,14 +7,14 @@ use text::Optional;
 use text::Place;
 ghost use mathlib.Core.Path.{_≡_};
 ghost use mathlib.Core.Bool.{true, false};
-ghost use Prim.Native.Nat.{_≤_, _<_};
+ghost use Prim.Native.Nat.{_<_};
 ghost use lib.Dec.{eqb};
 ghost use lib.ListN.{length};
+ghost use Rattle.text.specs.Fields.{fieldsAt, LineEnds};
 ghost use Rattle.text.specs.Records.{Readable};
 ghost use Rattle.command_text.specs.Form.{typeOf, known};
 ghost use Rattle.command_text.specs.Rules.{rules};
 ghost use Rattle.command_class.specs.Definition.{under, readAs, firstConst, valueIn, constIn};
-ghost use Rattle.command_class.specs.Fields.{fieldsAt, FieldEnds, LineEnds};
 ghost use Rattle.command_class.specs.Find.{from, Good, among, numberOr, Tells, Numbers, IsRead, IsCondition, Begins, Follows};
 
 // What a line says, as numbers; 256 for a missing offset, mask or length, 0 where the line has no such number.
@@ -182,14 +182,6 @@ fn is_numbered(kind: u8) -> bool
     kind == b'K'
 }
 
-// Where the field that begins at `at` ends, if another follows: only the tab between them is looked for.
-fn field_end(text: &[u8], at: usize) -> usize
-    requires { ⌜ 2 ≤ length (fieldsAt (now text) at) ⌝ }
-    ensures { λ r. ⌜ FieldEnds (now (text .entry)) at r ⌝ }
-{
-    at + text::find(&text[at..], 9)
-}
-
 // Where the last field of a line ends, which begins at `at`: with the line.
 fn line_end(text: &[u8], at: usize) -> usize
     requires { ⌜ length (fieldsAt (now text) at) ≡ 1 ⌝ }
@@ -203,7 +195,7 @@ fn read_condition(text: &[u8], at: usize) -> Condition
     requires { ⌜ length (fieldsAt (now text) at) ≡ 2 ⌝ }
     ensures { λ r. ⌜ IsCondition (now (text .entry)) at r ⌝ }
 {
-    let offset_end = field_end(text, at);
+    let offset_end = text::field_end(text, at);
     let mask = offset_end + 1;
     let end = line_end(text, mask);
     Condition {
@@ -221,9 +213,9 @@ fn read_param(text: &[u8], place: Place) -> Read
     let level = place.at + 2;
     let level_end = place.at + 3;
     let at = place.at + 4;
-    let type_end = field_end(text, at);
+    let type_end = text::field_end(text, at);
     let name = type_end + 1;
-    let condition = read_condition(text, field_end(text, name) + 1);
+    let condition = read_condition(text, text::field_end(text, name) + 1);
     Read {
         row: Row {
             kind: b'Q',
@@ -249,7 +241,7 @@ fn read_numbered(text: &[u8], place: Place, kind: u8) -> Row
     ensures { λ r. ⌜ Numbers (now (text .entry)) place r ⌝ }
 {
     let at = place.at + 2;
-    let end = field_end(text, at);
+    let end = text::field_end(text, at);
     let number = text::read_value(&text[at..end], 255);
     if kind == b'K' {
         return Row {
@@ -276,7 +268,7 @@ fn read_numbered(text: &[u8], place: Place, kind: u8) -> Row
         };
     }
     let shift = end + 1;
-    let shift_end = field_end(text, shift);
+    let shift_end = text::field_end(text, shift);
     Row {
         kind,
         level: 0,
@@ -360,7 +352,7 @@ pub fn const_name(text: &[u8], place: Place) -> &[u8]
         return &text[..0];
     }
     let at = place.at + 2;
-    let name = field_end(text, at) + 1;
+    let name = text::field_end(text, at) + 1;
     let end = line_end(text, name);
     &text[name..end]
 }

@@ -5,6 +5,7 @@ mod names;
 mod numbers;
 mod scan;
 
+pub use lines::field_end;
 pub use names::is_given;
 pub use names::is_missing;
 pub use names::is_name;

@@ -28,6 +28,7 @@ ghost use lib.ListN.{length, take, drop};
 ghost use Rattle.text.specs.Text.{field, decimal, upTo, value, number, missing, optionalUpTo, optionalValue, optional, name, plain, path};
 ghost use Rattle.text.specs.Text.{optionalName, optionalPath};
 ghost use Rattle.text.specs.Scan.{cut};
+ghost use Rattle.text.specs.Fields.{fieldsAt, FieldEnds};
 ghost use Rattle.text.specs.Place.{In, Cuts, Steps, Passes, Has, IsPart, IsOptionalPart, cells, kindOf, left};
 
 // Where the fields of a line stand: field k begins at mark k and ends before the tab or line end in front of mark k + 1.
@@ -60,6 +61,14 @@ fn cut_fields(text: &[u8], at: usize) -> Fields
         }
     }
     Fields { count: 0, marks }
+}
+
+// Where the field that begins at `at` ends, if another follows: only the tab between them is looked for.
+pub fn field_end(text: &[u8], at: usize) -> usize
+    requires { ⌜ 2 ≤ length (fieldsAt (now text) at) ⌝ }
+    ensures { λ r. ⌜ FieldEnds (now (text .entry)) at r ⌝ }
+{
+    at + find(&text[at..], 9)
 }
 
 // The byte of a field of one byte, else 0. The field begins at a and ends before the byte in front of e.

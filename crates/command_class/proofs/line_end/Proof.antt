@@ -1,6 +1,6 @@
 -- `command_class::line_end` meets its contract, by the laws of the crate. Assumes nothing.
 use borrow.Author.Needs.{needs}
-use Rattle.command_class.proofs.Fields.{end-laws}
+use Rattle.text.proofs.Fields.{end-laws}
 use Rattle.command_class.proofs.line_end.Statement.{statement}
 use Rattle.command_class.proofs.line_end.Tie as tie
 

@@ -9,12 +9,12 @@ use lib.Dec.{eqb, ltb}
 use lib.ListN.{length, take, drop, length-drop, drop-of-length-le}
 use lib.Seq.{length-take-le, drop-drop, getD-drop}
 use borrow.Author.Tests.{ltb-true, ltb-false}
 use Rattle.text.specs.Text.{field}
 use Rattle.text.specs.Scan.{cut}
 use Rattle.text.specs.Place.{First, unended, ended, after, longer, first, left}
 use Rattle.text.specs.declared.Place.{Place}
 use Rattle.text.proofs.Laws.{tail}
-use Rattle.command_class.specs.Fields.{fieldsOf, fieldsAt, FieldEnds, LineEnds}
+use Rattle.text.specs.Fields.{fieldsOf, fieldsAt, FieldEnds, LineEnds}
 
 -- ---- a field that another follows ends at the first tab
 pub record Ends (l g : List ℕ) (more : First) : Type 0 where
