@@ -2,24 +2,21 @@
 use mathlib.Core.Path.{_≡_, refl, sym, ap, _∙_}
 use mathlib.Core.Bool.{Bool, true, false, cond}
 use mathlib.Core.List.{List, [], _∷_}
-use mathlib.Core.Option.{none, some}
+use mathlib.Core.Option.{none}
 use Prim.Native.Nat.{ℕ, suc, _-_, _<_}
 use native.Mathlib.Nat.{add-zero}
 use native.Mathlib.Numerals.{add-one}
 use native.Mathlib.Omega.{arith}
 use lib.Dec.{eqb}
 use borrow.Author.Tests.{ne-eqb}
-use lib.ListN.{length, getD, length-drop}
+use lib.ListN.{length, getD}
 use lib.Seq.{getD-drop}
-use Rattle.text.specs.Text.{lines, fields}
+use Rattle.text.specs.Text.{lines}
 use Rattle.text.specs.Text as text
 use Rattle.text.specs.Place.{First, unended, ended, after, longer, first, left, kindOf, Passes}
-use Rattle.text.specs.Judge.{judge}
 use Rattle.text.specs.Records.{records, rest, Readable}
 use Rattle.text.specs.declared.Place.{Place}
-use Rattle.text.specs.declared.Verdict.the-variants.{Accepted}
-use Rattle.text.proofs.Judging.{Reads, first-reads, split-some, judge-line}
-use Rattle.text.proofs.Reading.{Allowed, accepted-line, records-line}
+use Rattle.text.proofs.Reading.{opened}
 use Rattle.text.proofs.Passing.{Passed, passed}
 use Rattle.command_text.specs.Form.{Record, param, group, item, variant, array, bitFlag, bitField, const, bitmask, form}
 use Rattle.command_text.specs.Rules.{rules}
@@ -54,53 +51,9 @@ some-letter (item (bitField b)) h = let z : _≡_ {A = ℕ} 0x53 0 = h in omega 
 some-letter (item (const v n)) h = let z : _≡_ {A = ℕ} 0x4b 0 = h in omega arith
 some-letter (item (bitmask n)) h = let z : _≡_ {A = ℕ} 0x4d 0 = h in omega arith
 
--- the line at a place from which on every line is accepted: its fields, what stands after it, and what it says
-pub record Opened (t : List ℕ) (p : Place) : Type 0 where
-  pub cells : List (List ℕ)
-  pub more : List ℕ
-  pub said : Record
-  pub before : List Record
-  pub first-is : first (left t p) ≡ ended cells more
-  pub form-is : form cells ≡ some said
-  pub rest-is : rest rules t p ≡ said ∷ records form (lines more)
-  pub good : judge rules before (suc (p .line)) (lines more) ≡ Accepted
-
-pub opened : (t : List ℕ) (p : Place) → Readable rules t p → p .at < length t → Opened t p
-opened t p r inside = go (first (left t p)) refl (first-reads (left t p))
-  where
-    some-left : 0 < length (left t p)
-    some-left = rw length-drop (omega arith)
-
-    open-end : (l : List ℕ) → 0 < length l → judge rules (r .before) (p .line) (l ∷ []) ≡ Accepted → ⊥
-    open-end [] h e = omega arith
-    open-end (x ∷ xs) h e = let z : _≡_ {A = ℕ} 0 1 = cc in omega arith
-
-    allowed : (l more : List ℕ) → lines (left t p) ≡ l ∷ lines more
-        → Allowed rules (r .before) (form (fields l)) (λ x. judge rules (x ∷ r .before) (suc (p .line)) (lines more))
-    allowed l more e =
-        accepted-line rules (r .before) (p .line) (form (fields l)) _
-        (sym (ap (judge rules (r .before) (p .line)) e ∙ judge-line rules (r .before) (p .line) l (lines more) (split-some 10 more)) ∙ r .good)
-
-    with-line : (fs : List (List ℕ)) (l more : List ℕ) → first (left t p) ≡ ended fs more → lines (left t p) ≡ l ∷ lines more → fields l ≡ fs
-        → Allowed rules (r .before) (form (fields l)) (λ x. judge rules (x ∷ r .before) (suc (p .line)) (lines more)) → Opened t p
-    with-line fs l more e q f a = record {
-      cells = fs;
-      more = more;
-      said = a .said;
-      before = a .said ∷ r .before;
-      first-is = e;
-      form-is = rw f at (a .is);
-      rest-is = ap (records form) q ∙ records-line rules l (lines more) (split-some 10 more) ∙ rw (a .is);
-      good = a .on;
-    }
-
-    go : (f : First) → first (left t p) ≡ f → Reads (left t p) f → Opened t p
-    go unended e reads = absurd (open-end (left t p) some-left (sym (ap (judge rules (r .before) (p .line)) reads) ∙ r .good))
-    go (ended fs more) e reads = with-line fs (reads .0) more e (reads .1) (reads .2) (allowed (reads .0) more (reads .1))
-
 begins-as : (t : List ℕ) (p : Place) → Readable rules t p → p .at < length t → Begins t p (readAs (getD t (p .at) 0))
 begins-as t p r inside =
-    let o = opened t p r inside in
+    let o = opened rules t p r inside in
     let k : readAs (kindOf (o .cells)) ≡ letter (o .said) = kind-letter (o .cells) (o .said) (o .form-is) in
     let b : kindOf (o .cells) ≡ getD (left t p) 0 0 =
     first-byte (left t p) (o .cells) (o .more) (o .first-is) (λ z. some-letter (o .said) (sym k ∙ ap readAs z)) in

@@ -13,8 +13,9 @@ use Rattle.text.specs.Place.{kindOf}
 use Rattle.text.specs.Fields.{fieldsOf, fieldsAt, FieldEnds, LineEnds}
 use Rattle.text.specs.Records.{isSome, Readable}
 use Rattle.text.specs.declared.Place.{Place}
-use Rattle.text.proofs.Fields.{field-room, short-ended, Stands, stands-first, stands-many, stands-is, stands-next, stands-two}
+use Rattle.text.proofs.Fields.{field-room, Stands, stands-second, stands-many, stands-is, stands-next}
 use Rattle.text.proofs.Tests.{and-left, and-right, value-of, optional-value-of}
+use Rattle.text.proofs.Reading.{Opened, opened}
 use Rattle.command_text.specs.Form.{Record, item, bitFlag, bitField, const, namedForm, bitsFields, bitsForm, bitsOf}
 use Rattle.command_text.specs.Form.{said, form}
 use Rattle.command_text.specs.Rules.{rules}
@@ -26,14 +27,7 @@ use Rattle.command_class.specs.declared.Row.{Row}
 use Rattle.command_class.proofs.Saying.{kind-letter}
 use Rattle.command_class.proofs.Finding.{same-line, read-other}
 use Rattle.command_class.proofs.Rows.{said-good}
-use Rattle.command_class.proofs.Beginning.{Opened, opened, const-alone}
-
--- ---- the kind is one byte
-kind-short : (fs : List (List ℕ)) → (kindOf fs ≡ 0 → ⊥) → length (field 0 fs) ≡ 1
-kind-short [] k = absurd (k refl)
-kind-short ([] ∷ fs) k = absurd (k refl)
-kind-short ((x ∷ []) ∷ fs) k = refl
-kind-short ((x ∷ y ∷ ys) ∷ fs) k = absurd (k refl)
+use Rattle.command_class.proofs.Beginning.{const-alone}
 
 -- ---- what such a line says
 module _ (fs : List (List ℕ)) (formed : isSome (form fs) ≡ true) where
@@ -65,8 +59,8 @@ module _ (fs : List (List ℕ)) (formed : isSome (form fs) ≡ true) where
   bits-fields e = and-right (eqb (length fs) 4) (bitsFields fs) e
 
 module _ (t : List ℕ) (p : Place) (readable : Readable rules t p) (inside : p .at < length t) (kind : ℕ) (begin : Begins t p kind) where
-  abbrev pub here : Opened t p
-  here = opened t p readable inside
+  abbrev pub here : Opened rules t p
+  here = opened rules t p readable inside
 
   abbrev pub fs : List (List ℕ)
   fs = here .cells
@@ -85,11 +79,7 @@ module _ (t : List ℕ) (p : Place) (readable : Readable rules t p) (inside : p 
 
   -- behind the kind
   pub behind-kind : (kind ≡ 0 → ⊥) → 2 ≤ length fs → Stands t p fs 1 (p .at + 2)
-  behind-kind h long =
-      let z : Stands t p fs 0 (p .at) = stands-first t p fs (ap fieldsOf (here .first-is)) in
-      let e : FieldEnds t (p .at) (p .at + 1) =
-      short-ended t (p .at) (omega (arith, stands-many t p fs 0 (p .at) z)) (ap length (stands-is t p fs 0 (p .at) z) ∙ kind-short fs (some-kind h)) in
-      stands-two t p fs 0 (p .at) z e
+  behind-kind h long = stands-second t p fs (ap fieldsOf (here .first-is)) (some-kind h) long
 
   is-flag : kind ≡ 84 → kindOf fs ≡ 84
   is-flag e = read-other (kindOf fs) 84 (λ z. omega arith) (kind-is ∙ e)

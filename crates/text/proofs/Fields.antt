@@ -11,7 +11,7 @@ use lib.Seq.{length-take-le, drop-drop, getD-drop}
 use borrow.Author.Tests.{ltb-true, ltb-false}
 use Rattle.text.specs.Text.{field}
 use Rattle.text.specs.Scan.{cut}
-use Rattle.text.specs.Place.{First, unended, ended, after, longer, first, left}
+use Rattle.text.specs.Place.{First, unended, ended, after, longer, first, left, kindOf}
 use Rattle.text.specs.declared.Place.{Place}
 use Rattle.text.proofs.Laws.{tail}
 use Rattle.text.specs.Fields.{fieldsOf, fieldsAt, FieldEnds, LineEnds}
@@ -170,7 +170,7 @@ pub record Stands (t : List ℕ) (p : Place) (fs : List (List ℕ)) (k a : ℕ) 
   pub line : a + cut 10 (drop a t) ≡ p .at + cut 10 (left t p)
 
 module _ (t : List ℕ) (p : Place) (fs : List (List ℕ)) where
-  pub stands-first : fieldsAt t (p .at) ≡ fs → Stands t p fs 0 (p .at)
+  stands-first : fieldsAt t (p .at) ≡ fs → Stands t p fs 0 (p .at)
   stands-first e = record { fields = e; line = refl }
 
   module _ (k a : ℕ) (here : Stands t p fs k a) where
@@ -188,5 +188,20 @@ module _ (t : List ℕ) (p : Place) (fs : List (List ℕ)) where
     stands-next e ends = record { fields = ends .next ∙ ap (drop 1) (here .fields) ∙ drop-drop 1 k fs; line = ends .line ∙ here .line }
 
     -- behind a field of one byte
-    pub stands-two : FieldEnds t a (a + 1) → Stands t p fs (k + 1) (a + 2)
+    stands-two : FieldEnds t a (a + 1) → Stands t p fs (k + 1) (a + 2)
     stands-two ends = let z : a + 1 + 1 ≡ a + 2 = omega arith in rw z at (stands-next (a + 1) ends)
+
+-- ---- behind the kind, which is one byte
+kind-short : (fs : List (List ℕ)) → (kindOf fs ≡ 0 → ⊥) → length (field 0 fs) ≡ 1
+kind-short [] k = absurd (k refl)
+kind-short ([] ∷ fs) k = absurd (k refl)
+kind-short ((x ∷ []) ∷ fs) k = refl
+kind-short ((x ∷ y ∷ ys) ∷ fs) k = absurd (k refl)
+
+pub stands-second : (t : List ℕ) (p : Place) (fs : List (List ℕ)) → fieldsAt t (p .at) ≡ fs → (kindOf fs ≡ 0 → ⊥) → 2 ≤ length fs
+    → Stands t p fs 1 (p .at + 2)
+stands-second t p fs e kind long =
+    let z : Stands t p fs 0 (p .at) = stands-first t p fs e in
+    let ends : FieldEnds t (p .at) (p .at + 1) =
+    short-ended t (p .at) (omega (arith, stands-many t p fs 0 (p .at) z)) (ap length (stands-is t p fs 0 (p .at) z) ∙ kind-short fs kind) in
+    stands-two t p fs 0 (p .at) z ends

@@ -7,7 +7,7 @@ use Prim.Native.Nat.{ℕ, suc, _≤_, _<_}
 use native.Mathlib.Omega.{arith}
 use native.Mathlib.Numerals.{add-one}
 use lib.Dec.{eqb, leb, ltb}
-use lib.ListN.{length, drop-of-length-le}
+use lib.ListN.{length, length-drop, drop-of-length-le}
 use borrow.Author.Tests.{eqb-true, ltb-false}
 use Rattle.refusal.specs.declared.Refusal.the-variants.{Limit, Owner}
 use Rattle.text.specs.Text.{lines, fields}
@@ -18,7 +18,7 @@ use Rattle.text.specs.declared.Place.{Place}
 use Rattle.text.specs.declared.Line.{Line}
 use Rattle.text.specs.declared.Verdict.{Verdict}
 use Rattle.text.specs.declared.Verdict.the-variants.{Accepted, Refused}
-use Rattle.text.proofs.Judging.{Brief, Reads, first-reads, split-some, judge-step}
+use Rattle.text.proofs.Judging.{Brief, Reads, first-reads, split-some, judge-line, judge-step}
 
 module _ {R : Type 0} (rules : Rules R) where
   -- ---- an accepted text
@@ -128,3 +128,43 @@ module _ {R : Type 0} (rules : Rules R) where
   -- at the end there is no record
   pub rest-end : (t : List ℕ) (p : Place) → length t ≤ p .at → rest rules t p ≡ []
   rest-end t p h = rw (drop-of-length-le t {i = p .at} h)
+
+  -- ---- the line at a place from which on every line is accepted: its fields, what stands after it, and what it says
+  pub record Opened (t : List ℕ) (p : Place) : Type 0 where
+    pub cells : List (List ℕ)
+    pub more : List ℕ
+    pub said : R
+    pub first-is : first (left t p) ≡ ended cells more
+    pub form-is : rules .form cells ≡ some said
+    pub rest-is : rest rules t p ≡ said ∷ records (rules .form) (lines more)
+
+  pub opened : (t : List ℕ) (p : Place) → Readable rules t p → p .at < length t → Opened t p
+  opened t p r inside = go (first (left t p)) refl (first-reads (left t p))
+    where
+      some-left : 0 < length (left t p)
+      some-left = rw length-drop (omega arith)
+
+      open-end : (l : List ℕ) → 0 < length l → judge rules (r .before) (p .line) (l ∷ []) ≡ Accepted → ⊥
+      open-end [] h e = omega arith
+      open-end (x ∷ xs) h e = let z : _≡_ {A = ℕ} 0 1 = cc in omega arith
+
+      allowed : (l more : List ℕ) → lines (left t p) ≡ l ∷ lines more
+          → Allowed (r .before) (rules .form (fields l)) (λ x. judge rules (x ∷ r .before) (suc (p .line)) (lines more))
+      allowed l more e =
+          accepted-line (r .before) (p .line) (rules .form (fields l)) _
+          (sym (ap (judge rules (r .before) (p .line)) e ∙ judge-line rules (r .before) (p .line) l (lines more) (split-some 10 more)) ∙ r .good)
+
+      with-line : (fs : List (List ℕ)) (l more : List ℕ) → first (left t p) ≡ ended fs more → lines (left t p) ≡ l ∷ lines more → fields l ≡ fs
+          → Allowed (r .before) (rules .form (fields l)) (λ x. judge rules (x ∷ r .before) (suc (p .line)) (lines more)) → Opened t p
+      with-line fs l more e q f a = record {
+        cells = fs;
+        more = more;
+        said = a .said;
+        first-is = e;
+        form-is = rw f at (a .is);
+        rest-is = ap (records (rules .form)) q ∙ records-line l (lines more) (split-some 10 more) ∙ rw (a .is);
+      }
+
+      go : (f : First) → first (left t p) ≡ f → Reads (left t p) f → Opened t p
+      go unended e reads = absurd (open-end (left t p) some-left (sym (ap (judge rules (r .before) (p .line)) reads) ∙ r .good))
+      go (ended fs more) e reads = with-line fs (reads .0) more e (reads .1) (reads .2) (allowed (reads .0) more (reads .1))
