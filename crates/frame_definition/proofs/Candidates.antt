@@ -1,6 +1,6 @@
 -- Laws on looking for candidates in an accepted frame text. Assumes nothing.
 use mathlib.Core.Path.{_≡_, refl, sym, ap, _∙_}
-use mathlib.Core.Bool.{Bool, true, false, cond, _&&_, _||_}
+use mathlib.Core.Bool.{Bool, true, false, cond, not, _&&_, _||_}
 use mathlib.Core.List.{List, [], _∷_}
 use mathlib.Core.Option.{Option, none, some}
 use Prim.Native.Nat.{ℕ, suc, _+_, _-_, _≤_, _<_}
@@ -8,17 +8,18 @@ use native.Mathlib.Omega.{arith}
 use native.Mathlib.Nat.{zero-add}
 use native.Mathlib.Numerals.{add-one}
 use lib.Dec.{eqb, leb}
-use lib.ListN.{length, getD}
+use lib.ListN.{length, getD, take, drop}
 use mir.Syntax.{w64}
 use mir.Val.{Fits}
-use borrow.Author.Tests.{eqb-true, eq-eqb, ne-eqb}
+use borrow.Author.Tests.{eqb-true, ne-eqb, not-true, not-false}
 use Rattle.text.specs.Text.{lines, field, within, upTo, value, worth, missing, name, optionalUpTo, optional}
 use Rattle.text.specs.Text as text
 use Rattle.text.specs.Place.{kindOf, left, cells, Steps, Passes, Has, partOf}
+use Rattle.text.specs.Fields.{fieldsOf, fieldsAt, FieldEnds}
 use Rattle.text.specs.Listing.{listed, starts, Stands}
 use Rattle.text.specs.declared.Under.{Under}
 use Rattle.text.specs.declared.Under.the-variants as stand
-use Rattle.text.specs.Records.{Readable}
+use Rattle.text.specs.Records.{records, Readable}
 use Rattle.text.specs.declared.Place.{Place}
 use Rattle.text.specs.declared.Line.{Line}
 use Rattle.text.specs.declared.Part.{Part}
@@ -26,16 +27,19 @@ use Rattle.text.specs.declared.Verdict.the-variants.{Accepted}
 use Rattle.text.specs.declared.Number.the-variants.{Is, Over as TooHigh, Not}
 use Rattle.text.specs.declared.Optional.{Optional}
 use Rattle.text.specs.declared.Optional.the-variants.{Given, Missing, Wrong}
+use Rattle.text.proofs.Fields.{field-room, stands-second, stands-many, stands-is, stands-next}
+use Rattle.text.proofs.Fields as fields
 use Rattle.text.proofs.Tests.{and-left, and-right, value-of}
-use Rattle.text.proofs.Reading.{readable-start, accepted-short, rest-end}
+use Rattle.text.proofs.Reading.{readable-start, accepted-short, rest-end, Opened, opened}
+use Rattle.text.proofs.Passing.{passing}
 use Rattle.frame_text.specs.Form.{Header, Record, frequency, base, header, param, validation, set, entry, given, flags, headerForm, headerOf, form}
-use Rattle.frame_text.specs.Rules.{owns, rules, verdict}
+use Rattle.frame_text.specs.Rules.{letter, owns, rules, verdict}
 use Rattle.frame_definition.specs.Definition.{Frame, below, params, validations, frames, isKey, some?, candidates}
-use Rattle.frame_definition.specs.Find.{from, Good, oneMore, ofKind, NextOf, candidate, HasFlags, IsRead, Counted, frameOf, FindsCandidate}
+use Rattle.frame_definition.specs.Find.{from, Good, oneMore, ofKind, NextOf, based, HasFlags, IsRead, Counted, frameOf, FindsCandidate}
 use Rattle.frame_definition.specs.declared.Candidate.{Candidate}
 use Rattle.frame_definition.specs.declared.NextCandidate.the-variants as nextCandidate
 use Rattle.frame_definition.specs.Names.{headerIn, nameFrom, headerName}
-use Rattle.frame_definition.proofs.Views.{View, some-field}
+use Rattle.frame_definition.proofs.Views.{View, view, view-count, some-field}
 use Rattle.frame_definition.proofs.Finding.{Lined, lined, good-line, Over, over-line, kind-at, over-less, said-good, counted, more-bound, stands}
 use Rattle.frame_definition.proofs.Finding.{validations-of}
 use Rattle.frame_definition.proofs.Names.{Here, here-passed, here-read, names-other, names-more, names-first, name-before, name-at, name-says}
@@ -56,9 +60,6 @@ module _ (t : List ℕ) (l : Line) (good : Good t l) (is : l .kind ≡ 72) where
 
   header-key : value 255 (field 1 h-fields) ≡ worth 0 (field 1 h-fields)
   header-key = value-of 255 (field 1 h-fields) (and-left (upTo 255 (field 1 h-fields)) _ header-tests)
-
-  header-base : optionalUpTo 255 (field 2 h-fields) ≡ true
-  header-base = and-left (optionalUpTo 255 (field 2 h-fields)) _ (and-right (upTo 255 (field 1 h-fields)) _ header-tests)
 
   pub header-flags : (s : List ℕ) → s ≡ field 3 h-fields → length s ≡ 4
   header-flags s e =
@@ -109,21 +110,92 @@ module _ (l : List ℕ) (key : ℕ) where
   based-wrong false true false e h = let z : _≡_ {A = ℕ} 0 1 = cc in omega arith
   based-wrong false false u e h = let z : _≡_ {A = ℕ} 0 1 = cc in omega arith
 
-module _ (t : List ℕ) (l : Line) (key : ℕ) (r : Optional) (good : Good t l) (is : l .kind ≡ 72) (says : r ≡ optional 255 (field 2 (cells t l))) where
-  abbrev base-field : List ℕ
-  base-field = field 2 (cells t l)
+-- what a line of this kind says
+is-header : (fs : List (List ℕ)) (x : Record) → View fs x → kindOf fs ≡ 72 → x ≡ header (headerOf fs)
+is-header fs (frequency code k) v is = absurd (omega (arith, v .kind))
+is-header fs (base k) v is = absurd (omega (arith, v .kind))
+is-header fs (header h) v is = rw (v .says)
+is-header fs (param p) v is = absurd (omega (arith, v .kind))
+is-header fs (validation path x) v is = absurd (omega (arith, v .kind))
+is-header fs (set name) v is = absurd (omega (arith, v .kind))
+is-header fs (entry k text) v is = absurd (omega (arith, v .kind))
 
-  pub base-given : (n : ℕ) → r ≡ Given n → eqb n key ≡ isKey key (given (worth 0) base-field)
-  base-given n e = based-given base-field key (missing base-field) (text.decimal base-field) (leb (worth 0 base-field) 255) n (sym says ∙ e)
+-- the H line at a place
+record Headed (t : List ℕ) (p : Place) : Type 0 where
+  pub cells : List (List ℕ)
+  pub fields-are : fieldsAt t (p .at) ≡ cells
+  pub kind : kindOf cells ≡ 72
+  pub long : length cells ≡ 5
+  pub base-fits : optionalUpTo 255 (field 2 cells) ≡ true
+  pub base-is : (key : ℕ) → based key (from t p) ≡ isKey key (given (worth 0) (field 2 cells))
 
-  pub base-missing : r ≡ Missing → false ≡ isKey key (given (worth 0) base-field)
-  base-missing e = based-missing base-field key (missing base-field) (text.decimal base-field) (leb (worth 0 base-field) 255) (sym says ∙ e)
+module _ (t : List ℕ) (p : Place) (readable : Readable rules t p) (inside : p .at < length t) (byte : getD t (p .at) 0 ≡ 72) where
+  abbrev line-open : Opened rules t p
+  line-open = opened rules t p readable inside
 
-  pub base-wrong : r ≡ Wrong → false ≡ isKey key (given (worth 0) base-field)
-  base-wrong e = absurd (based-wrong base-field key (missing base-field) (text.decimal base-field) (leb (worth 0 base-field) 255) (sym says ∙ e)
-      (header-base t l good is))
+  headed : Headed t p
+  headed =
+      let w : (q : Place) × Passes t p q = passing rules t p readable inside in
+      let o : Over t p (w .0) = over-line t p (w .0) readable inside (w .1) in
+      let e : line-open .said ≡ o .said = (let z : line-open .said ∷ records form (lines (line-open .more)) ≡ o .said ∷ from t (w .0) =
+      sym (line-open .rest-is) ∙ o .rest-is in cc) in
+      let seen : View (line-open .cells) (line-open .said) = view (line-open .cells) (line-open .said) (line-open .form-is) in
+      let kind-is : kindOf (line-open .cells) ≡ 72 = seen .kind ∙ ap letter e ∙ sym (o .view .kind) ∙ sym (o .byte) ∙ byte in
+      let said-is : line-open .said ≡ header (headerOf (line-open .cells)) = is-header (line-open .cells) (line-open .said) seen kind-is in
+      let v : View (line-open .cells) (header (headerOf (line-open .cells))) = rw said-is at seen in
+      record {
+        cells = line-open .cells;
+        fields-are = ap fieldsOf (line-open .first-is);
+        kind = kind-is;
+        long = view-count (line-open .cells) _ v;
+        base-fits = and-left (optionalUpTo 255 (field 2 (line-open .cells))) _
+            (and-right (upTo 255 (field 1 (line-open .cells))) _ (and-right (eqb (length (line-open .cells)) 5) _ (v .has)));
+        base-is = λ key. ap (based key) (line-open .rest-is ∙ ap (λ (x : Record). x ∷ records form (lines (line-open .more))) said-is);
+      }
 
-pub ruleset header-laws = (header-has, flags-inside, flags-are, name-is, name-room, base-given, base-missing, base-wrong)
+  abbrev h-cells : List (List ℕ)
+  h-cells = headed .cells
+
+  stands-key : fields.Stands t p h-cells 1 (p .at + 2)
+  stands-key = stands-second t p h-cells (headed .fields-are) (λ z. omega (arith, headed .kind)) (omega (arith, headed .long))
+
+  pub key-two : 2 ≤ length (fieldsAt t (p .at + 2))
+  key-two = omega (arith, headed .long, stands-many t p h-cells 1 (p .at + 2) stands-key)
+
+  pub key-room : p .at + 2 ≤ length t
+  key-room = field-room t (p .at + 2) key-two
+
+  module _ (e : ℕ) (ends : FieldEnds t (p .at + 2) e) where
+    stands-base : fields.Stands t p h-cells 2 (e + 1)
+    stands-base = stands-next t p h-cells 1 (p .at + 2) stands-key e ends
+
+    pub base-two : 2 ≤ length (fieldsAt t (e + 1))
+    base-two = omega (arith, headed .long, stands-many t p h-cells 2 (e + 1) stands-base)
+
+    module _ (d : ℕ) (base-ends : FieldEnds t (e + 1) d) (key : ℕ) (r : Optional) (says : r ≡ optional 255 (take (d - (e + 1)) (drop (e + 1) t))) where
+      abbrev base-field : List ℕ
+      base-field = field 2 h-cells
+
+      says-field : r ≡ optional 255 base-field
+      says-field = says ∙ ap (optional 255) (base-ends .is ∙ stands-is t p h-cells 2 (e + 1) stands-base)
+
+      pub base-given : (n : ℕ) → r ≡ Given n → eqb n key ≡ based key (from t p)
+      base-given n q =
+          based-given base-field key (missing base-field) (text.decimal base-field) (leb (worth 0 base-field) 255) n (sym says-field ∙ q)
+          ∙ sym (headed .base-is key)
+
+      pub base-missing : r ≡ Missing → false ≡ based key (from t p)
+      base-missing q =
+          based-missing base-field key (missing base-field) (text.decimal base-field) (leb (worth 0 base-field) 255) (sym says-field ∙ q)
+          ∙ sym (headed .base-is key)
+
+      pub base-wrong : r ≡ Wrong → false ≡ based key (from t p)
+      base-wrong q = absurd (based-wrong base-field key (missing base-field) (text.decimal base-field) (leb (worth 0 base-field) 255) (sym says-field ∙ q)
+          (headed .base-fits))
+
+pub ruleset base-laws = (key-two, key-room, base-two, base-given, base-missing, base-wrong)
+
+pub ruleset header-laws = (header-has, flags-inside, flags-are, name-is, name-room)
 
 -- ---- a V under an H
 first-validation : (rs : List Record) → starts owns (ofKind 86) rs ≡ true → some? (validations (below rs)) ≡ true
@@ -150,29 +222,26 @@ module _ (t : List ℕ) (p : Place) (r : Under) (finds : NextOf t p 86 r) where
 
 pub ruleset some-laws = (some-validation, no-validation)
 
--- ---- a candidate
-module _ (t : List ℕ) (l : Line) (key : ℕ) (good : Good t l) where
-  pub candidate-rest : (rs : List Record) (y : Bool) → l .kind ≡ 72
-      → y ≡ (isKey key (given (worth 0) (field 2 (cells t l))) && some? (validations (below rs))) → y ≡ candidate key (cells t l) rs
-  candidate-rest rs y h e = rw (← good .kind-is, eq-eqb (l .kind) 72 h) e
-
-  pub candidate-next : Readable rules t (l .next)
-  candidate-next = good .next
-
-pub ruleset candidate-laws = (candidate-rest, candidate-next)
-
--- one line more
-candidates-step : (fs : List (List ℕ)) (x : Record) (rs : List Record) (key h n : ℕ) → View fs x → candidate key fs rs ≡ false
+-- ---- one line more
+candidates-step : (fs : List (List ℕ)) (x : Record) (rs : List Record) (key h n : ℕ) → View fs x
+    → (based key (x ∷ rs) && some? (validations (below rs))) ≡ false
     → candidates key (frames h n (x ∷ rs)) ≡ candidates key (frames (oneMore (kindOf fs) 72 h) (oneMore (kindOf fs) 80 n) rs)
 candidates-step fs (frequency code k) rs key h n v c = rw (v .kind)
 candidates-step fs (base k) rs key h n v c = rw (v .kind)
-candidates-step fs (header hd) rs key h n v c =
-    let tests : (isKey key (given (worth 0) (field 2 fs)) && some? (validations (below rs))) ≡ false = rw (v .kind) at c in
-    rw (v .kind, v .says, tests, add-one)
+candidates-step fs (header hd) rs key h n v c = rw (v .kind, c, add-one)
 candidates-step fs (param p) rs key h n v c = rw (v .kind, add-one)
 candidates-step fs (validation path x) rs key h n v c = rw (v .kind)
 candidates-step fs (set name) rs key h n v c = rw (v .kind)
 candidates-step fs (entry k text) rs key h n v c = rw (v .kind)
+
+no-base : (fs : List (List ℕ)) (x : Record) (rs : List Record) (key : ℕ) → View fs x → eqb (kindOf fs) 72 ≡ false → based key (x ∷ rs) ≡ false
+no-base fs (frequency code k) rs key v e = refl
+no-base fs (base k) rs key v e = refl
+no-base fs (header h) rs key v e = absurd (let z : true ≡ false = rw (v .kind) at e in let w : _≡_ {A = ℕ} 0 1 = cc in omega arith)
+no-base fs (param p) rs key v e = refl
+no-base fs (validation path value) rs key v e = refl
+no-base fs (set name) rs key v e = refl
+no-base fs (entry k text) rs key v e = refl
 
 no-header : (fs : List (List ℕ)) (x : Record) → View fs x → eqb (kindOf fs) 72 ≡ false → headerIn (some x) ≡ none
 no-header fs (frequency code key) v e = refl
@@ -225,7 +294,8 @@ pub look-over : (t : List ℕ) (p₀ : Place) (key h₀ n₀ : ℕ) (p : Place) 
 look-over t p₀ key h₀ n₀ p h n m q k inside other is-m pass =
     let o : Over t p q = over-line t p q (k .counts .readable) inside pass in
     let not-h : eqb (kindOf (o .fields)) 72 ≡ false = ne-eqb (kindOf (o .fields)) 72 (λ z. other (o .byte ∙ z)) in
-    let none : candidate key (o .fields) (from t q) ≡ false = rw not-h refl in
+    let none : (based key (o .said ∷ from t q) && some? (validations (below (from t q)))) ≡ false =
+    rw (no-base (o .fields) (o .said) (from t q) key (o .view) not-h) refl in
     let same-h : oneMore (kindOf (o .fields)) 72 h ≡ h = rw not-h refl in
     let c : m ≡ oneMore (kindOf (o .fields)) 80 n = is-m ∙ ap (λ (x : ℕ). oneMore x 80 n) (o .byte) in
     record {
@@ -241,6 +311,33 @@ look-over t p₀ key h₀ n₀ p h n m q k inside other is-m pass =
       so = k .so ∙ ap (λ (rs : List Record). candidates key (frames h n rs)) (o .rest-is)
           ∙ (rw (same-h, ← c) at (candidates-step (o .fields) (o .said) (from t q) key h n (o .view) none));
     }
+
+-- an H that is no candidate
+module _ (t : List ℕ) (p₀ : Place) (key h₀ n₀ : ℕ) (p : Place) (h n : ℕ) (q : Place) (k : Looking t p₀ key h₀ n₀ p h n)
+    (inside : p .at < length t) (byte : getD t (p .at) 0 ≡ 72) (pass : Passes t p q) where
+  look-none : (based key (from t p) && some? (validations (below (from t q)))) ≡ false → Looking t p₀ key h₀ n₀ q (h + 1) n
+  look-none fails =
+      let o : Over t p q = over-line t p q (k .counts .readable) inside pass in
+      let kind-is : kindOf (o .fields) ≡ 72 = sym (o .byte) ∙ byte in
+      let said-is : o .said ≡ header (headerOf (o .fields)) = is-header (o .fields) (o .said) (o .view) kind-is in
+      let line-is : Here t p q (o .said) = here-passed t p q (o .said) (k .counts .readable .inn) (o .next .inn) (o .rest-is) pass in
+      record {
+        counts = record {
+          readable = o .next;
+          short = k .counts .short;
+          headers-few = omega (arith, k .counts .headers-few, pass .on);
+          params-few = omega (arith, k .counts .params-few, pass .on);
+          names = λ j. let z : h + 1 + j ≡ h + suc j = omega arith in
+              ap (headerName t) z ∙ k .counts .names (suc j) ∙ names-more t p q (o .said) line-is (headerOf (o .fields)) said-is j;
+        };
+        after = omega (arith, k .after, pass .on);
+        so = k .so ∙ ap (λ (rs : List Record). candidates key (frames h n rs)) (o .rest-is)
+            ∙ (rw kind-is at (candidates-step (o .fields) (o .said) (from t q) key h n (o .view) (rw (o .rest-is) at fails)));
+      }
+
+  -- of another base
+  pub look-pass : (a : Bool) → a ≡ based key (from t p) → not a ≡ true → Looking t p₀ key h₀ n₀ q (h + 1) n
+  look-pass a is e = look-none (rw (sym is ∙ not-true a e) refl)
 
 module _ (t : List ℕ) (p₀ : Place) (key h₀ n₀ : ℕ) (p : Place) (h n : ℕ) (l : Line) (k : Looking t p₀ key h₀ n₀ p h n)
     (inside : p .at < length t) (step : Steps t p l) where
@@ -287,22 +384,13 @@ module _ (t : List ℕ) (p₀ : Place) (key h₀ n₀ : ℕ) (p : Place) (h n : 
     name-there =
         ap (partOf t) (sym (name-at t p (l .next) (line-here .said) line-is says-h is-h)) ∙ name-says t p (l .next) (line-here .said) line-is says-h is-h
 
-  module _ (b : Bool) (byte : getD t (p .at) 0 ≡ 72) (is : b ≡ candidate key (cells t l) (from t (l .next))) where
+  pub look-behind : Readable rules t (l .next)
+  look-behind = line-here .next
+
+  module _ (a b : Bool) (byte : getD t (p .at) 0 ≡ 72) (is-a : a ≡ based key (from t p)) (so-a : not a ≡ false)
+      (is-b : b ≡ some? (validations (below (from t (l .next))))) where
     pub look-next : b ≡ false → Looking t p₀ key h₀ n₀ (l .next) (h + 1) n
-    look-next e =
-        let kind-is : kindOf (cells t l) ≡ 72 = sym (step .kind-is) ∙ look-kind byte in
-        record {
-          counts = record {
-            readable = line-here .next;
-            short = k .counts .short;
-            headers-few = omega (arith, k .counts .headers-few, step .passes .on);
-            params-few = omega (arith, k .counts .params-few, step .passes .on);
-            names = names-behind byte;
-          };
-          after = omega (arith, k .after, step .passes .on);
-          so = k .so ∙ ap (λ (rs : List Record). candidates key (frames h n rs)) (line-here .rest-is)
-              ∙ (rw kind-is at (candidates-step (cells t l) (line-here .said) (from t (l .next)) key h n (line-here .view) (sym is ∙ e)));
-        }
+    look-next e = look-none t p₀ key h₀ n₀ p h n (l .next) k inside byte (step .passes) (rw (sym is-a ∙ not-false a so-a, sym is-b ∙ e) refl)
 
     pub look-hit : (c : Candidate) → b ≡ true → IsRead t l h n c → FindsCandidate t p₀ key h₀ n₀ (nextCandidate.At c)
     look-hit c e r = record {
@@ -328,11 +416,14 @@ module _ (t : List ℕ) (p₀ : Place) (key h₀ n₀ : ℕ) (p : Place) (h n : 
         is-named : partOf t (c .name) ≡ field 4 (cells t l)
         is-named = ap (partOf t) the-name ∙ name-there byte
 
+        based-here : isKey key (given (worth 0) (field 2 (cells t l))) ≡ true
+        based-here = sym (ap (based key) (line-here .rest-is ∙ ap (λ (x : Record). x ∷ from t (l .next)) (is-h byte))) ∙ sym is-a ∙ not-false a so-a
+
         tests : (isKey key (given (worth 0) (field 2 (cells t l))) && some? (validations (below (from t (l .next))))) ≡ true
-        tests = and-right (eqb (kindOf (cells t l)) 72) _ (sym is ∙ e)
+        tests = rw (based-here, sym is-b ∙ e) refl
 
         base-is : given (worth 0) (field 2 (cells t l)) ≡ some key
-        base-is = the-key key _ (and-left (isKey key (given (worth 0) (field 2 (cells t l)))) _ tests)
+        base-is = the-key key _ based-here
 
         frame : Frame
         frame = record {
@@ -376,6 +467,8 @@ pub ruleset look-laws = (
   look-kind,
   look-less,
   look-name,
+  look-pass,
+  look-behind,
   look-next,
   look-hit,
 )

@@ -15,10 +15,10 @@ use Rattle.text.specs.declared.Part.{Part}
 use Rattle.text.specs.declared.Under.{Under}
 use Rattle.text.specs.declared.Under.the-variants as under
 use Rattle.text.specs.Listing.{Next}
-use Rattle.frame_text.specs.Form.{Param, Record, frequency, base, header, param, validation, set, entry, names, given, flag, form}
+use Rattle.frame_text.specs.Form.{Param, Record, frequency, base, header, param, validation, set, entry, names, flag, form}
 use Rattle.frame_text.specs.Form as form
 use Rattle.frame_text.specs.Rules.{letter, owns, rules}
-use Rattle.frame_definition.specs.Definition.{Frame, below, params, validations, entries, frames, sets, definition, firstBase, isKey, some?}
+use Rattle.frame_definition.specs.Definition.{Frame, below, params, validations, entries, frames, sets, definition, firstBase, isKey}
 use Rattle.frame_definition.specs.Definition.{candidates, firstSet, paramNumbered}
 use Rattle.frame_definition.specs.Names.{nameFrom, headerName}
 use Rattle.frame_definition.specs.declared.Found.{Found}
@@ -146,9 +146,16 @@ FindsValidation t p nextValidation.Nothing = validations (below (from t p)) ≡ 
 
 -- ---- candidates
 
--- is a line, with these records after it, an H with this base key and a V under it
-abbrev pub candidate : ℕ → List (List ℕ) → List Record → Bool
-candidate key fs rs = eqb (kindOf fs) 0x48 && (isKey key (given form.value (field 2 fs)) && some? (validations (below rs)))
+-- is the first of these an H with this base key
+abbrev pub based : ℕ → List Record → Bool
+based key [] = false
+based key (frequency code k ∷ rs) = false
+based key (base k ∷ rs) = false
+based key (header h ∷ rs) = isKey key (h .base)
+based key (param p ∷ rs) = false
+based key (validation path v ∷ rs) = false
+based key (set name ∷ rs) = false
+based key (entry k text ∷ rs) = false
 
 -- the flags that an H line says
 pub record HasFlags (l : List ℕ) (r : Flags) : Type 0 where

@@ -14,16 +14,16 @@ ghost use mathlib.Core.Path.{_≡_};
 ghost use mathlib.Core.Option.{some};
 ghost use Prim.Native.Nat.{_<_};
 ghost use lib.Dec.{eqb};
-ghost use lib.ListN.{length};
+ghost use lib.ListN.{length, getD};
 ghost use Rattle.text.specs.Text.{field, value as valueOf};
 ghost use Rattle.text.specs.Place.{cells, Passes};
 ghost use Rattle.text.specs.Records.{Readable};
 ghost use Rattle.text.specs.declared.Verdict.the-variants.{Accepted};
-ghost use Rattle.frame_text.specs.Form.{given, value, param, typeOf, form};
+ghost use Rattle.frame_text.specs.Form.{param, typeOf, form};
 ghost use Rattle.frame_text.specs.Rules.{rules, verdict};
-ghost use Rattle.frame_definition.specs.Definition.{below, validations, definition, baseKey, isKey, some?};
+ghost use Rattle.frame_definition.specs.Definition.{below, validations, definition, baseKey, some?};
 ghost use Rattle.frame_definition.specs.Find.{Good, oneMore, least, FindsBase, ownerKind, NextOf, HasNumbers, HasPaths, meant, FindsParam};
-ghost use Rattle.frame_definition.specs.Find.{FindsValidation, from, HasFlags, candidate, IsRead, Counted, FindsCandidate};
+ghost use Rattle.frame_definition.specs.Find.{FindsValidation, from, HasFlags, based, IsRead, Counted, FindsCandidate};
 pub use numbered::find_param;
 pub use sets::find_entry;
 pub use sets::find_set;
@@ -326,12 +326,14 @@ fn read_flags(text: &[u8], line: Line) -> Flags
     }
 }
 
-// Has an H line this base key?
-fn is_based(text: &[u8], line: Line, key: u64) -> bool
-    requires { ⌜ (Good (now text) line) × (line .kind ≡ 72) ⌝ }
-    ensures { λ r. ⌜ r ≡ isKey key (given value (field 2 (cells (now (text .entry)) line))) ⌝ }
+// Has the H line at a place this base key? Of its fields only that one is read: a tab ends it, and each in front of it.
+fn is_based(text: &[u8], place: Place, key: u64) -> bool
+    requires { ⌜ (Readable rules (now text) place) × (place .at < length (now text)) × (getD (now text) (place .at) 0 ≡ 72) ⌝ }
+    ensures { λ r. ⌜ r ≡ based key (from (now (text .entry)) place) ⌝ }
 {
-    match line.optional(text, 2, 255) {
+    let base = text::field_end(text, place.at + 2) + 1;
+    let end = text::field_end(text, base);
+    match text::read_optional(&text[base..end], 255) {
         Optional::Given(n) => n as u64 == key,
         Optional::Missing => false,
         Optional::Wrong => false,
@@ -347,15 +349,6 @@ fn has_validation(text: &[u8], place: Place) -> bool
         Under::At(_) => true,
         Under::Nothing => false,
     }
-}
-
-// Has an H line this base key and a V under it?
-fn is_candidate(text: &[u8], line: Line, key: u64) -> bool
-    requires { ⌜ (Good (now text) line) × (line .kind ≡ 72) ⌝ }
-    ensures { λ r. ⌜ r ≡ candidate key (cells (now (text .entry)) line) (from (now (text .entry)) (line .next)) ⌝ }
-{
-    let next = line.next;
-    is_based(text, line, key) && has_validation(text, next)
 }
 
 // What a candidate's H line says, after h H and n P lines.
@@ -397,9 +390,14 @@ pub fn next_candidate(text: &[u8], start: Place, key: u64, h: usize, n: usize) -
             place = pass_line(text, place);
             continue;
         }
+        if !is_based(text, place, key) {
+            number += 1;
+            place = pass_line(text, place);
+            continue;
+        }
         let line = place.step(text);
         let next = line.next;
-        if is_candidate(text, line, key) {
+        if has_validation(text, next) {
             return NextCandidate::At(read_candidate(text, line, number, params));
         }
         number += 1;
