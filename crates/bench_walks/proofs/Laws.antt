@@ -12,7 +12,7 @@ use Rattle.refusal.specs.Refusal.{numberOf}
 use Rattle.text.specs.declared.Place.{Place}
 use Rattle.text.specs.declared.Verdict.{Verdict}
 use Rattle.text.specs.declared.Verdict.the-variants as text
-use Rattle.frame_text.specs.Rules.{rules, verdict}
+use Rattle.frame_text.specs.Rules.{verdict}
 use Rattle.frame_definition.specs.Find.{Counted, FindsBase, IsCandidate, FindsCandidate}
 use Rattle.frame_definition.proofs.Candidates.{counted-starts}
 use Rattle.frame_definition.specs.declared.Candidate.{Candidate}

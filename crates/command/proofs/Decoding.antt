@@ -4,13 +4,13 @@ use mathlib.Core.Bool.{Bool, true, false, cond}
 use mathlib.Core.List.{List, [], _++_}
 use Prim.Native.Nat.{ℕ, _-_, _*_, _/_, _^_, _≤_, _<_}
 use native.Mathlib.Omega.{arith}
-use lib.Dec.{eqb, leb}
+use lib.Dec.{leb}
 use lib.ListN.{length, take, drop, length-drop}
 use lib.Seq.{length-take-le}
 use borrow.Author.Tests.{eqb-false, le-leb, lt-leb, lt-ltb, le-ltb}
 use Rattle.laws.proofs.Lists.{tail}
 use Rattle.refusal.specs.declared.Refusal.{Refusal}
-use Rattle.refusal.specs.declared.Refusal.the-variants.{Form, TooLong, TooShort, MoreRows}
+use Rattle.refusal.specs.declared.Refusal.the-variants.{TooLong, TooShort, MoreRows}
 use Rattle.refusal.proofs.Numbers.{numbered}
 use Rattle.refusal.specs.Refusal.{numberOf}
 use Rattle.records.specs.declared.PayloadOffset.{PayloadOffset}
@@ -36,10 +36,9 @@ use Rattle.command_rules.specs.Param.{inPayload}
 use Rattle.command_rules.specs.Walk.{Walked, walk}
 use Rattle.command_groups.specs.Steps.{Gives}
 use Rattle.command_rules.specs.Sum.{Adds}
-use Rattle.command.specs.Answer.{Told, answered, refused, told, bodyOf, within, answerBy, answerOf, filled, tableAfter, Fills, AddsUp, DecodesBy}
+use Rattle.command.specs.Answer.{Told, answered, refused, told, bodyOf, within, answerBy, answerOf, tableAfter, Fills, AddsUp, DecodesBy}
 use Rattle.command.specs.Answer.{Decodes}
 use Rattle.command_groups.specs.declared.Taken.{Taken}
-use Rattle.command.specs.declared.Params.{Params}
 use Rattle.command.specs.declared.Params.the-variants.{Rows, Refused}
 use Rattle.command_rules.proofs.Rows.{table-rows}
 use Rattle.command_rules.proofs.Bounds.{walk-most, walk-inside}

@@ -23,7 +23,6 @@ use Rattle.command_rules.specs.Param.{inPayload}
 use Rattle.command_rules.specs.Walk.{ended, after, once, members, turn, repetitionRow, repetitions}
 use Rattle.command_groups.specs.Steps.{Gives, GivesGroup, IsTook, IsNothing, Repeats}
 use Rattle.command_groups.specs.declared.Taken.{Taken}
-use Rattle.command_groups.specs.declared.Repeated.{Repeated}
 use Rattle.command_groups.specs.declared.Repetition.{Repetition}
 use Rattle.command_groups.specs.declared.Repetition.the-variants.{Took, Nothing}
 use Rattle.command_rules.proofs.Bounds.{Bound, turn-bound, repetitions-bound}

@@ -1,11 +1,10 @@
 -- Laws of listing the nodes of a command's row. Assumes nothing.
 use mathlib.Core.Path.{_≡_, refl, sym, ap, _∙_}
-use mathlib.Core.Bool.{Bool, true, false, cond}
+use mathlib.Core.Bool.{Bool, true, false}
 use mathlib.Core.List.{List, []}
 use Prim.Native.Nat.{ℕ, _+_, _-_, _*_, _/_, _≤_, _<_}
 use native.Mathlib.Omega.{arith}
-use lib.Dec.{eqb}
-use lib.ListN.{length, getD, take, drop}
+use lib.ListN.{length, take, drop}
 use borrow.Author.Tests.{eq-eqb, ne-eqb, le-leb, lt-leb}
 use Rattle.refusal.specs.declared.Refusal.{Refusal}
 use Rattle.refusal.specs.declared.Refusal.the-variants.{NoSuchField}
@@ -18,7 +17,7 @@ use Rattle.command_text.specs.Form.{Record, param, group, item, Detail, variant
 use Rattle.command_text.specs.Rules.{rules, verdict}
 use Rattle.command_text.specs.declared.Typed.{Typed}
 use Rattle.command_text.specs.declared.Typed.the-variants.{Is, Not}
-use Rattle.command_class.specs.Definition.{Item, letter, letterOf, numbered, definition}
+use Rattle.command_class.specs.Definition.{letter, letterOf, numbered, definition}
 use Rattle.command_class.specs.Find.{from, IsRead, Says}
 use Rattle.command_class.specs.declared.Read.{Read}
 use Rattle.command_class.specs.declared.Row.{Row as Line}

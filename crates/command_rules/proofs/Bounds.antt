@@ -5,12 +5,11 @@ use mathlib.Core.List.{List, [], _∷_, _++_}
 use Prim.Native.Nat.{ℕ, zero, suc, _+_, _-_, _*_, _^_, _≤_, _<_}
 use native.Mathlib.Omega.{arith}
 use lib.Dec.{eqb, ltb}
-use lib.ListN.{length, getD, replicate, length-append}
+use lib.ListN.{length, getD, length-append}
 use borrow.Author.Tests.{ltb-true}
 use Rattle.command_class.specs.Definition.{Parameter, Entry, single, repeated}
 use Rattle.command_rules.specs.Lengths.{repeats}
 use Rattle.command_rules.specs.declared.Earlier.{Earlier}
-use Rattle.command_rules.specs.declared.Earlier.the-variants.{NoValue}
 use Rattle.command_rules.specs.declared.Length.{Length}
 use Rattle.command_rules.specs.declared.Size.{Size}
 use Rattle.command_rules.specs.declared.Size.the-variants.{Bytes, Missing}

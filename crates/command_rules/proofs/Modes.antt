@@ -14,7 +14,7 @@ use Rattle.command_rules.specs.declared.Row.{Row}
 use Rattle.command_rules.specs.declared.Size.the-variants.{Bytes}
 use Rattle.command_rules.specs.Field.{fieldOf}
 use Rattle.command_rules.specs.Param.{sizeAt, paramRows, paramEntry}
-use Rattle.command_rules.specs.Walk.{Walked, ended, after, members, outer}
+use Rattle.command_rules.specs.Walk.{Walked, after, members, outer}
 
 -- each of these Qs exists, one behind the other from a place of the body on, after these entries
 unfoldable pub Exist : List ℕ → List Parameter → ℕ → List Earlier → Type 0

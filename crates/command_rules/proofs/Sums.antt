@@ -7,25 +7,23 @@ use Prim.Native.Nat.{ℕ, zero, suc, _+_, _-_, _≤_, _<_}
 use native.Mathlib.Nat.{add-zero}
 use native.Mathlib.Omega.{arith}
 use lib.Dec.{eqb, ltb}
-use lib.ListN.{length, getD, drop, replicate, length-append, length-drop}
+use lib.ListN.{length, getD, drop, length-append, length-drop}
 use lib.Seq.{length-take-le}
 use borrow.Author.Tests.{eqb-true, eq-eqb, ne-eqb, ltb-true}
 use Rattle.command_class.specs.Definition.{Item, Parameter, Entry, single, repeated, ofItem}
 use Rattle.command_rules.specs.Lengths.{repeats}
 use Rattle.command_rules.specs.declared.Earlier.{Earlier}
-use Rattle.command_rules.specs.declared.Earlier.the-variants.{NoValue}
 use Rattle.command_rules.specs.declared.Length.{Length}
 use Rattle.command_rules.specs.declared.Size.{Size}
 use Rattle.command_rules.specs.declared.Size.the-variants.{Bytes, Missing}
 use Rattle.command_rules.specs.Field.{Field, fieldOf}
-use Rattle.command_rules.specs.Limits.{SmallEntries}
 use Rattle.command_rules.specs.declared.Row.{Row}
 use Rattle.command_rules.specs.Param.{inPayload, bitValue, bitOnto, bitRows, rowOf, bytesAt, sizeAt, paramRows, paramEntry}
-use Rattle.command_rules.specs.Walk.{Walked, ended, after, once, onSize, members, turn, repetitionRow, repetitions, groupAt, outer, walk, unvalued}
+use Rattle.command_rules.specs.Walk.{Walked, ended, after, once, onSize, members, turn, repetitionRow, repetitions, groupAt, outer, unvalued}
 use Rattle.command_rules.specs.declared.Offsets.{Offsets}
-use Rattle.command_rules.specs.Sum.{childrenOf, Follow, bytes, AllParams, OnByte, Inside, Placed, CutAtEnd, Adds}
+use Rattle.command_rules.specs.Sum.{childrenOf, Follow, bytes, AllParams, OnByte, Inside, Placed, CutAtEnd}
 use Rattle.command_rules.proofs.Lengths.{size-all}
-use Rattle.command_rules.proofs.Bounds.{size-facts, walk-inside}
+use Rattle.command_rules.proofs.Bounds.{size-facts}
 
 -- ---- children of rows that stand together
 pub children-append : (c : ℕ) (a b : List Row) → childrenOf c (a ++ b) ≡ childrenOf c a ++ childrenOf c b

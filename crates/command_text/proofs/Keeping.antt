@@ -1,7 +1,7 @@
 -- What the code keeps of the lines before tells all that the rules of the command text ask of them. Assumes nothing.
-use mathlib.Core.Path.{_≡_, refl, sym, ap, _∙_}
+use mathlib.Core.Path.{_≡_, refl, sym, ap}
 use mathlib.Core.Bool.{Bool, true, false, cond}
-use mathlib.Core.List.{List, [], _∷_}
+use mathlib.Core.List.{List, []}
 use mathlib.Core.Option.{Option, none, some}
 use Prim.Native.Nat.{ℕ, suc, _+_, _-_, _≤_, _<_}
 use native.Mathlib.Omega.{arith}
@@ -18,13 +18,13 @@ use Rattle.text.proofs.Tests.{alike}
 use Rattle.text.proofs.Judging.{Brief, Outcome, on, passed, astray, wrong, Meets, Checked, checked-long, checked-start, checked-end, checked-on}
 use Rattle.text.proofs.Judging.{checked-passed, checked-lost, checked-wrong}
 use Rattle.text.proofs.Honest.{checks}
-use Rattle.command_kept.specs.Kept.{nothing, judged, judgedItem}
+use Rattle.command_kept.specs.Kept.{nothing, judged}
 use Rattle.command_kept.specs.declared.Form.{Form}
 use Rattle.command_kept.specs.declared.Kept.{Kept}
 use Rattle.command_kept.specs.declared.Judged.{Judged}
 use Rattle.command_kept.specs.declared.Judged.the-variants.{On, Passed, Lost, Wrong}
 use Rattle.command_text.specs.Form.{Param, Group, Detail, Record, param, group, item, form}
-use Rattle.command_text.specs.Rules.{begins, count, items, owned, grouped, shiftIn, rules}
+use Rattle.command_text.specs.Rules.{count, items, owned, grouped, shiftIn, rules}
 use Rattle.command_text.specs.Shape.{shape}
 
 -- ---- what is kept

@@ -22,7 +22,7 @@ use Rattle.command_class.specs.declared.Read.{Read}
 use Rattle.command_class.proofs.Beginning.{follows-at, follows-less}
 use Rattle.command_class.proofs.Finding.{same-line, begins-kind}
 use Rattle.command_rules.specs.Field.{first, asArray, asVariant, arrayAscii, variantAscii}
-use Rattle.command_value.specs.Params.{linesOf, since, behind, isAscii, constName, flagIn, isFlag}
+use Rattle.command_value.specs.Params.{linesOf, since, behind, isAscii, flagIn, isFlag}
 use Rattle.command_value.specs.Lookup.{Stands, Behind, asciiOf, firstAscii, asciiHere, NamedAt, IsShown, keptIn, asciiBy, nameBy, Placed}
 use Rattle.command_value.specs.declared.lookup.Shown.{Shown}
 use Rattle.command_value.specs.declared.lookup.Shown.the-variants.{Ascii, Named, Plain}

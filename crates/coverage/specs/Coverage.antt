@@ -1,12 +1,11 @@
 -- CV1 to CV5 (docs/RULES.md): which counts the header of a frame raises, by a frame text.
-use mathlib.Core.Bool.{Bool, cond, _&&_}
+use mathlib.Core.Bool.{cond, _&&_}
 use mathlib.Core.List.{List, [], _∷_, _++_}
 use Prim.Native.Nat.{ℕ, zero, suc, _+_, _-_, _*_}
 use lib.Dec.{eqb, leb, ltb}
-use lib.ListN.{length, getD, set, replicate}
+use lib.ListN.{getD, set, replicate}
 use Rattle.refusal.specs.Refusal.{numberOf}
 use Rattle.header_rules.specs.Table.{rowWidth}
-use Rattle.header_rules.specs.Told.{Told}
 use Rattle.header.specs.declared.Decoded.{Decoded}
 use Rattle.header.specs.declared.Decoded.the-variants.{Header, Refused}
 use Rattle.header.specs.Decode.{decoded, toldOf, tableAfter}

@@ -1,8 +1,7 @@
 -- Which counts are raised, by examples.
 use mathlib.Core.Path.{_≡_, refl}
-use mathlib.Core.List.{List, [], _∷_}
-use lib.ListN.{getD}
-use Rattle.coverage.specs.Coverage.{headerPlace, paramPlace, entryPlace, refusedPlace, rowPlaces, rowsFrom, raised, raisedAll, most}
+use mathlib.Core.List.{[], _∷_}
+use Rattle.coverage.specs.Coverage.{headerPlace, paramPlace, entryPlace, refusedPlace, rowsFrom, raisedAll, most}
 
 -- the first and the last of each kind
 pub places : headerPlace 0 ∷ headerPlace 63 ∷ paramPlace 0 ∷ paramPlace 5119 ∷ entryPlace 0 1 ∷ entryPlace 15 64 ∷ refusedPlace 5

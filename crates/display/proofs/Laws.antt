@@ -1,12 +1,10 @@
 -- Laws of values as text. Assumes nothing.
-use mathlib.Core.Path.{_≡_, refl, sym, ap, _∙_}
-use mathlib.Core.Bool.{Bool, true, false, cond, _&&_}
-use mathlib.Core.List.{List, [], _∷_, _++_}
-use Prim.Native.Nat.{ℕ, _+_, _-_, _*_, _%_, _^_, _≤_, _<_}
+use mathlib.Core.Path.{_≡_, refl, _∙_}
+use mathlib.Core.Bool.{Bool, true, false, _&&_}
+use mathlib.Core.List.{List, [], _∷_}
+use Prim.Native.Nat.{ℕ, _-_, _%_, _≤_, _<_}
 use native.Mathlib.Omega.{arith}
-use lib.Dec.{eqb, leb}
 use lib.ListN.{length, drop, take}
-use lib.Seq.{take-all}
 use borrow.Author.Tests.{eq-eqb, ne-eqb, le-leb, lt-leb}
 use Rattle.laws.proofs.Lists.{tail}
 use Rattle.frame_text.specs.declared.ParamType.{ParamType}
@@ -16,7 +14,7 @@ use Rattle.buffer.specs.declared.Written.the-variants.{Length}
 use Rattle.buffer.specs.Buffer.{Writes}
 use Rattle.numerals.specs.Numerals.{decimal, signed, hex, pairs, Spells}
 use Rattle.lossy.specs.Lossy.{shown}
-use Rattle.display.specs.Display.{word, some?, valueText, ifValued, inBytes, bytesText, displayValue, display, displayBit}
+use Rattle.display.specs.Display.{word, some?, valueText, ifValued, inBytes, displayValue, display, displayBit}
 use Rattle.display.specs.declared.Value.{Value}
 use Rattle.display.specs.declared.Value.the-variants.{Is, Not}
 

@@ -1,8 +1,8 @@
 -- Both firmwares tell the same frame where the region has no fifth bit: FV3 (docs/RULES.md). Assumes nothing.
-use mathlib.Core.Path.{_≡_, refl, ap}
+use mathlib.Core.Path.{_≡_, ap}
 use mathlib.Core.Bool.{Bool, cond, _&&_}
 use mathlib.Core.List.{List}
-use Prim.Native.Nat.{ℕ, _-_, _/_, _%_, _^_}
+use Prim.Native.Nat.{ℕ, _-_, _/_, _%_}
 use native.Mathlib.Omega.{arith}
 use lib.Dec.{leb}
 use lib.ListN.{length, getD, drop}
@@ -12,7 +12,6 @@ use Rattle.frame.specs.declared.Reading.{Reading}
 use Rattle.frame.specs.declared.Direction.{Direction}
 use Rattle.frame.specs.declared.Direction.the-variants.{Rx, Tx}
 use Rattle.frame.specs.declared.Trailer.{Trailer}
-use Rattle.frame.specs.declared.Parsed.{Parsed}
 use Rattle.frame.specs.declared.Parsed.the-variants.{Frame, Refused}
 use Rattle.frame.specs.Frame.{regionByte, fieldsOf, FourBits, header, start, trailer, directionOf, between, middle, fields, isBeam, holds, framed}
 use Rattle.frame.specs.Frame.{rulesOf, isFrame, frameOf, parsedOf}

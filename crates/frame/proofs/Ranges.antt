@@ -1,5 +1,5 @@
 -- How large the numbers of a frame can be. Assumes nothing.
-use mathlib.Core.Path.{_≡_, refl, ap, _∙_}
+use mathlib.Core.Path.{_≡_, refl, ap}
 use mathlib.Core.Bool.{Bool, true, false, cond, not, _&&_}
 use mathlib.Core.List.{List, [], _∷_}
 use Prim.Native.Nat.{ℕ, zero, suc, _+_, _-_, _%_, _^_, _≤_, _<_}
@@ -12,7 +12,7 @@ use lib.Dec.{eqb, leb, ltb}
 use lib.ListN.{length, getD, take, drop, length-take, length-drop}
 use lib.Seq.{getD-drop}
 use borrow.Author.Tests.{leb-true}
-use Rattle.laws.proofs.Bools.{and-left, and-right}
+use Rattle.laws.proofs.Bools.{and-left}
 use Rattle.radio.proofs.SpeedLaws.{rate-low}
 use Rattle.radio.proofs.BeamLaws.{beams-low}
 use Rattle.frame.specs.declared.Direction.{Direction}

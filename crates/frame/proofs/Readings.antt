@@ -1,18 +1,14 @@
 -- Both readings of beams: BF4 and BF5 (docs/RULES.md). Assumes nothing.
 use mathlib.Core.Path.{_≡_, refl, sym, ap, _∙_}
-use mathlib.Core.Bool.{Bool, true, false, cond, _&&_, _||_}
+use mathlib.Core.Bool.{Bool, true, false, cond, _&&_}
 use mathlib.Core.List.{List}
 use Prim.Native.Nat.{ℕ}
 use lib.Dec.{eqb, leb}
 use lib.ListN.{length}
-use Rattle.laws.proofs.Bools.{and-left, and-right}
+use Rattle.laws.proofs.Bools.{and-left}
 use Rattle.refusal.specs.declared.Refusal.the-variants.{TooLong, NotAFrame, Firmware}
 use Rattle.frame.specs.declared.Reading.{Reading}
 use Rattle.frame.specs.declared.Reading.the-variants.{Marker, Family}
-use Rattle.frame.specs.declared.Direction.{Direction}
-use Rattle.frame.specs.declared.Trailer.{Trailer}
-use Rattle.frame.specs.declared.PtiFrame.{PtiFrame}
-use Rattle.frame.specs.declared.Parsed.{Parsed}
 use Rattle.frame.specs.declared.Parsed.the-variants.{Frame, Refused}
 use Rattle.frame.specs.Frame.{regionBits, rulesOf, header, start, directionOf, between, middle, fields, rateIn, isMarked, isBeam, beamIn, Unmarked}
 use Rattle.frame.specs.Frame.{holds, isFrame, framed, frameOf, numbersAt, parsedOf}

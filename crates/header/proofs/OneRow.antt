@@ -22,7 +22,7 @@ use Rattle.header_rules.specs.Data.{Field}
 use Rattle.header_rules.specs.Answer.{Answer, answered, refused, answer}
 use Rattle.header_rules.specs.Table.{rowWidth, numbersOf, rowsEach, innerTable, tableFrom, tableOf}
 use Rattle.header_rules.specs.Trees.{trees}
-use Rattle.header_rules.specs.Told.{Told, no-base, no-candidate, more-rows, header, fitted, headingOf, ofAnswer, ofBase, candidatesOf, told}
+use Rattle.header_rules.specs.Told.{Told, no-base, no-candidate, more-rows, header, headingOf, ofAnswer, ofBase, candidatesOf, told}
 use Rattle.header.specs.declared.DecodedHeader.{DecodedHeader}
 use Rattle.header.specs.declared.Decoded.{Decoded}
 use Rattle.header.specs.declared.Decoded.the-variants.{Header, Refused}

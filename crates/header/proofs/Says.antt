@@ -11,7 +11,7 @@ use Rattle.frame_definition.specs.Definition.{definition}
 use Rattle.crc.specs.Crc.{right}
 use Rattle.header_rules.specs.Table.{rowWidth}
 use Rattle.header_rules.specs.Told.{Told, no-base, no-candidate, more-rows, header}
-use Rattle.header_rules.specs.Says.{Says, Needs}
+use Rattle.header_rules.specs.Says.{Says}
 use Rattle.header_rules.proofs.Accepted.{accepted-one, accepted-enough}
 use Rattle.header_rules.proofs.Named.{Named, candidates-named}
 use Rattle.header_rules.proofs.Run.{every-split}

@@ -26,7 +26,7 @@ use Rattle.header_fields.specs.Fields.{lineWidth, fieldsFrom, fieldsIn}
 use Rattle.header_fields.specs.Load.{Loads}
 use Rattle.header_fields.proofs.Laws.{fields-length}
 use Rattle.header_rules.specs.Walk.{reading}
-use Rattle.header_rules.specs.Answer.{answered, answer, meetsAll}
+use Rattle.header_rules.specs.Answer.{answered, answer}
 use Rattle.header_rules.specs.Trees.{trees, candidateOf}
 use Rattle.header_rules.specs.Flat.{flatMeets}
 use Rattle.header_rules.specs.Flat as flat

@@ -1,6 +1,5 @@
 -- Laws of the candidate that is named, and of its rows. Assumes nothing.
 use mathlib.Core.Path.{_≡_, refl, sym, ap, _∙_}
-use mathlib.Core.Bool.{true, false}
 use mathlib.Core.List.{List, [], _∷_, map}
 use mathlib.Core.Option.{none, some}
 use Prim.Native.Nat.{ℕ, suc, _+_, _-_, _*_, _≤_, _<_}
@@ -16,7 +15,7 @@ use Rattle.text.specs.Records.{Readable}
 use Rattle.text.specs.declared.Place.{Place}
 use Rattle.text.specs.declared.Verdict.the-variants.{Accepted}
 use Rattle.frame_text.specs.Rules.{rules, verdict}
-use Rattle.frame_definition.specs.Definition.{Numbered, Base, Frame, frames, definition, firstBase, candidates}
+use Rattle.frame_definition.specs.Definition.{Numbered, Frame, frames, definition, firstBase, candidates}
 use Rattle.frame_definition.specs.Find.{from, FindsBase, Counted, frameOf, IsCandidate, FindsCandidate}
 use Rattle.frame_definition.specs.Leveled.{Leveled}
 use Rattle.frame_definition.proofs.Candidates.{counted-starts}
@@ -37,7 +36,7 @@ use Rattle.header_paths.proofs.Scratch.{length-rowsIn}
 use Rattle.header_candidates.specs.Read.{baseOf, HoldsBase, ReadsBase, ReadsBehind}
 use Rattle.header_candidates.specs.Choose.{linesAt}
 use Rattle.header_candidates.specs.declared.Read.{Read}
-use Rattle.header_named.specs.Named.{named, IsNamed, FindsNamed, rowsOf, Gives, GivesNamed, ReadsNamed}
+use Rattle.header_named.specs.Named.{named, IsNamed, FindsNamed, rowsOf, Gives, ReadsNamed}
 use Rattle.header_named.specs.declared.Named.the-variants.{Rows, Nothing}
 
 -- ---- candidate by candidate: what is left decides

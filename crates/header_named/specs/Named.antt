@@ -9,7 +9,7 @@ use lib.ListN.{length}
 use Rattle.rows.specs.Rows.{laid}
 use Rattle.text.specs.Records.{Readable}
 use Rattle.frame_text.specs.Rules.{rules}
-use Rattle.frame_definition.specs.Definition.{Numbered, Base, definition, firstBase}
+use Rattle.frame_definition.specs.Definition.{Base, definition, firstBase}
 use Rattle.frame_definition.specs.Find.{frameOf}
 use Rattle.frame_definition.specs.declared.Candidate.{Candidate}
 use Rattle.frame_definition.specs.declared.NextCandidate.{NextCandidate}

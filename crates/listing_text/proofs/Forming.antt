@@ -8,7 +8,7 @@ use lib.Dec.{eqb}
 use lib.ListN.{length, take, drop, length-drop}
 use lib.Seq.{take-all, drop-drop}
 use borrow.Author.Tests.{eqb-true, eqb-false, ne-eqb}
-use Rattle.laws.proofs.Lists.{next, done, tail}
+use Rattle.laws.proofs.Lists.{done, tail}
 use Rattle.text.specs.Text.{onto, split, lines, fields, upTo}
 use Rattle.text.specs.Scan.{cut}
 use Rattle.text.specs.declared.Place.{Place}

@@ -1,8 +1,8 @@
 -- A listing that is written: it is of the form, and it is the one that does not differ. Assumes nothing.
 use mathlib.Core.Path.{_≡_, refl, sym, ap, _∙_}
-use mathlib.Core.Bool.{Bool, true, false, cond, _&&_}
-use mathlib.Core.List.{List, [], _∷_, _++_, map, append-nil, append-assoc}
-use Prim.Native.Nat.{ℕ, zero, suc, _+_, _≤_, _<_}
+use mathlib.Core.Bool.{Bool, true, false, cond}
+use mathlib.Core.List.{List, [], _∷_, _++_, map, append-assoc}
+use Prim.Native.Nat.{ℕ, suc, _+_, _≤_, _<_}
 use native.Mathlib.Omega.{arith}
 use lib.ListN.{length, take, drop, length-append, take-append-drop}
 use lib.Seq.{take-at, drop-at, sets, length-sets}
@@ -10,13 +10,12 @@ use borrow.Author.Tests.{eq-eqb}
 use Rattle.rows.specs.Rows.{flat}
 use Rattle.rows.specs.Parts.{Wide}
 use Rattle.rows.proofs.Laws.{sets-append, put-room}
-use Rattle.text.specs.Text.{split, lines, fields, without, same, worth, upTo}
+use Rattle.text.specs.Text.{lines, fields, without, same, worth, upTo}
 use Rattle.text.specs.Print.{Every, Clean, shown, joined}
 use Rattle.text.proofs.Judging.{split-some}
 use Rattle.text.proofs.Printing.{shown-up-to, shown-worth, clean-shown, split-joined, without-joined, joined-split, split-long, split-without, same-is}
-use Rattle.listing_text.specs.Listing.{rowWidth, most, stopOf, lineOf, textOf, closed, listingOf, numbersIn, atEnd, lastOf, formOf, begins, differs}
+use Rattle.listing_text.specs.Listing.{rowWidth, most, lineOf, textOf, closed, listingOf, numbersIn, lastOf, formOf, begins, differs}
 use Rattle.listing_text.specs.Steps.{Small, rowsIn, puts}
-use Rattle.listing_text.specs.declared.form.Form.{Form}
 use Rattle.listing_text.specs.declared.form.Form.the-variants.{Names, Wrong}
 use Rattle.listing_text.proofs.Forming.{form-line, end-not}
 use Rattle.listing_text.proofs.Differing.{line-some}

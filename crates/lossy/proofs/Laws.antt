@@ -9,7 +9,7 @@ use lib.Seq.{take-suc, take-length, length-take-le, drop-drop, sets, length-sets
 use borrow.Author.Tests.{ne-eqb}
 use mir.Val.{Fits}
 use mir.Syntax.{w64}
-use Rattle.laws.proofs.Lists.{next, done, tail}
+use Rattle.laws.proofs.Lists.{done, tail}
 use Rattle.refusal.specs.declared.Refusal.the-variants.{MoreBytes}
 use Rattle.buffer.specs.Buffer.{Writes}
 use Rattle.buffer.specs.declared.Written.the-variants.{Length, Refused}

@@ -1,17 +1,16 @@
 -- Laws of numbers and bytes as text. Assumes nothing.
-use mathlib.Core.Path.{_≡_, refl, sym, ap, _∙_}
-use mathlib.Core.Bool.{Bool, true, false, cond, _&&_}
+use mathlib.Core.Path.{_≡_, refl, sym, _∙_}
+use mathlib.Core.Bool.{Bool, true, false, _&&_}
 use mathlib.Core.List.{List, [], _∷_, _++_, append-assoc, append-nil}
 use Prim.Native.Nat.{ℕ, zero, suc, _+_, _-_, _*_, _/_, _%_, _^_, _≤_, _<_}
 use native.Mathlib.Nat.{pow-zero, pow-suc, mod-lt, div-lt-iff-lt-mul}
 use native.Mathlib.Omega.{arith}
 use mir.Syntax.{w8}
 use mir.Val.{Fits}
-use lib.Dec.{eqb, ltb}
+use lib.Dec.{eqb}
 use lib.ListN.{length, getD, set, take, drop, length-set, length-append}
-use lib.Seq.{sets, length-sets, drop-cons, drop-set-lt, set-split, drop-at, length-take-le}
-use borrow.Author.Tests.{eq-eqb, ne-eqb, eqb-true, lt-ltb, le-ltb}
-use Rattle.laws.proofs.Bools.{and-left, and-right}
+use lib.Seq.{sets, length-sets, set-split, drop-at, length-take-le}
+use borrow.Author.Tests.{eq-eqb, ne-eqb, lt-ltb, le-ltb}
 use Rattle.laws.proofs.Lists.{next, done}
 use Rattle.refusal.specs.declared.Refusal.the-variants.{MoreBytes}
 use Rattle.buffer.specs.Buffer.{Writes}

@@ -14,7 +14,7 @@ ghost use Rattle.text.specs.declared.Verdict.the-variants.{Accepted};
 ghost use Rattle.frame_text.specs.Form.{names};
 ghost use Rattle.frame_text.specs.Rules.{rules, verdict};
 ghost use Rattle.frame_definition.specs.Definition.{isKey, some?};
-ghost use Rattle.overlaps.specs.Overlaps.{greater, ofOneBase, together, tellOne, tellEach, tellAll, tell, areApart, apartFromAll, allApart, harmless};
+ghost use Rattle.overlaps.specs.Overlaps.{greater, ofOneBase, together, tellOne, tellEach, tellAll, tell, apartFromAll, harmless};
 ghost use Rattle.overlaps.specs.Read.{baseOf, saidAt, validsAt, headAt, headsAt, FindsHead, FindsNumbered};
 
 // A header: its base key, and the place behind its H line.

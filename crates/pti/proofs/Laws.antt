@@ -15,7 +15,7 @@ use lib.Seq.{sets, length-sets}
 use borrow.Author.Tests.{le-leb, lt-leb, leb-true, eq-eqb, ne-eqb}
 use Rattle.refusal.specs.declared.Refusal.{Refusal}
 use Rattle.refusal.specs.declared.Refusal.the-variants.{TooLong, MoreRows, Firmware}
-use Rattle.rows.specs.Rows.{put, flat, laid}
+use Rattle.rows.specs.Rows.{put, flat}
 use Rattle.rows.proofs.Laws.{sets-append, put-room, sets-laid}
 use Rattle.rows.proofs.Parts.{length-put}
 use Rattle.records.specs.declared.Span.{Span}

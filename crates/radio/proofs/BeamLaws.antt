@@ -11,7 +11,7 @@ use lib.Seq.{length-take-le, getD-take, drop-drop}
 use borrow.Author.Tests.{le-leb, lt-leb, lt-ltb, le-ltb, eq-eqb, ne-eqb}
 use Rattle.laws.proofs.Lists.{next, done}
 use Rattle.radio.specs.declared.beam.BeamTarget.{BeamTarget}
-use Rattle.radio.specs.Beam.{startsWith, widthOf, again, beamsOf, toldBy, ordinaryTarget, joinedOf, longTarget, targetOf}
+use Rattle.radio.specs.Beam.{startsWith, widthOf, again, beamsOf, toldBy, ordinaryTarget, longTarget, targetOf}
 
 -- ---- the width
 pub left-smaller : (a b : ℕ) → a ≤ b → a ≡ cond (leb a b) a b

@@ -1,14 +1,13 @@
 -- The frame records that are filled from the rows of a payload are the payload's frames, field by field: F19 (docs/RULES.md). Assumes nothing.
 use mathlib.Core.Path.{_≡_, refl, sym, ap, _∙_}
-use mathlib.Core.Bool.{Bool, true, false, cond, not, _&&_}
-use mathlib.Core.List.{List, [], _∷_, _++_, append-assoc}
-use Prim.Native.Nat.{ℕ, zero, suc, _+_, _-_, _*_, _/_, _%_, _≤_, _<_}
+use mathlib.Core.Bool.{Bool, true, false, cond, not}
+use mathlib.Core.List.{List, [], _∷_, _++_}
+use Prim.Native.Nat.{ℕ, _+_, _-_, _/_, _%_, _≤_}
 use native.Mathlib.Omega.{arith}
 use mir.Syntax.{w8}
 use mir.Val.{toZ, ofZ}
 use lib.Dec.{eqb, leb}
-use lib.ListN.{length, drop, length-take, length-drop, length-append}
-use borrow.Author.Tests.{le-leb, leb-true}
+use lib.ListN.{length, drop, length-append}
 use Rattle.rows.specs.Rows.{flat}
 use Rattle.records.specs.Records.{bodies, bytesOf}
 use Rattle.frame.specs.declared.PtiFrame.{PtiFrame}

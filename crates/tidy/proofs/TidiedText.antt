@@ -5,18 +5,18 @@ use mathlib.Core.List.{List, [], _∷_}
 use mathlib.Core.Option.{Option, none, some}
 use Prim.Native.Nat.{ℕ, zero, suc, _<_}
 use native.Mathlib.Omega.{arith}
-use lib.Dec.{eqb, ltb}
+use lib.Dec.{eqb}
 use lib.ListN.{length, getD}
 use borrow.Author.Tests.{eqb-true, eqb-false}
 use Rattle.refusal.specs.declared.Refusal.the-variants.{Limit, Owner}
-use Rattle.text.specs.Text.{onto, split, lines, fields}
+use Rattle.text.specs.Text.{onto, lines, fields}
 use Rattle.text.specs.Place.{kindOf}
 use Rattle.text.specs.Judge.{sentence, judge}
 use Rattle.text.specs.Records.{records}
 use Rattle.text.specs.Records as records
 use Rattle.text.specs.Print.{Every}
 use Rattle.text.specs.declared.Verdict.{Verdict}
-use Rattle.text.specs.declared.Verdict.the-variants.{Accepted, Refused}
+use Rattle.text.specs.declared.Verdict.the-variants.{Refused}
 use Rattle.text.proofs.Judging.{split-some, judge-line}
 use Rattle.command_text.specs.Form.{Record, form}
 use Rattle.command_text.specs.Rules.{over, lost, rules, verdict}

@@ -1,6 +1,6 @@
 -- Texts and what they are tidied to. In comments `/` stands for a line end and `|` for a tab.
 use mathlib.Core.Path.{_≡_, refl}
-use mathlib.Core.List.{List, [], _∷_}
+use mathlib.Core.List.{[], _∷_}
 use Rattle.tidy.specs.Tidy.{tidyFrom}
 use mathlib.Core.Bool.{true}
 

@@ -1,15 +1,14 @@
 -- The key of a header has eight bits; by an accepted text and rows enough only 5, 6 and 7 refuse one. Assumes nothing.
-use mathlib.Core.Path.{_≡_, refl, sym, ap, _∙_, subst}
+use mathlib.Core.Path.{_≡_, refl, ap, _∙_, subst}
 use mathlib.Core.Bool.{Bool, true, false, cond, _&&_}
-use mathlib.Core.List.{List, [], _∷_, _++_, map}
+use mathlib.Core.List.{List, [], _∷_, map}
 use mathlib.Core.Option.{Option, none, some}
-use Prim.Native.Nat.{ℕ, _*_, _/_, _≤_, _<_}
+use Prim.Native.Nat.{ℕ, _/_, _≤_, _<_}
 use native.Mathlib.Omega.{arith}
-use lib.Dec.{eqb, leb, ltb}
+use lib.Dec.{eqb, ltb}
 use lib.ListN.{length, replicate, length-replicate}
 use borrow.Author.Tests.{leb-true, le-ltb, ltb-false}
 use Rattle.laws.proofs.Bools.{and-left, and-right}
-use Rattle.refusal.specs.declared.Refusal.{Refusal}
 use Rattle.refusal.specs.declared.Refusal.the-variants.{TooLong, TooShort}
 use Rattle.refusal.specs.Refusal.{numberOf}
 use Rattle.text.specs.Text.{lines, fields, field, worth, decimal, upTo}
@@ -32,7 +31,7 @@ use Rattle.header_rules.proofs.Run.{every-split}
 use Rattle.header.specs.declared.DecodedHeader.{DecodedHeader}
 use Rattle.header.specs.declared.Decoded.{Decoded}
 use Rattle.header.specs.declared.Decoded.the-variants.{Header, Refused}
-use Rattle.header.specs.Decode.{ofTold, judged, keyOf, toldOf, decoded, tableAfter, numberIn, Decodes}
+use Rattle.header.specs.Decode.{ofTold, judged, keyOf, toldOf, decoded, numberIn}
 use Rattle.header.proofs.Says.{decodes}
 use Rattle.totals.specs.Totals.{room}
 

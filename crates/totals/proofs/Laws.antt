@@ -7,7 +7,7 @@ use native.Mathlib.Omega.{arith}
 use mir.Syntax.{w64}
 use mir.Val.{Fits}
 use lib.Dec.{eqb, leb, ltb}
-use lib.ListN.{length, getD, take, drop, replicate, length-replicate, length-take, getD-replicate, List·getD-eq-default}
+use lib.ListN.{length, getD, take, drop, length-replicate, length-take, getD-replicate, List·getD-eq-default}
 use borrow.Author.Tests.{le-leb, lt-leb, eq-eqb, ne-eqb, ltb-true, ltb-false, not-true, not-false}
 use Rattle.refusal.specs.declared.Refusal.{Refusal}
 use Rattle.refusal.specs.declared.Refusal.the-variants.{TooLong, PastLimit, Firmware}
@@ -19,7 +19,7 @@ use Rattle.radio.proofs.SpeedLaws.{rate-low}
 use Rattle.records.specs.declared.Span.{Span}
 use Rattle.records.specs.declared.Next.{Next}
 use Rattle.records.specs.declared.Next.the-variants.{Body, NoMore}
-use Rattle.records.specs.Records.{bodiesFrom, bytesOf}
+use Rattle.records.specs.Records.{bodiesFrom}
 use Rattle.records.specs.Steps.{Follows}
 use Rattle.records.proofs.Laws.{led, body-nearer, after-fits}
 use Rattle.frame.specs.declared.Parts.{Parts}

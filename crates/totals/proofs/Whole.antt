@@ -1,12 +1,12 @@
 -- The counts by key and rate, the beams and those that were refused are the frames, each counted once (TO8). Assumes nothing.
-use mathlib.Core.Path.{_≡_, refl, sym, ap, _∙_}
-use mathlib.Core.Bool.{Bool, true, false, cond, _&&_}
+use mathlib.Core.Path.{_≡_, refl, _∙_}
+use mathlib.Core.Bool.{Bool, true, false, cond}
 use mathlib.Core.List.{List, [], _∷_}
 use Prim.Native.Nat.{ℕ, zero, suc, _+_, _*_, _≤_, _<_}
 use native.Mathlib.Omega.{arith}
 use lib.Dec.{eqb, leb, ltb}
-use lib.ListN.{length, getD, take, drop, length-replicate, getD-replicate, length-take}
-use borrow.Author.Tests.{eqb-true, eqb-false, ltb-true, ltb-false, leb-true, leb-false, lt-ltb, le-ltb, le-leb, ne-eqb}
+use lib.ListN.{length, getD, drop, length-replicate, getD-replicate, length-take}
+use borrow.Author.Tests.{eqb-true, eqb-false, ltb-true, ltb-false, leb-true, leb-false, lt-ltb, le-ltb, ne-eqb}
 use Rattle.refusal.specs.declared.Refusal.the-variants.{TooLong, Firmware}
 use Rattle.refusal.specs.Refusal.{numberOf}
 use Rattle.text.specs.Print.{Every}
@@ -29,7 +29,7 @@ use Rattle.totals.specs.declared.Added.the-variants.{Counted, Refused}
 use Rattle.totals.specs.Totals.{size, bytesAt, refusedCounts, headerCounts, beamCounts, rateIn, beamsIn, mpduIn, room, kindCounts}
 use Rattle.totals.specs.Totals.{frameCounts, amountAt, grownAt, growth, judged, addedOf, totalsAfter}
 use Rattle.totals.specs.Steps.{zeros}
-use Rattle.totals.specs.Runs.{sumBelow, counted, after, afterRun, onto, taken, growthOf, framesOf}
+use Rattle.totals.specs.Runs.{sumBelow, counted, afterRun, onto, taken, growthOf, framesOf}
 use Rattle.totals.proofs.Keys.{key-low, OnlyThree, only-three}
 use Rattle.totals.proofs.Runs.{run-sum}
 

@@ -15,8 +15,6 @@ use writer::Buffer;
 use writer::put;
 use writer::put_byte;
 use writer::put_number;
-ghost use Prim.Native.Nat.{_≤_};
-ghost use lib.ListN.{length};
 
 // The most bytes of a text of totals, and more.
 const ROOM: usize = 32768;

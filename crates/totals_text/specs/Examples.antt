@@ -1,6 +1,6 @@
 -- Totals as text, by examples.
 use mathlib.Core.Path.{_≡_, refl}
-use mathlib.Core.List.{List, [], _∷_}
+use mathlib.Core.List.{[], _∷_}
 use Rattle.numerals.specs.Numerals.{spelled}
 use Rattle.totals_text.specs.Text.{keyLine, keyLines, refusedLine}
 

@@ -15,9 +15,9 @@ ghost use mathlib.Core.Bool.{_||_};
 ghost use Prim.Native.Nat.{_-_, _≤_, _<_};
 ghost use lib.Dec.{eqb};
 ghost use lib.ListN.{length, getD};
-ghost use Rattle.text.specs.Text.{field, fields};
+ghost use Rattle.text.specs.Text.{fields};
 ghost use Rattle.append.specs.Append.{Room, Laid};
-ghost use Rattle.xml_schema.specs.Schema.{isDropped, nameOf, optionalWords, optionalNumber};
+ghost use Rattle.xml_schema.specs.Schema.{nameOf, optionalWords, optionalNumber};
 ghost use Rattle.xml_attributes.specs.Attributes.{valueFor, isAbsent, label, written, fieldAfter, digitAfter, attributesBy};
 
 fn less(n: usize, by: usize) -> usize
