@@ -57,7 +57,8 @@ module _ (v : Verdict) (l b : List ℕ) (size : ℕ) (r : Written) (b′ : List 
   is-length : n ≡ length l
   is-length = go v long (leb size (length b)) (sym e ∙ answer)
     where
-      go : (w : Verdict) → (w ≡ Accepted → size ≡ length l) → (fits : Bool) → Length n ≡ answerBy w (cond fits (Length size) (Refused (MoreBytes size)))
+      go : (w : Verdict) → (w ≡ Accepted → size ≡ length l) → (fits : Bool)
+          → Length n ≡ answerBy w (cond fits (Length size) (Refused (MoreBytes size)))
           → n ≡ length l
       go Accepted is true h = let z : n ≡ size = cc in z ∙ is refl
       go Accepted is false h = absurd (let z : _≡_ {A = ℕ} 0 1 = cc in omega arith)

@@ -150,7 +150,8 @@ module _ (t : List ℕ) (p : Place) (readable : Readable rules t p) (inside : p 
             let s = const-said fs formed (is-const is) in
             said-as (item (const (worth 0 (field 1 fs)) (field 2 fs))) _ (s .1) is refl (number-is ∙ named-value fs formed (s .0))
 
-        pub numbered-flag : kind ≡ 84 → Numbers t p (record { kind = kind; level = 0; typed = Byte; offset = 0; mask = n; shift = 0; value = 0; ascii = false })
+        pub numbered-flag : kind ≡ 84
+            → Numbers t p (record { kind = kind; level = 0; typed = Byte; offset = 0; mask = n; shift = 0; value = 0; ascii = false })
         numbered-flag is =
             let s = flag-said fs formed (is-flag is) in
             said-as (item (bitFlag (worth 0 (field 1 fs)) (field 2 fs))) _ (s .1) is refl (number-is ∙ named-value fs formed (s .0))

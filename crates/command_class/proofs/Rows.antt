@@ -245,7 +245,9 @@ module _ (t : List ℕ) (p : Place) (l : Line) (readable : Readable rules t p) (
       ap (among 84 83 75) (line-here .kind-is ∙ ap letter (same-begin kind begin) ∙ sym (begin .kind)) ∙ sym is-x ∙ e
 
   pub read-no-param : (kind : ℕ) → Begins t p kind → (kind ≡ 81 → ⊥) → eqb (l .kind) 81 ≡ false
-  read-no-param kind begin other = ne-eqb (l .kind) 81 (λ z. other (begin .kind ∙ ap letter (sym (same-begin kind begin)) ∙ sym (line-here .kind-is) ∙ ap readAs z))
+  read-no-param kind begin other =
+      ne-eqb (l .kind) 81
+      (λ z. other (begin .kind ∙ ap letter (sym (same-begin kind begin)) ∙ sym (line-here .kind-is) ∙ ap readAs z))
 
   pub read-is : (r : Row) → Tells t l r → IsRead t p (record { row = r; next = l .next })
   read-is r h =

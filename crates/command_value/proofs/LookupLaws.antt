@@ -193,7 +193,8 @@ show-start t p n r =
     record { readable = r; ascii = rw (first-array (under (from t p)), first-variant (under (from t p))) refl; name = refl }
 
 -- none of the lines is left
-known-end : (t : List ℕ) (n : ℕ) (is : List Item) (p : Place) (s : Shown) → Known t n is p s → isAscii is ≡ false → under (from t p) ≡ [] → IsShown t n is s
+known-end : (t : List ℕ) (n : ℕ) (is : List Item) (p : Place) (s : Shown) → Known t n is p s → isAscii is ≡ false
+    → under (from t p) ≡ [] → IsShown t n is s
 unfolding since
 known-end t n is p Ascii k a e = absurd k
 known-end t n is p (Named q) k a e = (a, k)

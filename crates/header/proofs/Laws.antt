@@ -199,7 +199,8 @@ module _ (t d : List ℕ) (key : ℕ) (bs : List Numbered) (fields scratch : Lis
       ≡ tableOf 7 d (definition t .sets) (reading 7 d (trees bs) (trees own))
   the-rows = rw (chosen .own .lines, chosen .own .rows) (flat-rows bs own d (definition t .sets))
 
-  pub picks-one : (speed : ℕ) (ok : Bool) (wanted : Wanted) (h : DecodedHeader) (table : List ℕ) (x : Decoded) (table′ : List ℕ) → ok ≡ right d speed
+  pub picks-one : (speed : ℕ) (ok : Bool) (wanted : Wanted) (h : DecodedHeader) (table : List ℕ) (x : Decoded) (table′ : List ℕ)
+      → ok ≡ right d speed
       → h ≡ headed c read ok → Shows t fields scratch read h wanted table x table′ → Picks t d speed key bs wanted table x table′
   picks-one speed ok wanted h table x table′ is-ok is-h shows =
       let given = gives-shown t fields scratch c read ok wanted table x table′ (chosen .named) (rw is-h at shows) in

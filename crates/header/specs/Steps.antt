@@ -69,7 +69,8 @@ abbrev pub fits : Read → List ℕ → Bool
 fits read table = leb (read .rows) (length table / rowWidth)
 
 -- the answer h, if they have room; those are written that are wanted
-pub record Shows (t fields scratch : List ℕ) (read : Read) (h : DecodedHeader) (wanted : Wanted) (table : List ℕ) (r : Decoded) (table′ : List ℕ) : Type 0
+pub record Shows (t fields scratch : List ℕ) (read : Read) (h : DecodedHeader) (wanted : Wanted) (table : List ℕ) (r : Decoded) (table′ : List ℕ)
+    : Type 0
   where
     pub answer : r ≡ cond (fits read table) (Header h) (Refused (MoreRows (read .rows)))
     pub rows : table′ ≡ cond (fits read table) (wantedIn wanted table (rowsRead t fields scratch read)) table

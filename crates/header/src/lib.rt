@@ -98,7 +98,8 @@ fn write_wanted(
     rows: &mut [u64],
 )
     requires { ⌜ (verdict (now text) ≡ Accepted) × (Ready (now fields) (now scratch) read) × (read .rows * rowWidth ≤ length (now rows)) ⌝ }
-    ensures { λ _. ⌜ now (rows .exit) ≡ wantedIn wanted (now (rows .entry)) (rowsRead (now (text .entry)) (now (fields .entry)) (now (scratch .entry)) read) ⌝ }
+    ensures { λ _. ⌜ now (rows .exit)
+        ≡ wantedIn wanted (now (rows .entry)) (rowsRead (now (text .entry)) (now (fields .entry)) (now (scratch .entry)) read) ⌝ }
 {
     match wanted {
         Wanted::All => write_rows(text, fields, read.count, scratch, read.rows, rows),

@@ -95,7 +95,8 @@ module _ (t d rows : List ℕ) (k : ℕ) (x : NextParam) (found : FindsNumbered 
 pub ruleset row-laws = (field-shown, row-none, row-shown)
 
 -- ---- value_accepted: behind `decode_row`'s answer x and the table in which that row stands
-module _ (t d : List ℕ) (region speed k : ℕ) (x : Decoded) (rows : List ℕ) (dec : Answers t d region speed (One k) (replicate {A = ℕ} 896 0) x rows) where
+module _ (t d : List ℕ) (region speed k : ℕ) (x : Decoded) (rows : List ℕ)
+    (dec : Answers t d region speed (One k) (replicate {A = ℕ} 896 0) x rows) where
   abbrev zeros : List ℕ
   zeros = replicate {A = ℕ} 896 0
 

@@ -193,7 +193,8 @@ checked-stands (Unfit x) a b s = refused-stands b x
 -- ---- a tidied text
 pub tidied-stands : (t b : List ℕ) (r : TapAnswer) (b′ : List ℕ) → ToldTidied t b r b′ → length b′ ≡ length b → Stands b′ r
 tidied-stands t b r b′ p same =
-    rw (p .told-so, p .tidies .answer) (checked-stands (verdict t) (answerIn (length (tidied t)) (length b)) b′ (written-stands (length (tidied t)) b b′ same))
+    rw (p .told-so, p .tidies .answer)
+    (checked-stands (verdict t) (answerIn (length (tidied t)) (length b)) b′ (written-stands (length (tidied t)) b b′ same))
 
 -- ---- the text of a header's row
 pub value-stands : (t d : List ℕ) (region speed k : ℕ) (b : List ℕ) (r : TapAnswer) (b′ : List ℕ)

@@ -154,7 +154,8 @@ module _ {R : Type 0} (rules : Rules R) where
           accepted-line (r .before) (p .line) (rules .form (fields l)) _
           (sym (ap (judge rules (r .before) (p .line)) e ∙ judge-line rules (r .before) (p .line) l (lines more) (split-some 10 more)) ∙ r .good)
 
-      with-line : (fs : List (List ℕ)) (l more : List ℕ) → first (left t p) ≡ ended fs more → lines (left t p) ≡ l ∷ lines more → fields l ≡ fs
+      with-line : (fs : List (List ℕ)) (l more : List ℕ) → first (left t p) ≡ ended fs more → lines (left t p) ≡ l ∷ lines more
+          → fields l ≡ fs
           → Allowed (r .before) (rules .form (fields l)) (λ x. judge rules (x ∷ r .before) (suc (p .line)) (lines more)) → Opened t p
       with-line fs l more e q f a = record {
         cells = fs;

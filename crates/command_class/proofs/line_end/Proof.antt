@@ -6,4 +6,11 @@ use Rattle.command_class.proofs.line_end.Tie as tie
 
 pub line-end-spec : {M : Type 1} → statement M
 line-end-spec =
-    tie.close (tie.spec (λ c. search (needs, end-laws)) (λ c. search (needs, end-laws)) (λ c. search (needs, end-laws)) (λ c κs. search (needs, end-laws)) (λ c. search (needs, end-laws)) (λ c. search (needs, end-laws)))
+    tie.close
+    (tie.spec
+    (λ c. search (needs, end-laws))
+    (λ c. search (needs, end-laws))
+    (λ c. search (needs, end-laws))
+    (λ c κs. search (needs, end-laws))
+    (λ c. search (needs, end-laws))
+    (λ c. search (needs, end-laws)))
