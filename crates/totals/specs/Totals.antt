@@ -57,7 +57,7 @@ abbrev pub headerCounts : ℕ → Decoded → List (ℕ × ℕ)
 headerCounts rate (header.Header h) = (keyAt (h .key) rate, 1) ∷ (wrongAt, cond (h .right) 0 1) ∷ []
 headerCounts rate (header.Refused x) = refusedCounts (numberOf x)
 
--- TO3: a beam that stands there so often
+-- TO2: a beam that stands there so often
 abbrev pub beamCounts : ℕ → List (ℕ × ℕ)
 beamCounts repeats = (beamsAt, 1) ∷ (repeatsAt, repeats) ∷ []
 
@@ -131,10 +131,11 @@ abbrev pub judged : Verdict → Added → Added
 judged text.Accepted r = r
 judged (text.Refused x) r = Refused x
 
--- TO5, R10: 13 first, then the text
+-- TO5, R10: the text, then the payload
 abbrev pub addedBy : Rules → List ℕ → ℕ → List ℕ → List ℕ → Added
 addedBy w t region s totals = judged (verdict t) (addedIn w t region s totals)
 
+-- TO5, FV2: 13 first
 abbrev pub addedOf : ℕ → Reading → List ℕ → ℕ → List ℕ → List ℕ → Added
 addedOf firmware reading t region s totals =
     cond (eqb (regionBits firmware) 0) (Refused (Firmware firmware)) (addedBy (rulesOf firmware reading) t region s totals)
