@@ -1,4 +1,4 @@
--- C9 and C13 to C17 (docs/RULES.md): the members of a repetition, the repetitions of a group, the outer list.
+-- C9, C13 to C17, D1 to D3 and L3 (docs/RULES.md): the members of a repetition, the repetitions of a group, the outer list.
 use mathlib.Core.Bool.{cond}
 use mathlib.Core.List.{List, [], _∷_, _++_}
 use Prim.Native.Nat.{ℕ, zero, suc, _+_, _-_}

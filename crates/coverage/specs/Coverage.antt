@@ -1,4 +1,4 @@
--- CV1 to CV5 (docs/RULES.md): which counts the header of a frame raises, by a frame text.
+-- CV1 to CV4 (docs/RULES.md): which counts the header of a frame raises, by a frame text.
 use mathlib.Core.Bool.{cond, _&&_}
 use mathlib.Core.List.{List, [], _∷_, _++_}
 use Prim.Native.Nat.{ℕ, zero, suc, _+_, _-_, _*_}

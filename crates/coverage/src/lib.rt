@@ -1,4 +1,4 @@
-// What frames have tried of a frame text: CV1 to CV5 of docs/RULES.md. A count for each H, P and E line and for each refusal of a header, raised frame by
+// What frames have tried of a frame text: CV1 to CV4 of docs/RULES.md. A count for each H, P and E line and for each refusal of a header, raised frame by
 // frame in counts that the caller lends.
 use header::Decoded;
 use header::MOST_NUMBERS;

@@ -1,4 +1,4 @@
--- F7 to F12, F16, FV1, FV2 and BF1 to BF4 (docs/RULES.md): the frame in a record's body. A body is the list of its bytes. The rules are over w: how many
+-- F7 to F13, F16, F17, FV1 to FV3 and BF1 to BF4 (docs/RULES.md): the frame in a record's body. A body is the list of its bytes. The rules are over w: how many
 -- bits of its byte say the region, and which records are beams.
 use mathlib.Core.Path.{_≡_}
 use mathlib.Core.Bool.{Bool, true, false, cond, not, _&&_, _||_}

@@ -1,5 +1,5 @@
--- F17, F18, FV1, FV2, FP1 to FP4 and BF2 (docs/RULES.md): the frames of a payload as rows of a table. The rules are over w: how many bits of its byte say the
--- region, and which records are beams.
+-- F17, F18, FV1 to FV3, FP1 to FP4, BF2 and BF4 (docs/RULES.md): the frames of a payload as rows of a table. The rules are over w: how many bits of its byte
+-- say the region, and which records are beams.
 use mathlib.Core.Path.{_≡_}
 use mathlib.Core.Bool.{cond}
 use mathlib.Core.List.{List, [], _∷_, _++_}

@@ -1,5 +1,5 @@
 -- T9 to T15 and T21 to T29 (docs/RULES.md) as tables: how many fields follow a letter, and what each of them must be.
--- The crate `advice` proves that they say what the forms say.
+-- proofs/advice proves that they say what the forms say.
 use Prim.Native.Nat.{ℕ}
 use mathlib.Core.Bool.{cond}
 use lib.Dec.{eqb}

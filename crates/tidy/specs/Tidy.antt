@@ -1,4 +1,4 @@
--- U2 to U4 (docs/RULES.md): a command text without U lines.
+-- U2 and U3 (docs/RULES.md): a command text without U lines.
 use Prim.Native.Nat.{ℕ}
 use mathlib.Core.Bool.{Bool, true, cond, _&&_}
 use mathlib.Core.Path.{_≡_}

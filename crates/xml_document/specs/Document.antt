@@ -1,4 +1,4 @@
--- X7 to X10 (docs/RULES.md): a document, its faults, and the text that it says.
+-- X1, X4 and X7 to X10 (docs/RULES.md): a document, its faults, and the text that it says.
 use Prim.Native.Nat.{ℕ, _+_, _-_, _%_}
 use mathlib.Core.Bool.{Bool, false, cond, not, _&&_, _||_}
 use mathlib.Core.List.{List, [], _∷_, _++_}
