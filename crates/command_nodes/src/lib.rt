@@ -110,7 +110,7 @@ fn nodes_of_row(text: &[u8], payload: &[u8], row: Row, asked: usize, nodes: &mut
     Listed::Refused(Refusal::NoSuchField(asked))
 }
 
-// The nodes of a row of a table that `decode_params` has filled; or refusal 1 to 3, 11 or 8.
+// The nodes of a row of a table that `decode_params` has filled; or refusal 1 to 3, 11, 4 or 8.
 pub fn row_nodes(text: &[u8], payload: &[u8], rows: &[u64], row: usize, nodes: &mut [u16]) -> Listed
     ensures { λ r. ⌜ LentNodes (now (text .entry)) (now (payload .entry)) (now (rows .entry)) row (now (nodes .entry)) r (now (nodes .exit)) ⌝ }
 {

@@ -89,7 +89,7 @@ fn nodes_of_row(text: &[u8], mpdu: &[u8], rows: &[u64], row: usize, nodes: &mut 
     Listed::Refused(Refusal::NoSuchField(row))
 }
 
-// The nodes of a row of a table that `decode_header` has filled; or refusal 1 to 3, 11 or 8.
+// The nodes of a row of a table that `decode_header` has filled; or refusal 1 to 3, 11, 4 or 8.
 pub fn row_nodes(text: &[u8], mpdu: &[u8], rows: &[u64], row: usize, nodes: &mut [u16]) -> Listed
     ensures { λ r. ⌜ LentNodes (now (text .entry)) (now (mpdu .entry)) (now (rows .entry)) row (now (nodes .entry)) r (now (nodes .exit)) ⌝ }
 {
