@@ -17,7 +17,7 @@
  *   3  a line of the text is out of place: no owner, no parent, a size path
  *      below level 0, a shift over 7                                                its number
  *   4  too long: a payload over 65,535 bytes; a body, an MPDU or a command
- *      over 2,048                                                                   its length
+ *      over 2,048; a mask over 8,191                                                its length
  *   5  too short: an MPDU or a command of 0 or 1 byte                               its length
  *   6  no B has the base key that is sought                                         that key
  *   7  no candidate holds                                                           0

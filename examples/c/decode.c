@@ -13,7 +13,7 @@ enum { FIRMWARE = 2 };
 /* Beams are a family of their own: an ordinary frame may start with their marker. */
 enum { FAMILY = true };
 
-enum { LONGEST_TEXT = 60000, LONGEST_PAYLOAD = 65535, FRAMES = 2978, HEADER_ROWS = 128, COMMAND_ROWS = 4096, NODES = 256, LONGEST_VALUE = 6138 };
+enum { LONGEST_TEXT = 60000, LONGEST_PAYLOAD = 65535, FRAMES = 2978, HEADER_ROWS = 128, COMMAND_ROWS = 512, NODES = 256, LONGEST_VALUE = 6138 };
 
 static uint8_t frame_text[LONGEST_TEXT + 1];
 static uint8_t given_text[LONGEST_TEXT + 1];
