@@ -1,23 +1,20 @@
 -- Laws on reading a Q line by the tabs between its fields. Assumes nothing.
 use mathlib.Core.Path.{_≡_, refl, sym, ap, _∙_}
-use mathlib.Core.Bool.{true, false, _&&_, not}
+use mathlib.Core.Bool.{true, false}
 use mathlib.Core.List.{List, [], _∷_}
 use mathlib.Core.Option.{some}
-use Prim.Native.Nat.{ℕ, _+_, _-_, _*_, _≤_, _<_}
+use Prim.Native.Nat.{ℕ, _+_, _-_, _≤_, _<_}
 use native.Mathlib.Omega.{arith}
-use lib.Dec.{eqb, leb}
+use lib.Dec.{eqb}
 use lib.ListN.{length, take, drop}
-use lib.Seq.{drop-drop}
-use borrow.Author.Tests.{eqb-true, eq-eqb, leb-true}
-use Rattle.text.specs.Text.{field, worth, decimal, within, upTo, value, optionalUpTo}
-use Rattle.text.specs.Scan.{cut}
-use Rattle.text.specs.Place.{left, kindOf, Passes}
+use borrow.Author.Tests.{eqb-true, leb-true}
+use Rattle.text.specs.Text.{field, worth, decimal, value, optionalUpTo}
+use Rattle.text.specs.Place.{kindOf, Passes}
 use Rattle.text.specs.Fields.{fieldsAt, FieldEnds, LineEnds}
 use Rattle.text.specs.Records.{Readable}
 use Rattle.text.specs.declared.Place.{Place}
-use Rattle.text.proofs.Laws.{worth-grows}
-use Rattle.text.proofs.Fields.{field-room, short-ended, Stands, stands-many, stands-field, stands-is, stands-next}
-use Rattle.text.proofs.Tests.{and-left, and-right, value-of}
+use Rattle.text.proofs.Fields.{field-room, short-ended, Stands, stands-many, stands-field, stands-is, stands-next, ended-passes}
+use Rattle.text.proofs.Tests.{and-left, and-right, value-of, digit-long}
 use Rattle.command_text.specs.Form.{param, typeOf, known, paramWords, paramCondition, paramFields, paramForm, paramOf, form}
 use Rattle.command_text.specs.Rules.{rules}
 use Rattle.command_text.specs.declared.ParamType.{ParamType}
@@ -28,20 +25,6 @@ use Rattle.command_class.specs.declared.Condition.{Condition}
 use Rattle.command_class.proofs.Finding.{read-other}
 use Rattle.command_class.proofs.Rows.{or-missing, param-good, read-numbers}
 use Rattle.command_class.proofs.Numbering.{fs, formed, kind-is, behind-kind, said-as}
-
--- a number of at most 1 is one digit
-digit-long : (l : List ℕ) → upTo 1 l ≡ true → length l ≡ 1
-digit-long [] e = absurd (let z : _≡_ {A = ℕ} 0 1 = cc in omega arith)
-digit-long (x ∷ []) e = refl
-digit-long (x ∷ y ∷ ys) e =
-    let d : (not (eqb x 48) && within 48 57 (x ∷ y ∷ ys)) ≡ true = and-left (decimal (x ∷ y ∷ ys)) (leb (worth 0 (x ∷ y ∷ ys)) 1) e in
-    let w : worth 0 (x ∷ y ∷ ys) ≤ 1 = leb-true _ _ (and-right (decimal (x ∷ y ∷ ys)) (leb (worth 0 (x ∷ y ∷ ys)) 1) e) in
-    let l : 48 ≤ x = leb-true 48 x (and-left (leb 48 x) _ (and-right (not (eqb x 48)) (within 48 57 (x ∷ y ∷ ys)) d)) in
-    let n : x ≡ 48 → ⊥ = λ z. no-zero (and-left (not (eqb x 48)) (within 48 57 (x ∷ y ∷ ys)) d) (eq-eqb x 48 z) in
-    absurd (omega (arith, w, l, n, worth-grows ((0 * 10 + (x - 48)) * 10 + (y - 48)) ys))
-  where
-    no-zero : not (eqb x 48) ≡ true → eqb x 48 ≡ true → ⊥
-    no-zero p q = let z : false ≡ true = rw q at p in let w : _≡_ {A = ℕ} 0 1 = cc in omega arith
 
 -- ---- the last two fields
 module _ (t : List ℕ) (a : ℕ) (two : length (fieldsAt t a) ≡ 2) where
@@ -93,7 +76,8 @@ module _ (t : List ℕ) (p : Place) (readable : Readable rules t p) (inside : p 
   level-ends : FieldEnds t (p .at + 2) (p .at + 3)
   level-ends =
       let s : length (field 0 (fieldsAt t (p .at + 2))) ≡ 1 =
-      ap length (stands-is t p gs 1 (p .at + 2) stands-level) ∙ digit-long (field 1 gs) (param-level gs asked-fields) in
+      ap length (stands-is t p gs 1 (p .at + 2) stands-level) ∙ digit-long (field 1 gs) (and-left (decimal (field 1 gs)) _ (param-level gs asked-fields))
+      (omega (arith, leb-true (worth 0 (field 1 gs)) 1 (and-right (decimal (field 1 gs)) _ (param-level gs asked-fields)))) in
       let z : p .at + 2 + 1 ≡ p .at + 3 = omega arith in
       rw z at (short-ended t (p .at + 2) (omega (arith, six, stands-many t p gs 1 (p .at + 2) stands-level)) s)
 
@@ -129,15 +113,7 @@ module _ (t : List ℕ) (p : Place) (readable : Readable rules t p) (inside : p 
       module _ (c : Condition) (condition : IsCondition t (n + 1) c) where
         -- the line ends where its last field does
         passes : Passes t p (record { at = c .end + 1; line = p .line + 1 })
-        passes =
-            let z : c .end ≡ p .at + cut 10 (left t p) = condition .end ∙ stands-condition .line in
-            let y : c .end + 1 ≡ p .at + (cut 10 (left t p) + 1) = omega (arith, z) in
-            record {
-              says = ap (λ (k : ℕ). drop k t) y ∙ sym (drop-drop (cut 10 (left t p) + 1) (p .at) t);
-              count = refl;
-              on = omega (arith, z);
-              within = record { at-in = omega (arith, condition .inside); line-in = omega (arith, z, readable .inn .line-in) };
-            }
+        passes = ended-passes t p (c .end) (readable .inn) (condition .end ∙ stands-condition .line) (condition .inside)
 
         pub param-read : (v : ℕ) (type : ParamType) → v ≡ value 1 (take (p .at + 3 - (p .at + 2)) (drop (p .at + 2) t))
             → typeOf (take (e - (p .at + 4)) (drop (p .at + 4) t)) ≡ Is type → IsRead t p (record {

@@ -10,7 +10,7 @@ ghost use mathlib.Core.Bool.{true, false};
 ghost use Prim.Native.Nat.{_<_};
 ghost use lib.Dec.{eqb};
 ghost use lib.ListN.{length};
-ghost use Rattle.text.specs.Fields.{fieldsAt, LineEnds};
+ghost use Rattle.text.specs.Fields.{fieldsAt};
 ghost use Rattle.text.specs.Records.{Readable};
 ghost use Rattle.command_text.specs.Form.{typeOf, known};
 ghost use Rattle.command_text.specs.Rules.{rules};
@@ -182,14 +182,6 @@ fn is_numbered(kind: u8) -> bool
     kind == b'K'
 }
 
-// Where the last field of a line ends, which begins at `at`: with the line.
-fn line_end(text: &[u8], at: usize) -> usize
-    requires { ⌜ length (fieldsAt (now text) at) ≡ 1 ⌝ }
-    ensures { λ r. ⌜ LineEnds (now (text .entry)) at r ⌝ }
-{
-    at + text::find(&text[at..], 10)
-}
-
 // The last two fields of a Q line, which begin at `at`.
 fn read_condition(text: &[u8], at: usize) -> Condition
     requires { ⌜ length (fieldsAt (now text) at) ≡ 2 ⌝ }
@@ -197,7 +189,7 @@ fn read_condition(text: &[u8], at: usize) -> Condition
 {
     let offset_end = text::field_end(text, at);
     let mask = offset_end + 1;
-    let end = line_end(text, mask);
+    let end = text::line_end(text, mask);
     Condition {
         offset: or_missing(&text[at..offset_end]),
         mask: or_missing(&text[mask..end]),
@@ -353,6 +345,6 @@ pub fn const_name(text: &[u8], place: Place) -> &[u8]
     }
     let at = place.at + 2;
     let name = text::field_end(text, at) + 1;
-    let end = line_end(text, name);
+    let end = text::line_end(text, name);
     &text[name..end]
 }

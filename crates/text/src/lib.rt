@@ -6,6 +6,7 @@ mod numbers;
 mod scan;
 
 pub use lines::field_end;
+pub use lines::line_end;
 pub use names::is_given;
 pub use names::is_missing;
 pub use names::is_name;
