@@ -5,9 +5,11 @@ use mathlib.Core.Path.{_≡_}
 use mathlib.Core.List.{List, [], _∷_}
 use mathlib.Core.Option.{Option, none, some}
 use lib.Dec.{eqb, leb}
-use lib.ListN.{length}
+use lib.ListN.{length, drop}
 use Rattle.text.specs.Text.{field, lines, same, value}
 use Rattle.text.specs.Place.{kindOf, left, cells, Marked, partOf, IsPart, IsOptionalPart}
+use Rattle.text.specs.Scan.{cut}
+use Rattle.text.specs.Fields.{fieldsAt}
 use Rattle.text.specs.Records.{rest, Readable}
 use Rattle.text.specs.declared.Place.{Place}
 use Rattle.text.specs.declared.Line.{Line}
@@ -23,8 +25,9 @@ use Rattle.frame_definition.specs.Definition.{candidates, firstSet, para
 use Rattle.frame_definition.specs.Names.{nameFrom, headerName}
 use Rattle.frame_definition.specs.declared.Found.{Found}
 use Rattle.frame_definition.specs.declared.Found.the-variants as found
-use Rattle.frame_definition.specs.declared.Numbers.{Numbers}
-use Rattle.frame_definition.specs.declared.Paths.{Paths}
+use Rattle.frame_definition.specs.declared.params.Numbers.{Numbers}
+use Rattle.frame_definition.specs.declared.params.Paths.{Paths}
+use Rattle.frame_definition.specs.declared.params.ParamLine.{ParamLine}
 use Rattle.frame_definition.specs.declared.Field.{Field}
 use Rattle.frame_definition.specs.declared.NextParam.{NextParam}
 use Rattle.frame_definition.specs.declared.NextParam.the-variants as nextParam
@@ -89,18 +92,23 @@ ownerKind kind = eqb kind 0x46 || (eqb kind 0x42 || (eqb kind 0x48 || eqb kind 0
 abbrev pub NextOf : List ℕ → Place → ℕ → Under → Type 0
 NextOf t p kind r = Next owns (ofKind kind) rules from t p r
 
--- the numbers of a P line
-pub record HasNumbers (fs : List (List ℕ)) (r : Numbers) : Type 0 where
-  pub level : r .level ≡ value 7 (field 1 fs)
-  pub order : r .order ≡ value 65535 (field 2 fs)
-  pub bits : r .bits ≡ value 255 (field 3 fs)
+-- the numbers of a P line, the first of which begins at a, and where the last ends
+pub record HasNumbers (t : List ℕ) (a : ℕ) (r : Numbers) : Type 0 where
+  pub level : r .level ≡ value 7 (field 0 (fieldsAt t a))
+  pub order : r .order ≡ value 65535 (field 1 (fieldsAt t a))
+  pub bits : r .bits ≡ value 255 (field 2 (fieldsAt t a))
+  pub next : fieldsAt t (r .end + 1) ≡ drop 3 (fieldsAt t a)
+  pub line : r .end + 1 + cut 0x0a (drop (r .end + 1) t) ≡ a + cut 0x0a (drop a t)
+  pub inside : r .end < length t
 
--- the names and paths of a P line
-pub record HasPaths (t : List ℕ) (fs : List (List ℕ)) (r : Paths) : Type 0 where
-  pub name : IsPart t (field 5 fs) (r .name)
-  pub set : IsOptionalPart t (field 6 fs) (r .set)
-  pub optional : IsOptionalPart t (field 7 fs) (r .optional)
-  pub size : IsOptionalPart t (field 8 fs) (r .size)
+-- the names and paths of a P line, the first of which begins at a, and where the line ends
+pub record HasPaths (t : List ℕ) (a : ℕ) (r : Paths) : Type 0 where
+  pub name : IsPart t (field 0 (fieldsAt t a)) (r .name)
+  pub set : IsOptionalPart t (field 1 (fieldsAt t a)) (r .set)
+  pub optional : IsOptionalPart t (field 2 (fieldsAt t a)) (r .optional)
+  pub size : IsOptionalPart t (field 3 (fieldsAt t a)) (r .size)
+  pub end : r .end ≡ a + cut 0x0a (drop a t)
+  pub inside : r .end < length t
 
 -- what a part of the text says that may have no bytes
 abbrev pub heard : {A : Type 0} → (List ℕ → A) → List ℕ → Part → Option A
@@ -118,6 +126,12 @@ meant t f = record {
   optional = heard names t (f .optional);
   size = heard names t (f .size);
 }
+
+-- the P line at p, and the place behind it
+pub record IsParamLine (t : List ℕ) (p : Place) (r : ParamLine) : Type 0 where
+  pub rest-is : from t p ≡ param (meant t (r .field)) ∷ from t (r .next)
+  pub readable : Readable rules t (r .next)
+  pub on : p .at < r .next .at
 
 -- the next P line of number n under the owner of what follows p
 pub record IsParam (t : List ℕ) (p q : Place) (n : ℕ) (f : Field) : Type 0 where
@@ -139,6 +153,16 @@ pub record IsValidation (t : List ℕ) (p q : Place) (path : Part) (v : ℕ) : T
   pub first : validations (below (from t p)) ≡ record { path = names (partOf t path); value = v } ∷ validations (below (from t q))
   pub readable : Readable rules t q
   pub on : p .at < q .at
+
+-- the V line at p, and the place behind it
+pub record SaysValidation (t : List ℕ) (p q : Place) (path : Part) (v : ℕ) : Type 0 where
+  pub rest-is : from t p ≡ validation (names (partOf t path)) v ∷ from t q
+  pub readable : Readable rules t q
+  pub on : p .at < q .at
+
+abbrev pub IsValidationLine : List ℕ → Place → NextValidation → Type 0
+IsValidationLine t p (nextValidation.At path v q) = SaysValidation t p q path v
+IsValidationLine t p nextValidation.Nothing = ⊥
 
 abbrev pub FindsValidation : List ℕ → Place → NextValidation → Type 0
 FindsValidation t p (nextValidation.At path v q) = IsValidation t p q path v

@@ -1,17 +1,17 @@
 // The definition that an accepted frame text stands for, and looking things up in it: every loop reads on from a place where a line begins.
 // Counterpart of frame_definition/schema.rs.
 mod numbered;
+mod params;
 mod sets;
 
 use frame_text::ParamType;
-use frame_text::Typed;
+use params::read_param;
 use text::Line;
 use text::Optional;
 use text::Part;
 use text::Place;
 use text::Under;
 ghost use mathlib.Core.Path.{_≡_};
-ghost use mathlib.Core.Option.{some};
 ghost use Prim.Native.Nat.{_<_};
 ghost use lib.Dec.{eqb};
 ghost use lib.ListN.{length, getD};
@@ -19,11 +19,10 @@ ghost use Rattle.text.specs.Text.{field, value as valueOf};
 ghost use Rattle.text.specs.Place.{cells, Passes};
 ghost use Rattle.text.specs.Records.{Readable};
 ghost use Rattle.text.specs.declared.Verdict.the-variants.{Accepted};
-ghost use Rattle.frame_text.specs.Form.{param, typeOf, form};
 ghost use Rattle.frame_text.specs.Rules.{rules, verdict};
 ghost use Rattle.frame_definition.specs.Definition.{below, validations, definition, baseKey, some?};
-ghost use Rattle.frame_definition.specs.Find.{Good, oneMore, least, FindsBase, ownerKind, NextOf, HasNumbers, HasPaths, meant, FindsParam};
-ghost use Rattle.frame_definition.specs.Find.{FindsValidation, from, HasFlags, based, IsRead, Counted, FindsCandidate};
+ghost use Rattle.frame_definition.specs.Find.{Good, oneMore, least, FindsBase, ownerKind, NextOf, FindsParam};
+ghost use Rattle.frame_definition.specs.Find.{FindsValidation, IsValidationLine, from, HasFlags, based, IsRead, Counted, FindsCandidate};
 pub use numbered::find_param;
 pub use sets::find_entry;
 pub use sets::find_set;
@@ -206,79 +205,6 @@ fn next_under(text: &[u8], from: Place, kind: u8) -> Under
     Under::Nothing
 }
 
-// The numbers of a P line.
-struct Numbers {
-    level: u16,
-    order: u16,
-    bits: u16,
-}
-
-// Where the names and paths of a P line stand.
-struct Paths {
-    name: Part,
-    set: Part,
-    optional: Part,
-    size: Part,
-}
-
-fn read_numbers(text: &[u8], line: Line) -> Numbers
-    requires { ⌜ (Good (now text) line) × (line .kind ≡ 80) ⌝ }
-    ensures { λ r. ⌜ HasNumbers (cells (now (text .entry)) line) r ⌝ }
-{
-    Numbers {
-        level: line.value(text, 1, 7),
-        order: line.value(text, 2, 65535),
-        bits: line.value(text, 3, 255),
-    }
-}
-
-fn read_paths(text: &[u8], line: Line) -> Paths
-    requires { ⌜ (Good (now text) line) × (line .kind ≡ 80) ⌝ }
-    ensures { λ r. ⌜ HasPaths (now (text .entry)) (cells (now (text .entry)) line) r ⌝ }
-{
-    Paths {
-        name: line.part(text, 5),
-        set: line.optional_part(text, 6),
-        optional: line.optional_part(text, 7),
-        size: line.optional_part(text, 8),
-    }
-}
-
-// The type that field 4 names.
-fn read_kind(text: &[u8], line: Line) -> ParamType
-    requires { ⌜ (Good (now text) line) × (line .kind ≡ 80) ⌝ }
-    ensures { λ r. ⌜ typeOf (field 4 (cells (now (text .entry)) line)) ≡ Typed.Is r ⌝ }
-{
-    match frame_text::read_type(line.field(text, 4)) {
-        Typed::Is(kind) => kind,
-        Typed::Not => ParamType::Hex,
-    }
-}
-
-// What a P line says.
-fn read_field(text: &[u8], line: Line) -> Field
-    requires { ⌜ (Good (now text) line) × (line .kind ≡ 80) ⌝ }
-    ensures { λ r. ⌜ form (cells (now (text .entry)) line) ≡ some (param (meant (now (text .entry)) r)) ⌝ }
-{
-    let numbers = read_numbers(text, line);
-    let paths = read_paths(text, line);
-    let kind = read_kind(text, line);
-    let name = paths.name;
-    let set = paths.set;
-    let optional = paths.optional;
-    let size = paths.size;
-    Field {
-        level: numbers.level,
-        order: numbers.order,
-        bits: numbers.bits,
-        kind,
-        name,
-        set,
-        optional,
-        size,
-    }
-}
-
 // The next P line under the owner of what follows the place; n P lines come before it in the text.
 pub fn next_param(text: &[u8], place: Place, n: usize) -> NextParam
     requires { ⌜ Readable rules (now text) place ⌝ }
@@ -287,12 +213,10 @@ pub fn next_param(text: &[u8], place: Place, n: usize) -> NextParam
     let Under::At(at) = next_under(text, place, b'P') else {
         return NextParam::Nothing;
     };
-    let line = at.step(text);
+    let line = read_param(text, at);
+    let field = line.field;
     let next = line.next;
-    NextParam::At {
-        field: read_field(text, line),
-        place: next,
-    }
+    NextParam::At { field, place: next }
 }
 
 // The next V line under the owner of what follows the place.
@@ -303,12 +227,26 @@ pub fn next_validation(text: &[u8], place: Place) -> NextValidation
     let Under::At(at) = next_under(text, place, b'V') else {
         return NextValidation::Nothing;
     };
-    let line = at.step(text);
-    let next = line.next;
+    read_validation(text, at)
+}
+
+// The V line at a place. Its fields are its path and its value: a tab ends the one, the line's end the other.
+fn read_validation(text: &[u8], place: Place) -> NextValidation
+    requires { ⌜ (Readable rules (now text) place) × (place .at < length (now text)) × (getD (now text) (place .at) 0 ≡ 86) ⌝ }
+    ensures { λ r. ⌜ IsValidationLine (now (text .entry)) place r ⌝ }
+{
+    let line = place.line + 1;
+    let path = place.at + 2;
+    let path_end = text::field_end(text, path);
+    let value = path_end + 1;
+    let end = text::line_end(text, value);
     NextValidation::At {
-        path: line.part(text, 1),
-        value: line.value(text, 2, 65535),
-        place: next,
+        path: Part {
+            start: path,
+            len: path_end - path,
+        },
+        value: text::read_value(&text[value..end], 65535),
+        place: Place { at: end + 1, line },
     }
 }
 
