@@ -1,11 +1,12 @@
 -- Laws by which the field reader, the inner-list reader and the outer list meet their contracts. Assumes nothing.
 use mathlib.Core.Path.{_≡_, refl, sym, ap, _∙_}
 use mathlib.Core.Bool.{Bool, true, false, cond}
-use mathlib.Core.List.{List, [], _∷_}
+use mathlib.Core.List.{List, [], _∷_, _++_}
 use Prim.Native.Nat.{ℕ, zero, suc, _+_, _-_, _*_, _≤_, _<_}
 use native.Mathlib.Numerals.{sub-one}
 use native.Mathlib.Omega.{arith}
-use lib.ListN.{length, length-append}
+use lib.ListN.{length, take, length-append}
+use lib.Seq.{take-append-seam}
 use mir.Syntax.{w64}
 use mir.Val.{Fits}
 use borrow.Author.Tests.{le-leb, lt-leb}
@@ -13,15 +14,17 @@ use Rattle.frame_text.specs.Form.{Param}
 use Rattle.frame_definition.specs.Definition.{Numbered}
 use Rattle.header_fields.specs.Fields.{levelIn, paramAt, fieldsIn}
 use Rattle.header_rules.specs.Rows.{Row}
-use Rattle.header_rules.specs.Flat.{rowAt, flatField, flatPacked, flatListed}
+use Rattle.header_rules.specs.Flat.{rowAt, flatWidth, flatExists, flatField, flatPacked, flatListed}
 use Rattle.header_rules.specs.Flat as flat
-use Rattle.header_rules.specs.Loaded.{insideOf, since, innerOf, outerFrom, walkedFrom}
+use Rattle.header_rules.specs.Loaded.{lineOf, nameOf, insideOf, innerOf, outerFrom, walkedFrom}
+use Rattle.header_rules.specs.Span.{extentAt, extentsAt}
+use Rattle.header_rules.proofs.Span.{Grows, grow-length, inside-extents, outer-extents, field-grows, walked-grows}
 use Rattle.header_paths.specs.Scratch.{scratchWidth, rowsIn}
 use Rattle.header_paths.specs.declared.order.Next.{Next}
 use Rattle.header_paths.specs.declared.order.Next.the-variants.{At, Done}
 use Rattle.header_paths.specs.Order.{listFrom, IsNext}
-use Rattle.header_paths.proofs.Fields.{said-in, since-is, fields-length}
-use Rattle.header_paths.proofs.Scratch.{length-rowsIn}
+use Rattle.header_paths.proofs.Fields.{said-in, fields-length}
+use Rattle.header_paths.proofs.Scratch.{length-rowsIn, rowsIn-take}
 use Rattle.header_paths.proofs.Choice.{rest, from-zero, Chosen, chosen, none-left}
 use Rattle.header_walk.specs.declared.Extent.{Extent}
 use Rattle.header_walk.specs.declared.Extent.the-variants as extent
@@ -29,15 +32,30 @@ use Rattle.header_walk.specs.declared.Field.{Field}
 use Rattle.header_walk.specs.declared.Field.the-variants.{Read, Missing}
 use Rattle.header_walk.specs.declared.Walked.{Walked}
 use Rattle.header_walk.specs.Walk.{Holds, Walks}
-use Rattle.header_walk.specs.Steps.{Laid, Absent, Lays, fieldDone, fieldRead, innerDone, ext, Reads, Fills}
+use Rattle.header_walk.specs.Steps.{Laid, Absent, Lays, fieldDone, fieldRead, innerDone, Reads, Fills}
 use Rattle.header_walk.proofs.Exists.{exists-within}
-use Rattle.header_walk.proofs.Room.{sumExt, ext-pos, sum-inner, sum-outer, packed, wide, withRow, listed, field-length, listed-grows, kept}
-use Rattle.header_walk.proofs.Room as room
+
+-- ---- the flat walk of loaded lines, shortly
+
+abbrev packed : List Numbered → List ℕ → (ℕ → ℕ → List Row → List Row) → List ℕ → ℕ → ℕ → List Row → List Row
+packed ps d after js end room done = flatPacked (lineOf ps) (insideOf ps) (nameOf ps) d after js end room done
+
+abbrev there : List Numbered → List ℕ → ℕ → ℕ → ℕ → List Row → Bool
+there ps d i s p done = flatExists (lineOf ps) (insideOf ps) (nameOf ps) d i s p done
+
+abbrev wide : List Numbered → List ℕ → ℕ → ℕ → List Row → ℕ
+wide ps d i p done = flatWidth (lineOf ps) (insideOf ps) (nameOf ps) d i p done
+
+abbrev withRow : List Numbered → List ℕ → ℕ → ℕ → ℕ → List Row → List Row
+withRow ps d i s p done = done ++ (rowAt d i p s (wide ps d i p done) ∷ [])
+
+abbrev listed : List Numbered → List ℕ → List ℕ → ℕ → List Row → flat.Walked
+listed ps d js s done = flatListed (lineOf ps) (insideOf ps) (nameOf ps) d 7 js s done
 
 -- ---- one field
 
 module _ (ps : List Numbered) (d : List ℕ) (left i s p : ℕ) (done : List Row) where
-  done-none : room.there ps d i s p done ≡ false → fieldDone ps d left i s p done ≡ done
+  done-none : there ps d i s p done ≡ false → fieldDone ps d left i s p done ≡ done
   unfolding flatField
   done-none e = go left
     where
@@ -96,8 +114,8 @@ module _ (ps : List Numbered) (d u u′ : List ℕ) (left i s p n : ℕ) (r : Ex
         record { answer = rw (answer-is, q, f .count) refl; rows = rw q (f .rows) }
 
 -- a table with room for a field has room for its row, and for those inside it behind that
-pub row-room : (ps : List Numbered) (i n l : ℕ) → (n + ext ps i) * scratchWidth ≤ l → (n + 1) * scratchWidth ≤ l
-row-room ps i n l h = let e = ext-pos ps i in omega arith
+pub row-room : (ps : List Numbered) (i n l : ℕ) → (n + extentAt ps i) * scratchWidth ≤ l → (n + 1) * scratchWidth ≤ l
+row-room ps i n l h = let e = inside-extents ps i in omega arith
 
 -- ---- the answer of a field
 
@@ -105,15 +123,15 @@ module _ (ps : List Numbered) (d u u′ : List ℕ) (left i s p n : ℕ) (f : Fi
     (a : Reads u′ (fieldRead ps d left i s p (rowsIn u n)) (fieldDone ps d left i s p (rowsIn u n)) f) where
   -- one that was read
   pub record WasRead (m w : ℕ) : Type 0 where
-    pub exists : room.there ps d i s p (rowsIn u n) ≡ true
+    pub exists : there ps d i s p (rowsIn u n) ≡ true
     pub width-is : w ≡ wide ps d i p (rowsIn u n)
     pub rows : rowsIn u′ m ≡ fieldDone ps d left i s p (rowsIn u n)
 
   read : (m w : ℕ) → f ≡ Read m w → WasRead m w
   unfolding fieldRead
-  read m w e = go (room.there ps d i s p (rowsIn u n)) refl (sym e ∙ a .answer)
+  read m w e = go (there ps d i s p (rowsIn u n)) refl (sym e ∙ a .answer)
     where
-      go : (b : Bool) → room.there ps d i s p (rowsIn u n) ≡ b
+      go : (b : Bool) → there ps d i s p (rowsIn u n) ≡ b
           → Read m w ≡ cond b (Read (length (fieldDone ps d left i s p (rowsIn u n))) (wide ps d i p (rowsIn u n))) Missing → WasRead m w
       go true x q =
           let k : m ≡ length (fieldDone ps d left i s p (rowsIn u n)) = cc in
@@ -122,9 +140,9 @@ module _ (ps : List Numbered) (d u u′ : List ℕ) (left i s p n : ℕ) (f : Fi
       go false x q = let z : _≡_ {A = ℕ} 0 1 = cc in absurd (omega arith)
 
   -- one that is missing
-  missing-not : f ≡ Missing → room.there ps d i s p (rowsIn u n) ≡ false
+  missing-not : f ≡ Missing → there ps d i s p (rowsIn u n) ≡ false
   unfolding fieldRead
-  missing-not e = go (room.there ps d i s p (rowsIn u n)) (sym e ∙ a .answer)
+  missing-not e = go (there ps d i s p (rowsIn u n)) (sym e ∙ a .answer)
     where
       go : (b : Bool) → Missing ≡ cond b (Read (length (fieldDone ps d left i s p (rowsIn u n))) (wide ps d i p (rowsIn u n))) Missing → b ≡ false
       go true q = let z : _≡_ {A = ℕ} 0 1 = cc in absurd (omega arith)
@@ -155,11 +173,12 @@ pub record Going (x t d : List ℕ) (count left i end width n : ℕ) (u₀ u : L
   pub rows : packed (fieldsIn x t count) d (λ j s rs. fieldDone (fieldsIn x t count) d left j s n rs) (rest x t count level (i + 1) order place) bit room
       (rowsIn u next)
       ≡ innerDone (fieldsIn x t count) d left i end width (rowsIn u₀ n)
-  pub fits : (next + sumExt (fieldsIn x t count) (rest x t count level (i + 1) order place)) * scratchWidth ≤ length u
+  pub fits : (next + extentsAt (fieldsIn x t count) (rest x t count level (i + 1) order place)) * scratchWidth ≤ length u
   pub level-is : level + left ≡ 7
   pub room-left : room ≤ bit
   pub bit-in : bit ≤ length d * 8
   pub place-in : place ≤ 128
+  pub behind : n ≤ next
   pub same : length u ≡ length u₀
 
 inner-is : (x t : List ℕ) (count i : ℕ) → i < count → innerOf (fieldsIn x t count) i ≡ listFrom (fieldsIn x t count) (levelIn t i + 1) (i + 1)
@@ -167,12 +186,12 @@ unfolding innerOf insideOf listFrom paramAt
 inner-is x t count i h = ap (λ (q : Param). listFrom (fieldsIn x t count) (q .level + 1) (i + 1)) (said-in x t count i h)
 
 module _ (x t d : List ℕ) (count left i end width n : ℕ) (u₀ : List ℕ) where
-  pub going-starts : (n + ext (fieldsIn x t count) i) * scratchWidth ≤ length u₀ + scratchWidth → i < count → levelIn t i + left + 1 ≡ 7
+  pub going-starts : (n + extentAt (fieldsIn x t count) i) * scratchWidth ≤ length u₀ + scratchWidth → i < count → levelIn t i + left + 1 ≡ 7
       → width ≤ end → end ≤ length d * 8
       → Going x t d count left i end width n u₀ u₀ (7 - left) 0 0 width end n
-  unfolding innerDone
+  unfolding innerDone innerOf
   going-starts h h2 l h3 h4 =
-      let a = sum-inner (fieldsIn x t count) i in
+      let a = inside-extents (fieldsIn x t count) i in
       let k : 7 - left ≡ levelIn t i + 1 = omega arith in
       let b : rest x t count (7 - left) (i + 1) 0 0 ≡ innerOf (fieldsIn x t count) i =
       from-zero (fieldsIn x t count) (listFrom (fieldsIn x t count) (7 - left) (i + 1)) ∙ rw k (sym (inner-is x t count i h2)) in
@@ -183,6 +202,7 @@ module _ (x t d : List ℕ) (count left i end width n : ℕ) (u₀ : List ℕ) w
         room-left = h3;
         bit-in = h4;
         place-in = omega arith;
+        behind = omega arith;
         same = refl;
       }
 
@@ -204,8 +224,8 @@ module _ (x t d : List ℕ) (count left i end width n : ℕ) (u₀ : List ℕ) w
       unfolding flatPacked
       inner-full l few h = ended (rw (is few h .then, is few h .bits-is, lt-leb w room l) at (g .rows))
 
-      pub inner-room : count ≤ 128 → i < count → (next + ext (fieldsIn x t count) j) * scratchWidth ≤ length u
-      unfolding sumExt
+      pub inner-room : count ≤ 128 → i < count → (next + extentAt (fieldsIn x t count) j) * scratchWidth ≤ length u
+      unfolding extentsAt
       inner-room few h = let q = rw (is few h .then) at (g .fits) in omega arith
 
       pub inner-less : count ≤ 128 → i < count → length (rest x t count level (i + 1) o (j + 1)) < length (rest x t count level (i + 1) order place)
@@ -216,12 +236,14 @@ module _ (x t d : List ℕ) (count left i end width n : ℕ) (u₀ : List ℕ) w
         going-on : w ≤ room → length u′ ≡ length u → count ≤ 128 → i < count → (m : ℕ)
             → rowsIn u′ m ≡ fieldDone (fieldsIn x t count) d left j (bit - w) n (rowsIn u next)
             → Going x t d count left i end width n u₀ u′ level o (j + 1) (room - w) (bit - w) m
-        unfolding flatPacked sumExt
+        unfolding flatPacked extentsAt
         going-on l len few h m em =
             let q = rw (is few h .then) at (g .fits) in
-            let b = field-length (fieldsIn x t count) d left j (bit - w) n (rowsIn u next) in
-            let k : m ≡ length (fieldDone (fieldsIn x t count) d left j (bit - w) n (rowsIn u next)) = sym (length-rowsIn u′ m) ∙ ap length em in
+            let o₀ = g .behind in
             let k₀ = length-rowsIn u next in
+            let b = field-grows (fieldsIn x t count) d left j (bit - w) n (rowsIn u next) (omega arith) in
+            let b₁ = b .few in
+            let k : m ≡ length (rowsIn u next) + length (b .more) = sym (length-rowsIn u′ m) ∙ ap length em ∙ grow-length _ _ _ _ b in
             let rl = g .room-left in
             let bi = g .bit-in in
             let v = is few h .within in
@@ -232,6 +254,7 @@ module _ (x t d : List ℕ) (count left i end width n : ℕ) (u₀ : List ℕ) w
               room-left = omega arith;
               bit-in = omega arith;
               place-in = omega arith;
+              behind = omega arith;
               same = len ∙ g .same;
             }
 
@@ -253,18 +276,26 @@ pub ruleset inner-laws = (going-starts, inner-ends, inner-full, inner-room, inne
 pub record Listing (x t d : List ℕ) (count first start n : ℕ) (u₀ u : List ℕ) (order place bit next : ℕ) : Type 0 where
   pub left : listed (fieldsIn x t count) d (rest x t count 0 first order place) bit (rowsIn u next)
       ≡ walkedFrom (fieldsIn x t count) d first start (rowsIn u₀ n)
-  pub fits : next + sumExt (fieldsIn x t count) (rest x t count 0 first order place) ≤ n + (count - first)
+  pub fits : next + extentsAt (fieldsIn x t count) (rest x t count 0 first order place) ≤ n + (count - first)
   pub bit-in : bit ≤ length d * 8
   pub place-in : place ≤ 128
   pub same : length u ≡ length u₀
+
+-- a table that holds the rows after a walk holds those before it
+kept : (t₀ t : List ℕ) (n k : ℕ) (after : List Row) → Grows 0 k (rowsIn t₀ n) after → Holds t after → rowsIn t n ≡ rowsIn t₀ n
+kept t₀ t n k after g e =
+    let l : length after ≡ n + length (g .more) = rw length-rowsIn at (grow-length 0 k (rowsIn t₀ n) after g) in
+    let f : take n after ≡ rowsIn t₀ n = ap (take n) (g .is) ∙ rw length-rowsIn at (take-append-seam (rowsIn t₀ n) (g .more)) in
+    let m : length after ≡ n + (length after - n) = omega arith in
+    sym (rowsIn-take t n (length after - n)) ∙ rw (← m, e) f
 
 module _ (x t d : List ℕ) (count first start n : ℕ) (u₀ : List ℕ) where
   pub listing-starts : first ≤ count → start ≤ length d * 8 → Listing x t d count first start n u₀ u₀ 0 0 start n
   unfolding walkedFrom outerFrom listFrom
   listing-starts h h2 =
-      let a = sum-outer (fieldsIn x t count) first in
+      let a = outer-extents (fieldsIn x t count) first in
       let b : rest x t count 0 first 0 0 ≡ outerFrom (fieldsIn x t count) first = from-zero (fieldsIn x t count) (listFrom (fieldsIn x t count) 0 first) in
-      let l : length (since (fieldsIn x t count) first) ≡ count - first = rw (since-is x t count first h) (fields-length x t first (count - first)) in
+      let l = fields-length x t 0 count in
       record {
         left = rw b refl;
         fits = rw b (omega arith);
@@ -279,7 +310,6 @@ module _ (x t d : List ℕ) (count first start n : ℕ) (u₀ : List ℕ) where
     stopped : record { rows = rowsIn u next; bit = bit } ≡ walkedFrom (fieldsIn x t count) d first start (rowsIn u₀ n) → (v : List ℕ)
         → rowsIn v next ≡ rowsIn u next
         → Walks d u₀ v n (count - first) (walkedFrom (fieldsIn x t count) d first start (rowsIn u₀ n)) (record { bit = record { 0 = bit }; rows = next })
-    unfolding walkedFrom
     stopped e v ev =
         let rs : walkedFrom (fieldsIn x t count) d first start (rowsIn u₀ n) .rows ≡ rowsIn u next = sym (ap (λ (w : flat.Walked). w .rows) e) in
         let holds : Holds v (walkedFrom (fieldsIn x t count) d first start (rowsIn u₀ n) .rows) = rw (rs, length-rowsIn) ev in
@@ -288,8 +318,8 @@ module _ (x t d : List ℕ) (count first start n : ℕ) (u₀ : List ℕ) where
           bit-is = ap (λ (w : flat.Walked). w .bit) e;
           count = rw (rs, length-rowsIn) refl;
           rows = holds;
-          kept = kept u₀ v n (walkedFrom (fieldsIn x t count) d first start (rowsIn u₀ n) .rows)
-              (listed-grows (fieldsIn x t count) d (outerFrom (fieldsIn x t count) first) start (rowsIn u₀ n)) holds;
+          kept = kept u₀ v n (length (fieldsIn x t count) - first) (walkedFrom (fieldsIn x t count) d first start (rowsIn u₀ n) .rows)
+              (walked-grows (fieldsIn x t count) d first start (rowsIn u₀ n)) holds;
           few = omega arith;
           within = g .bit-in;
         }
@@ -304,8 +334,8 @@ module _ (x t d : List ℕ) (count first start n : ℕ) (u₀ : List ℕ) where
       at-j few h = chosen x t count 0 first order place r er j o w e few h
 
       pub listing-room : count ≤ 128 → first ≤ count → (n + (count - first)) * scratchWidth ≤ length u₀
-          → (next + ext (fieldsIn x t count) j) * scratchWidth ≤ length u
-      unfolding sumExt
+          → (next + extentAt (fieldsIn x t count) j) * scratchWidth ≤ length u
+      unfolding extentsAt
       listing-room few h l =
           let q = rw (at-j few h .then) at (g .fits) in
           let k = g .same in
@@ -337,11 +367,12 @@ module _ (x t d : List ℕ) (count first start n : ℕ) (u₀ : List ℕ) where
 
           pub listing-more : length u′ ≡ length u → count ≤ 128 → first ≤ count
               → Listing x t d count first start n u₀ u′ o (j + 1) (bit + v) m
-          unfolding flatListed sumExt
+          unfolding flatListed extentsAt
           listing-more len few h =
               let k = rw (at-j few h .then) at (g .fits) in
-              let b = field-length (fieldsIn x t count) d 7 j bit 0 (rowsIn u next) in
-              let c : m ≡ length (fieldDone (fieldsIn x t count) d 7 j bit 0 (rowsIn u next)) = sym (length-rowsIn u′ m) ∙ ap length (done .rows) in
+              let b = field-grows (fieldsIn x t count) d 7 j bit 0 (rowsIn u next) (omega arith) in
+              let b₁ = b .few in
+              let c : m ≡ length (rowsIn u next) + length (b .more) = sym (length-rowsIn u′ m) ∙ ap length (done .rows) ∙ grow-length _ _ _ _ b in
               let c₀ = length-rowsIn u next in
               let i = at-j few h .within in
               record {

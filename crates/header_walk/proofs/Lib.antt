@@ -1,3 +1,2 @@
 pub mod Exists
-pub mod Room
 pub mod Laws

@@ -2,7 +2,7 @@
 use mathlib.Core.Path.{_≡_}
 use mathlib.Core.Bool.{Bool, true, false, cond, _&&_}
 use mathlib.Core.List.{List, [], _∷_, _++_}
-use Prim.Native.Nat.{ℕ, suc, _+_, _*_, _≤_}
+use Prim.Native.Nat.{ℕ, _+_, _*_, _≤_}
 use lib.ListN.{length}
 use lib.Dec.{leb, ltb}
 use Rattle.frame_definition.specs.Definition.{Numbered}
@@ -10,7 +10,7 @@ use Rattle.header_rules.specs.Find.{widthBy}
 use Rattle.header_rules.specs.Walk.{wantedBy}
 use Rattle.header_rules.specs.Rows.{Row, flatValue}
 use Rattle.header_rules.specs.Flat.{rowAt, flatWidth, flatExists, flatField, flatPacked}
-use Rattle.header_rules.specs.Loaded.{lineOf, nameOf, insideOf, innerOf, since}
+use Rattle.header_rules.specs.Loaded.{lineOf, nameOf, insideOf, innerOf}
 use Rattle.header_rules.specs.Level.{saidAt}
 use Rattle.header_paths.specs.Scratch.{rowsIn}
 use Rattle.header_walk.specs.declared.Extent.{Extent}
@@ -69,17 +69,6 @@ fieldRead ps d left i s p done =
 unfoldable pub innerDone : List Numbered → List ℕ → ℕ → ℕ → ℕ → ℕ → List Row → List Row
 innerDone ps d left i end room done =
     flatPacked (lineOf ps) (insideOf ps) (nameOf ps) d (λ j s rs. fieldDone ps d left j s (length done) rs) (innerOf ps i) end room done
-
--- ---- room: at most one row a P
-
--- how many lines from the front on have this level or a higher one
-unfoldable pub span : ℕ → List Numbered → ℕ
-span level [] = 0
-span level (p ∷ ps) = cond (ltb (p .says .level) level) 0 (suc (span level ps))
-
--- how many lines the P at a place is, with those inside it
-unfoldable pub ext : List Numbered → ℕ → ℕ
-ext ps i = suc (span (saidAt ps i .level + 1) (since ps (i + 1)))
 
 -- ---- what the two readers answer, and the table t after them
 

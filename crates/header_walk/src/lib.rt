@@ -22,9 +22,10 @@ ghost use lib.ListN.{length};
 ghost use Rattle.header_fields.specs.Fields.{lineWidth, levelIn, fieldsIn};
 ghost use Rattle.header_rules.specs.Loaded.{walkedFrom};
 ghost use Rattle.header_rules.specs.Flat.{rowAt};
+ghost use Rattle.header_rules.specs.Span.{extentAt};
 ghost use Rattle.header_paths.specs.Scratch.{scratchWidth, rowsIn, tells};
 ghost use Rattle.header_walk.specs.Walk.{Shaped, Walks};
-ghost use Rattle.header_walk.specs.Steps.{wanted, width, fitting, extentOf, Lays, fieldDone, fieldRead, innerDone, ext, Reads, Fills};
+ghost use Rattle.header_walk.specs.Steps.{wanted, width, fitting, extentOf, Lays, fieldDone, fieldRead, innerDone, Reads, Fills};
 pub use header_paths::find_value;
 pub use header_paths::row_at;
 
@@ -232,7 +233,7 @@ fn decode_param(
 ) -> Field
     requires { ⌜ Shaped (now mpdu) (now fields) count ⌝ }
     requires { ⌜ (spot .place < count) × (levelIn (now fields) (spot .place) + spot .left ≡ 7) × (spot .start .0 ≤ length (now mpdu) * 8)
-        × ((spot .rows + ext (fieldsIn (now text) (now fields) count) (spot .place)) * scratchWidth ≤ length (now rows)) ⌝ }
+        × ((spot .rows + extentAt (fieldsIn (now text) (now fields) count) (spot .place)) * scratchWidth ≤ length (now rows)) ⌝ }
     ensures { λ r.
         let ps = fieldsIn (now (text .entry)) (now (fields .entry)) count in
         let d = now (mpdu .entry) in
@@ -271,7 +272,7 @@ fn decode_inner(
     requires { ⌜ Shaped (now mpdu) (now fields) count ⌝ }
     requires { ⌜ (outer .place < count) × (levelIn (now fields) (outer .place) + outer .left + 1 ≡ 7) × (outer .end .0 ≤ length (now mpdu) * 8)
         × (outer .width ≤ outer .end .0)
-        × ((outer .rows + ext (fieldsIn (now text) (now fields) count) (outer .place)) * scratchWidth ≤ length (now rows) + scratchWidth) ⌝ }
+        × ((outer .rows + extentAt (fieldsIn (now text) (now fields) count) (outer .place)) * scratchWidth ≤ length (now rows) + scratchWidth) ⌝ }
     ensures { λ r.
         let ps = fieldsIn (now (text .entry)) (now (fields .entry)) count in
         ⌜ Fills (now (rows .exit)) (innerDone ps (now (mpdu .entry)) (outer .left) (outer .place) (outer .end .0) (outer .width)
