@@ -9,6 +9,7 @@ use crate::items::named_of;
 use command_class::Row;
 use command_rules::BitShift;
 use command_rules::Rule;
+use rows::put_short_row;
 use text::Place;
 ghost use mathlib.Core.Path.{_≡_};
 ghost use Prim.Native.Nat.{_+_, _*_, _<_, _≤_};
@@ -115,29 +116,12 @@ impl Loaded {
     }
 }
 
-// Writes a row at a place of the table, if it has room there; else writes nothing.
-fn store(table: &mut [u16], at: usize, row: &[u16])
-    ensures { λ _. ⌜ now (table .exit) ≡ put (now (table .entry)) at (now (row .entry)) ⌝ }
-{
-    if table.len() < row.len() {
-        return;
-    }
-    if table.len() - row.len() < at {
-        return;
-    }
-    let mut i: usize = 0;
-    while i < row.len() {
-        table[at + i] = row[i];
-        i += 1;
-    }
-}
-
-// Writes row i of a table.
+// Writes row i of a table, if it has room there; else writes nothing.
 fn store_row(table: &mut [u16], i: usize, row: Loaded)
     requires { ⌜ i < 256 ⌝ }
     ensures { λ _. ⌜ now (table .exit) ≡ put (now (table .entry)) (i * loadedWidth) (numbers row) ⌝ }
 {
-    store(table, i * LOADED_WIDTH, &row.numbers());
+    put_short_row(table, i * LOADED_WIDTH, &row.numbers());
 }
 
 // Row i of a table.
