@@ -2,7 +2,7 @@
 use frame_definition::Field;
 use frame_definition::NextParam;
 use frame_definition::next_param;
-use frame_text::ParamType;
+use header_fields::type_number;
 use header_paths::part_of;
 use text::Part;
 use text::Place;
@@ -13,7 +13,6 @@ ghost use Rattle.text.specs.Place.{partOf};
 ghost use Rattle.text.specs.Records.{Readable};
 ghost use Rattle.frame_text.specs.Rules.{rules};
 ghost use Rattle.frame_definition.specs.Find.{heard, meant};
-ghost use Rattle.header_fields.specs.Fields.{typeNumber};
 ghost use Rattle.overlaps.specs.Overlaps.{sameOption, sameNumbers, sameNames, samePaths, alike, hasOuter, clearOf, straight};
 ghost use Rattle.overlaps.specs.Read.{saidAt};
 
@@ -37,20 +36,6 @@ fn same_given(text: &[u8], a: Part, b: Part) -> bool
         return false;
     }
     same_part(text, a, b)
-}
-
-// The number that stands for a type.
-fn type_number(kind: ParamType) -> u64
-    ensures { λ r. ⌜ r ≡ typeNumber kind ⌝ }
-{
-    match kind {
-        ParamType::Hex => 0,
-        ParamType::Number => 1,
-        ParamType::NumberSigned => 2,
-        ParamType::NodeNumber => 3,
-        ParamType::Boolean => 4,
-        ParamType::Bitmask => 5,
-    }
 }
 
 // Have two P lines the same numbers and type?
