@@ -7,7 +7,6 @@ use lib.Dec.{eqb, leb}
 use lib.ListN.{length}
 use Rattle.laws.proofs.Bools.{and-left}
 use Rattle.refusal.specs.declared.Refusal.the-variants.{TooLong, NotAFrame, Firmware}
-use Rattle.frame.specs.declared.Reading.{Reading}
 use Rattle.frame.specs.declared.Reading.the-variants.{Marker, Family}
 use Rattle.frame.specs.declared.Parsed.the-variants.{Frame, Refused}
 use Rattle.frame.specs.Frame.{regionBits, rulesOf, header, start, directionOf, between, middle, fields, rateIn, isMarked, isBeam, beamIn, Unmarked}
@@ -16,10 +15,6 @@ use Rattle.frame.specs.Frame.{holds, isFrame, framed, frameOf, numbersAt
 -- a beam of the second reading is one of the first
 pub family-marked : (rate : ℕ) (m : List ℕ) → isBeam Family rate m ≡ true → isBeam Marker rate m ≡ true
 family-marked rate m beam = and-left (isMarked m) _ beam
-
-no-beam : (reading : Reading) (rate : ℕ) (m : List ℕ) → isMarked m ≡ false → isBeam reading rate m ≡ false
-no-beam Marker rate m none = none
-no-beam Family rate m none = rw none refl
 
 module _ (firmware : ℕ) (b : List ℕ) where
   abbrev first : Bool

@@ -1,5 +1,4 @@
 // The rows of one candidate that is named, whether it holds or not.
-use frame_definition::Candidate;
 use frame_definition::Found;
 use frame_definition::NextCandidate;
 use frame_definition::find_base;

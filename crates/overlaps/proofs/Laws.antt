@@ -318,9 +318,6 @@ module _ (t : List ℕ) (start p : Place) (w : Left straight t start p) (r : Nex
     pub straight-more : b ≡ true → Left straight t start q
     straight-more y = record { left = one-more ∙ rw y refl; readable = said-readable t p r found f q e }
 
-    pub straight-readable : Readable rules t q
-    straight-readable = said-readable t p r found f q e
-
 pub ruleset straight-laws = (said-readable, straight-none, straight-not, straight-more)
 
 -- ---- two headers' P lines
@@ -659,11 +656,6 @@ module _ (t : List ℕ) (number left : ℕ) (p : Place) (w : Counting t number l
   module _ (h : declared.Head) (e : r ≡ nextHeader.At h) where
     is-head : IsHead t p h
     is-head = rw e at found
-
-    pub counting-hit : left ≡ 0 → FindsNumbered t number r
-    counting-hit q =
-        subst (FindsNumbered t number) (sym e)
-        (record { is = w .counted ∙ ap (headOfNumber left) (is-head .first) ∙ rw q refl; readable = is-head .readable })
 
     pub counting-found : left ≡ 0 → FindsNumbered t number (nextHeader.At h)
     counting-found q = record { is = w .counted ∙ ap (headOfNumber left) (is-head .first) ∙ rw q refl; readable = is-head .readable }

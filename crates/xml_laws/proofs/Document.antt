@@ -200,10 +200,6 @@ enter-next true m l =
     )
     (omega arith)
 
-pub leads-first : (h : Bool) (l : ℕ) → leadsTo (owner h) 4 l ≡ deep h l
-leads-first false l = refl
-leads-first true l = refl
-
 pub leads-next : (h : Bool) (m l : ℕ) → m ≤ 7 → leadsTo (deep h m) 4 l ≡ deep h l
 leads-next false m l b = rw (ne-eqb (16 + m) 3 (λ e. omega arith), lt-leb 24 (16 + m) (omega arith))
 leads-next true m l b = rw (ne-eqb (24 + m) 3 (λ e. omega arith), le-leb 24 (24 + m) (omega arith))
