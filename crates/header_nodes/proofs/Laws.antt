@@ -12,7 +12,7 @@ use Rattle.text.specs.declared.Verdict.{Verdict}
 use Rattle.text.specs.declared.Verdict.the-variants as text
 use Rattle.frame_text.specs.Rules.{verdict}
 use Rattle.frame_text.specs.declared.Typed.{Typed}
-use Rattle.header_rules.specs.Table.{rowWidth}
+use Rattle.header_rules.specs.Table.{rowWidth, cell, numberColumn, startColumn, bitsColumn}
 use Rattle.header.specs.declared.DecodedHeader.{DecodedHeader}
 use Rattle.header.specs.declared.Decoded.{Decoded}
 use Rattle.header.specs.declared.Decoded.the-variants.{Header, Refused}
@@ -22,7 +22,7 @@ use Rattle.node_mask.specs.Nodes.{Lists, nodesAfter}
 use Rattle.node_mask.specs.declared.Listed.{Listed}
 use Rattle.node_mask.specs.declared.Listed.the-variants as listing
 use Rattle.node_mask.proofs.NodeLaws.{nodes-address}
-use Rattle.header_nodes.specs.Fields.{paramType, isTyped, isMask, numberAt, startAt, bitsAt, maskAt}
+use Rattle.header_nodes.specs.Fields.{paramType, isTyped, isMask, maskAt}
 use Rattle.header_nodes.specs.Answer.{RowNodes, LentNodes, answerOf, rowsOf, ofDecoded, HeaderNodes}
 
 -- ---- is_mask
@@ -41,11 +41,12 @@ module _ (t : List ℕ) (number start bits : ℕ) where
   mask-typed x b e is s h = rw (eq-eqb (start % 8) 0 s, eq-eqb (bits % 8) 0 h, ← e) is
 
 -- ---- nodes_of_row
-module _ (t d rows : List ℕ) (k : ℕ) (table : List ℕ) (b : Bool) (is : b ≡ isMask t (numberAt rows k) (startAt rows k) (bitsAt rows k)) where
+module _ (t d rows : List ℕ) (k : ℕ) (table : List ℕ) (b : Bool)
+    (is : b ≡ isMask t (cell rows k numberColumn) (cell rows k startColumn) (cell rows k bitsColumn)) where
   pub row-not : b ≡ false → RowNodes t d rows k table (listing.Refused (NoSuchField k)) table
   row-not e = record { answer = rw (← is, e) refl; leaves = refl }
 
-  pub row-lists : (m : List ℕ) (r : Listed) (table′ : List ℕ) → m ≡ take (bitsAt rows k / 8) (drop (startAt rows k / 8) d)
+  pub row-lists : (m : List ℕ) (r : Listed) (table′ : List ℕ) → m ≡ take (cell rows k bitsColumn / 8) (drop (cell rows k startColumn / 8) d)
       → Lists m table r table′ → b ≡ true
       → RowNodes t d rows k table r table′
   row-lists m r table′ part l e = record { answer = rw (← is, e, ← part) (l .answer); leaves = rw (← part) (l .leaves) }

@@ -9,7 +9,7 @@ use Rattle.refusal.specs.declared.Refusal.the-variants.{NoSuchField}
 use Rattle.text.specs.declared.Verdict.{Verdict}
 use Rattle.text.specs.declared.Verdict.the-variants as text
 use Rattle.frame_text.specs.Rules.{verdict}
-use Rattle.header_rules.specs.Table.{rowWidth}
+use Rattle.header_rules.specs.Table.{rowWidth, mostNumbers}
 use Rattle.node_mask.specs.Nodes.{nodesOf, Addresses, listed, nodesAfter}
 use Rattle.node_mask.specs.declared.Listed.{Listed}
 use Rattle.node_mask.specs.declared.Listed.the-variants as listing
@@ -41,16 +41,12 @@ pub record LentNodes (t d rows : List ℕ) (k : ℕ) (table : List ℕ) (r : Lis
 
 -- ---- the header is decoded first
 
--- the numbers of the table that `decode_header` is lent here: 128 rows
-abbrev pub lent : ℕ
-lent = 896
-
--- BM4: what `decode_header` answers, and its rows
+-- BM4: what `decode_header` answers in a table of 128 rows, and its rows
 unfoldable pub answerOf : List ℕ → List ℕ → ℕ → ℕ → Decoded
-answerOf t d region speed = decoded t d region speed lent
+answerOf t d region speed = decoded t d region speed mostNumbers
 
 unfoldable pub rowsOf : List ℕ → List ℕ → ℕ → ℕ → List ℕ
-rowsOf t d region speed = tableAfter (replicate lent 0) (toldOf t d region speed lent) (decoded t d region speed lent)
+rowsOf t d region speed = tableAfter (replicate mostNumbers 0) (toldOf t d region speed mostNumbers) (decoded t d region speed mostNumbers)
 
 -- BM4: its refusals come first, then 11 for a row that there is not
 abbrev pub ofDecoded : List ℕ → List ℕ → List ℕ → ℕ → ℕ → Decoded → Listed

@@ -18,12 +18,12 @@ use Rattle.frame_definition.specs.declared.Field.{Field}
 use Rattle.frame_definition.specs.declared.NextParam.{NextParam}
 use Rattle.frame_definition.specs.declared.NextParam.the-variants.{At, Nothing}
 use Rattle.text.specs.declared.Place.{Place}
-use Rattle.header_rules.specs.Table.{rowWidth}
+use Rattle.header_rules.specs.Table.{rowWidth, cell, numberColumn, startColumn, bitsColumn, valuedColumn, valueColumn, symbolColumn}
 use Rattle.header.specs.declared.DecodedHeader.{DecodedHeader}
 use Rattle.header.specs.declared.Decoded.{Decoded}
 use Rattle.header.specs.declared.Decoded.the-variants.{Header, Refused}
 use Rattle.header.specs.declared.Wanted.the-variants.{One}
-use Rattle.header.specs.Decode.{Within, judged, ofTold, toldOf, tableAfter, numberIn as numberOf, Decodes}
+use Rattle.header.specs.Decode.{Within, judged, ofTold, toldOf, tableAfter, numberIn, Decodes}
 use Rattle.header.specs.Steps.{Answers}
 use Rattle.header.proofs.Says.{decodes}
 use Rattle.header.proofs.OneRow.{one-row, rows-told}
@@ -36,7 +36,7 @@ use Rattle.buffer.specs.Buffer.{Writes, answerIn, bufferAfter}
 use Rattle.display.specs.declared.Value.{Value}
 use Rattle.display.specs.declared.Value.the-variants.{Is, Not}
 use Rattle.display.specs.Display.{displayValue}
-use Rattle.header_value.specs.Fields.{symbolText, valueBy, isLong, bytesOf, numberIn, fieldText, rowText}
+use Rattle.header_value.specs.Fields.{symbolText, valueBy, isLong, bytesOf, fieldText, rowText}
 use Rattle.header_value.specs.Lookup.{Stands}
 use Rattle.header_value.specs.Answer.{ofDecoded, HeaderValue}
 use Rattle.header_value.proofs.LookupLaws.{lookup-laws}
@@ -81,13 +81,15 @@ pub field-shown : (t d : List ℕ) (f : Field) (start bits valued v n : ℕ) (sy
 unfolding fieldText
 field-shown t d f start bits valued v n symbol bytes value b r b′ w s y e = rw (s, y, e) at w
 
-module _ (t d rows : List ℕ) (k : ℕ) (x : NextParam) (found : FindsNumbered t (numberIn rows k 0) x) (b : List ℕ) (r : Written) (b′ : List ℕ) where
+module _ (t d rows : List ℕ) (k : ℕ) (x : NextParam) (found : FindsNumbered t (cell rows k numberColumn) x) (b : List ℕ) (r : Written)
+    (b′ : List ℕ) where
   pub row-none : Writes [] b r b′ → x ≡ Nothing → Writes (rowText t d rows k) b r b′
   unfolding rowText fieldText
   row-none w e = rw (rw e at found) w
 
   pub row-shown : (f : Field) (q : Place)
-      → Writes (fieldText t d (some (meant t f)) (numberIn rows k 2) (numberIn rows k 3) (numberIn rows k 4) (numberIn rows k 5) (numberIn rows k 6)) b r b′
+      → Writes (fieldText t d (some (meant t f)) (cell rows k startColumn) (cell rows k bitsColumn) (cell rows k valuedColumn)
+      (cell rows k valueColumn) (cell rows k symbolColumn)) b r b′
       → x ≡ At f q → Writes (rowText t d rows k) b r b′
   unfolding rowText
   row-shown f q w e = rw (rw e at found) w
@@ -112,7 +114,7 @@ module _ (t d : List ℕ) (region speed k : ℕ) (x : Decoded) (rows : List ℕ)
   unfolding rowsOf
   whole-is = rw (dec .answer) refl
 
-  eight : Within t d → numberOf (answerOf t d region speed) ≡ 8 → ⊥
+  eight : Within t d → numberIn (answerOf t d region speed) ≡ 8 → ⊥
   eight w e = whole .by-readings w .enough (rw (length-replicate {A = ℕ} 896 0) (omega arith)) (rw answer-is e)
 
   -- a header is answered only for an MPDU within limits
@@ -139,9 +141,17 @@ module _ (t d : List ℕ) (region speed k : ℕ) (x : Decoded) (rows : List ℕ)
     unfolding rowText
     row-same inside =
         let many = rows-told t d region speed (length zeros) h (sym is ∙ dec .answer) in
-        let same : (c : ℕ) → c < rowWidth → numberIn rows k c ≡ numberIn (rowsOf t d region speed) k c =
-        λ c l. one-row t d region speed k zeros x rows h dec is many room inside c l ∙ ap (λ (all : List ℕ). numberIn all k c) whole-is in
-        rw (same 0 (omega arith), same 2 (omega arith), same 3 (omega arith), same 4 (omega arith), same 5 (omega arith), same 6 (omega arith)) refl
+        let same : (c : ℕ) → c < rowWidth → cell rows k c ≡ cell (rowsOf t d region speed) k c =
+        λ c l. one-row t d region speed k zeros x rows h dec is many room inside c l ∙ ap (λ (all : List ℕ). cell all k c) whole-is in
+        rw (
+          same numberColumn (omega arith),
+          same startColumn (omega arith),
+          same bitsColumn (omega arith),
+          same valuedColumn (omega arith),
+          same valueColumn (omega arith),
+          same symbolColumn (omega arith),
+        )
+        refl
 
   module _ (b : List ℕ) where
     told : (r : Written) (b′ : List ℕ) → r ≡ ofDecoded (rowText t d (rowsOf t d region speed) k) k (length b) x

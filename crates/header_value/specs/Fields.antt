@@ -1,13 +1,13 @@
 -- VT1 (docs/RULES.md): what is shown of a row of a header.
-use Prim.Native.Nat.{ℕ, _+_, _-_, _*_, _/_, _%_}
+use Prim.Native.Nat.{ℕ, _-_, _/_, _%_}
 use mathlib.Core.Bool.{Bool, cond, _&&_}
 use mathlib.Core.List.{List, [], _∷_}
 use mathlib.Core.Option.{Option, none, some}
 use lib.Dec.{eqb, ltb}
-use lib.ListN.{getD, take, drop}
+use lib.ListN.{take, drop}
 use Rattle.frame_text.specs.Form.{Param}
 use Rattle.frame_definition.specs.Definition.{Entry, Set, definition, firstSet, paramNumbered}
-use Rattle.header_rules.specs.Table.{rowWidth}
+use Rattle.header_rules.specs.Table.{cell, numberColumn, startColumn, bitsColumn, valuedColumn, valueColumn, symbolColumn}
 use Rattle.display.specs.declared.Value.{Value}
 use Rattle.display.specs.declared.Value.the-variants.{Is, Not}
 use Rattle.display.specs.Display.{displayValue}
@@ -44,10 +44,6 @@ bytesOf d start bits = cond (isLong start bits) (take (bits / 8) (drop (start / 
 
 -- ---- a row
 
--- H18: a number of row k of a header's rows
-abbrev pub numberIn : List ℕ → ℕ → ℕ → ℕ
-numberIn rows k column = getD rows (k * rowWidth + column) 0
-
 -- VT1: what is shown of a field, whose P line says p; the row's numbers are the start bit, the bits, valued, the value and the symbol
 unfoldable pub fieldText : List ℕ → List ℕ → Option Param → ℕ → ℕ → ℕ → ℕ → ℕ → List ℕ
 fieldText t d none start bits valued value symbol = []
@@ -57,4 +53,5 @@ fieldText t d (some p) start bits valued value symbol =
 -- VT1: what is shown of row k of a header's rows
 unfoldable pub rowText : List ℕ → List ℕ → List ℕ → ℕ → List ℕ
 rowText t d rows k =
-    fieldText t d (paramNumbered t (numberIn rows k 0)) (numberIn rows k 2) (numberIn rows k 3) (numberIn rows k 4) (numberIn rows k 5) (numberIn rows k 6)
+    fieldText t d (paramNumbered t (cell rows k numberColumn)) (cell rows k startColumn) (cell rows k bitsColumn) (cell rows k valuedColumn)
+    (cell rows k valueColumn) (cell rows k symbolColumn)

@@ -20,7 +20,7 @@ use Rattle.header_rules.specs.Data.{Field, Candidate}
 use Rattle.header_rules.specs.Lawful.{Reading}
 use Rattle.header_rules.specs.Demand.{First}
 use Rattle.header_rules.specs.Walk.{reading}
-use Rattle.header_rules.specs.Table.{tableOf}
+use Rattle.header_rules.specs.Table.{mostNumbers, tableOf}
 use Rattle.header_rules.specs.Trees.{trees}
 use Rattle.header_rules.specs.Told.{candidatesOf}
 use Rattle.header_rules.proofs.Reading.{reading-only}
@@ -38,7 +38,7 @@ use Rattle.listing_text.specs.declared.form.Form.the-variants.{Names, Wrong}
 use Rattle.listing_text.proofs.Written.{rows-laid, puts-all, names-written, form-written, differs-none, differs-same}
 use Rattle.listing.specs.declared.Judgement.{Judgement}
 use Rattle.listing.specs.declared.Judgement.the-variants.{Yes, Differs, Refused}
-use Rattle.listing.specs.Judge.{room, orYes, orLast, Against, Judges}
+use Rattle.listing.specs.Judge.{orYes, orLast, Against, Judges}
 use Rattle.listing.specs.Write.{Writes}
 use Rattle.listing.specs.Steps.{Own, Other, ByForm, WritesRows}
 use Rattle.listing.proofs.Naming.{named-at, named-number, one-first, one-reading, first-reading, table-wide}
@@ -97,9 +97,9 @@ module _ (t d : List ℕ) (key number : ℕ) (table : List ℕ) (x : Named) (tab
         ap (λ (k : ℕ). rowsIn k table′) (gives .gives .count) ∙ ap (rowsIn (length own)) (gives .gives .rows-are)
         ∙ rows-laid own (drop (length (flat own)) table) (table-wide d (definition t .sets) (reading 7 d (trees (gives .base .params)) (gives .one .params)))
 
-    pub other-room : length table ≡ room → count * 7 ≤ length table′
+    pub other-room : length table ≡ mostNumbers → count * 7 ≤ length table′
     other-room size =
-        let n : length table′ ≡ room =
+        let n : length table′ ≡ mostNumbers =
         ap length (gives .gives .rows-are)
         ∙ laid-long own table (table-wide d (definition t .sets) (reading 7 d (trees (gives .base .params)) (gives .one .params)))
         (omega (arith, gives .gives .few, gives .gives .count)) size in
@@ -136,7 +136,7 @@ module _ (t d : List ℕ) (key own-number count : ℕ) (table : List ℕ) (own :
   pub own-short : length d ≤ 2048
   own-short = own .short
 
-  pub own-long : length table ≡ room
+  pub own-long : length table ≡ mostNumbers
   own-long = own .long
 
   abbrev cs : List (Candidate 7)
@@ -232,10 +232,10 @@ module _ (t d : List ℕ) (key own-number count : ℕ) (table : List ℕ) (own :
 
 -- ---- the call
 pub judges-refused : (t d : List ℕ) (region speed : ℕ) (l table : List ℕ) (r : Decoded) (table′ : List ℕ) (x : Refusal)
-    → Decodes t d region speed table r table′ → length table ≡ room → r ≡ header.Refused x
+    → Decodes t d region speed table r table′ → length table ≡ mostNumbers → r ≡ header.Refused x
     → Judges t d region speed l (Refused x)
 judges-refused t d region speed l table r table′ x c size q =
-    let is : decoded t d region speed room ≡ header.Refused x = ap (decoded t d region speed) (sym size) ∙ sym (c .answer) ∙ q in
+    let is : decoded t d region speed mostNumbers ≡ header.Refused x = ap (decoded t d region speed) (sym size) ∙ sym (c .answer) ∙ q in
     record {
       refused = λ y e. (let z : header.Refused x ≡ header.Refused y = sym is ∙ e in cc);
       wrong = λ h k e f. absurd (let z : header.Refused x ≡ header.Header h = sym is ∙ e in let w : _≡_ {A = ℕ} 0 1 = cc in omega arith);
@@ -244,10 +244,10 @@ judges-refused t d region speed l table r table′ x c size q =
     }
 
 pub judges-form : (t d : List ℕ) (region speed : ℕ) (l table : List ℕ) (r : Decoded) (table′ : List ℕ) (h : DecodedHeader) (j : Judgement)
-    → Decodes t d region speed table r table′ → length table ≡ room → r ≡ header.Header h
+    → Decodes t d region speed table r table′ → length table ≡ mostNumbers → r ≡ header.Header h
     → ByForm t d (keyOf t region speed) l (formOf 1 (lines l)) j → Judges t d region speed l j
 judges-form t d region speed l table r table′ h j c size q by =
-    let is : decoded t d region speed room ≡ header.Header h = ap (decoded t d region speed) (sym size) ∙ sym (c .answer) ∙ q in
+    let is : decoded t d region speed mostNumbers ≡ header.Header h = ap (decoded t d region speed) (sym size) ∙ sym (c .answer) ∙ q in
     record {
       refused = λ y e. absurd (let z : header.Header h ≡ header.Refused y = sym is ∙ e in let w : _≡_ {A = ℕ} 0 1 = cc in omega arith);
       wrong = λ g k e f. rw f at by;
@@ -265,10 +265,10 @@ module _ (rows : List (List ℕ)) (b : List ℕ) (size : ℕ) (none₀ none′ :
       record { gives = writes-room (textOf rows) b size (counts .count) b′ all h; small = counts .small }
 
 pub writes-refused : (t d : List ℕ) (region speed : ℕ) (b table : List ℕ) (r : Decoded) (table′ : List ℕ) (x : Refusal)
-    → Decodes t d region speed table r table′ → length table ≡ room → r ≡ header.Refused x
+    → Decodes t d region speed table r table′ → length table ≡ mostNumbers → r ≡ header.Refused x
     → Writes t d region speed b (written.Refused x) b
 writes-refused t d region speed b table r table′ x c size q =
-    let is : decoded t d region speed room ≡ header.Refused x = ap (decoded t d region speed) (sym size) ∙ sym (c .answer) ∙ q in
+    let is : decoded t d region speed mostNumbers ≡ header.Refused x = ap (decoded t d region speed) (sym size) ∙ sym (c .answer) ∙ q in
     record {
       refused = λ y e. ((let z : header.Refused x ≡ header.Refused y = sym is ∙ e in cc), refl);
       written = λ h e a f o fs g. absurd
@@ -277,11 +277,11 @@ writes-refused t d region speed b table r table′ x c size q =
 
 pub writes-own : (t d : List ℕ) (region speed : ℕ) (b table : List ℕ) (r : Decoded) (table′ : List ℕ) (h : DecodedHeader) (x : Written)
     (b′ : List ℕ)
-    → Decodes t d region speed table r table′ → length table ≡ room → r ≡ header.Header h
+    → Decodes t d region speed table r table′ → length table ≡ mostNumbers → r ≡ header.Header h
     → WritesRows (closed (rowsIn (h .rows) table′) (h .number)) b x b′
     → Writes t d region speed b x b′
 writes-own t d region speed b table r table′ h x b′ c size q w =
-    let is : decoded t d region speed room ≡ header.Header h = ap (decoded t d region speed) (sym size) ∙ sym (c .answer) ∙ q in
+    let is : decoded t d region speed mostNumbers ≡ header.Header h = ap (decoded t d region speed) (sym size) ∙ sym (c .answer) ∙ q in
     let own = header-own t d region speed h table r table′ c q size in
     record {
       refused = λ y e. absurd (let z : header.Header h ≡ header.Refused y = sym is ∙ e in let w : _≡_ {A = ℕ} 0 1 = cc in omega arith);
@@ -306,17 +306,17 @@ writes-own t d region speed b table r table′ h x b′ c size q w =
     }
 
 pub header-few : (t d : List ℕ) (region speed : ℕ) (table : List ℕ) (r : Decoded) (table′ : List ℕ) (h : DecodedHeader)
-    → Decodes t d region speed table r table′ → length table ≡ room → r ≡ header.Header h → h .rows ≤ 128
+    → Decodes t d region speed table r table′ → length table ≡ mostNumbers → r ≡ header.Header h → h .rows ≤ 128
 header-few t d region speed table r table′ h c size q = header-own t d region speed h table r table′ c q size .few
 
 pub header-room : (t d : List ℕ) (region speed : ℕ) (table : List ℕ) (r : Decoded) (table′ : List ℕ) (h : DecodedHeader)
-    → Decodes t d region speed table r table′ → length table ≡ room → r ≡ header.Header h → h .rows * 7 ≤ length table′
+    → Decodes t d region speed table r table′ → length table ≡ mostNumbers → r ≡ header.Header h → h .rows * 7 ≤ length table′
 header-room t d region speed table r table′ h c size q =
     let own = header-own t d region speed h table r table′ c q size in
     omega (arith, own .few, own .long)
 
 pub decoded-own : (t d : List ℕ) (region speed : ℕ) (table : List ℕ) (r : Decoded) (table′ : List ℕ) (h : DecodedHeader)
-    → Decodes t d region speed table r table′ → length table ≡ room → r ≡ header.Header h
+    → Decodes t d region speed table r table′ → length table ≡ mostNumbers → r ≡ header.Header h
     → Own t d (keyOf t region speed) (h .number) (h .rows) table′
 decoded-own t d region speed table r table′ h c size q = header-own t d region speed h table r table′ c q size
 

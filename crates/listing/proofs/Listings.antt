@@ -11,7 +11,7 @@ use Rattle.buffer.proofs.Laws.{length-written, front-written}
 use Rattle.text.specs.Text.{lines}
 use Rattle.frame_definition.specs.Definition.{definition}
 use Rattle.header_rules.specs.Data.{Field, Candidate}
-use Rattle.header_rules.specs.Table.{tableOf}
+use Rattle.header_rules.specs.Table.{mostNumbers, tableOf}
 use Rattle.header_rules.specs.Trees.{trees}
 use Rattle.header_rules.specs.Told.{candidatesOf}
 use Rattle.header.specs.declared.DecodedHeader.{DecodedHeader}
@@ -23,7 +23,7 @@ use Rattle.listing_text.specs.declared.form.Form.{Form}
 use Rattle.listing_text.specs.declared.form.Form.the-variants.{Names, Wrong}
 use Rattle.listing.specs.declared.Judgement.{Judgement}
 use Rattle.listing.specs.declared.Judgement.the-variants.{Yes, Refused}
-use Rattle.listing.specs.Judge.{room, Judges}
+use Rattle.listing.specs.Judge.{Judges}
 use Rattle.listing.specs.Steps.{Own}
 use Rattle.listing.specs.Write.{Writes}
 use Rattle.listing.proofs.Naming.{one-first, one-reading}
@@ -36,9 +36,9 @@ module _ (t d : List ℕ) (region speed : ℕ) where
   -- LS8: what was written gets yes
   pub own-yes : (b : List ℕ) (x : Written) (b′ : List ℕ) (n : ℕ) → Writes t d region speed b x b′ → x ≡ written.Length n
       → (r : Judgement) → Judges t d region speed (take n b′) r → r ≡ Yes
-  own-yes b x b′ n w e r j = go (decoded t d region speed room) refl
+  own-yes b x b′ n w e r j = go (decoded t d region speed mostNumbers) refl
     where
-      go : (y : Decoded) → decoded t d region speed room ≡ y → r ≡ Yes
+      go : (y : Decoded) → decoded t d region speed mostNumbers ≡ y → r ≡ Yes
       go (header.Refused y) q = absurd (let z : written.Length n ≡ written.Refused y = sym e ∙ w .refused y q .0 in let u : _≡_ {A = ℕ} 0 1 = cc in
           omega arith)
       go (header.Header h) q =
@@ -52,9 +52,9 @@ module _ (t d : List ℕ) (region speed : ℕ) where
   -- R12: so many bytes as are answered stand in the buffer
   pub written-within : (b : List ℕ) (x : Written) (b′ : List ℕ) (n : ℕ) → Writes t d region speed b x b′ → x ≡ written.Length n
       → n ≤ length b′
-  written-within b x b′ n w e = go (decoded t d region speed room) refl
+  written-within b x b′ n w e = go (decoded t d region speed mostNumbers) refl
     where
-      go : (y : Decoded) → decoded t d region speed room ≡ y → n ≤ length b′
+      go : (y : Decoded) → decoded t d region speed mostNumbers ≡ y → n ≤ length b′
       go (header.Refused y) q = absurd (let z : written.Length n ≡ written.Refused y = sym e ∙ w .refused y q .0 in let u : _≡_ {A = ℕ} 0 1 = cc in
           omega arith)
       go (header.Header h) q =
@@ -63,7 +63,7 @@ module _ (t d : List ℕ) (region speed : ℕ) where
 
   -- LS7: what gets yes is the listing of the first candidate that holds
   yes-own : (l : List ℕ) (r : Judgement) → Judges t d region speed l r → r ≡ Yes → (h : DecodedHeader)
-      → decoded t d region speed room ≡ header.Header h
+      → decoded t d region speed mostNumbers ≡ header.Header h
       → (own : Own t d (keyOf t region speed) (h .number) (h .rows) (filled t d region speed h))
       → l ≡ listingOf (tableOf 7 d (definition t .sets) (own .fields)) (own .one .number)
   yes-own l r j y h q own = go (formOf 1 (lines l)) refl
@@ -81,8 +81,8 @@ module _ (t d : List ℕ) (region speed : ℕ) where
 
   -- LS7: yes means the same bytes
   pub only-own : (l m : List ℕ) (r s : Judgement) → Judges t d region speed l r → Judges t d region speed m s → r ≡ Yes → s ≡ Yes → l ≡ m
-  only-own l m r s j k y z = go (decoded t d region speed room) refl
+  only-own l m r s j k y z = go (decoded t d region speed mostNumbers) refl
     where
-      go : (x : Decoded) → decoded t d region speed room ≡ x → l ≡ m
+      go : (x : Decoded) → decoded t d region speed mostNumbers ≡ x → l ≡ m
       go (header.Refused x) q = absurd (let w : Refused x ≡ Yes = sym (j .refused x q) ∙ y in let u : _≡_ {A = ℕ} 0 1 = cc in omega arith)
       go (header.Header h) q = yes-own l r j y h q (owns t d region speed h q) ∙ sym (yes-own m s k z h q (owns t d region speed h q))

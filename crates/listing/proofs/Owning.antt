@@ -7,8 +7,6 @@ use native.Mathlib.Omega.{arith}
 use lib.Dec.{ltb}
 use lib.ListN.{length, drop, replicate, length-append, length-drop, length-replicate}
 use borrow.Author.Tests.{ltb-false}
-use Rattle.refusal.specs.Refusal.{numberOf}
-use Rattle.refusal.specs.declared.Refusal.{Refusal}
 use Rattle.refusal.specs.declared.Refusal.the-variants.{TooLong, TooShort}
 use Rattle.rows.specs.Rows.{flat, laid}
 use Rattle.rows.specs.Parts.{Wide}
@@ -17,7 +15,7 @@ use Rattle.text.specs.declared.Verdict.the-variants as text
 use Rattle.frame_text.specs.Rules.{verdict}
 use Rattle.frame_definition.specs.Definition.{definition}
 use Rattle.crc.specs.Crc.{right}
-use Rattle.header_rules.specs.Table.{rowWidth, tableOf}
+use Rattle.header_rules.specs.Table.{rowWidth, mostNumbers, tableOf}
 use Rattle.header_rules.specs.Told.{Told, no-base, no-candidate, more-rows, header, Heading}
 use Rattle.header_rules.specs.Says.{Says}
 use Rattle.header.specs.declared.DecodedHeader.{DecodedHeader}
@@ -28,7 +26,6 @@ use Rattle.header.specs.Decode.{Within, ByReadings, Decodes}
 use Rattle.header.proofs.Says.{decodes}
 use Rattle.listing_text.specs.Steps.{rowsIn}
 use Rattle.listing_text.proofs.Written.{rows-laid}
-use Rattle.listing.specs.Judge.{room}
 use Rattle.listing.specs.Steps.{Own}
 use Rattle.listing.proofs.Naming.{table-wide}
 
@@ -55,20 +52,21 @@ flat-length : (rs : List (List ℕ)) → Wide 7 rs → length (flat rs) ≡ leng
 flat-length [] w = refl
 flat-length (r ∷ rs) w = omega (arith, length-append r (flat rs), w .0, flat-length rs (w .1))
 
-pub laid-long : (rs : List (List ℕ)) (table : List ℕ) → Wide 7 rs → length rs ≤ 128 → length table ≡ room → length (laid table rs) ≡ room
+pub laid-long : (rs : List (List ℕ)) (table : List ℕ) → Wide 7 rs → length rs ≤ 128 → length table ≡ mostNumbers
+    → length (laid table rs) ≡ mostNumbers
 laid-long rs table w few size =
     omega (arith, length-append (flat rs) (drop (length (flat rs)) table), length-drop (length (flat rs)) table, flat-length rs w)
 
 module _ (t d : List ℕ) (region speed : ℕ) (h : DecodedHeader) where
-  header-within : decoded t d region speed room ≡ Header h → Within t d
+  header-within : decoded t d region speed mostNumbers ≡ Header h → Within t d
   header-within e =
-      let a = judged-header (verdict t) (sized d (ofTold t (right d speed) (toldOf t d region speed room))) h e in
-      let s = sized-header d (ofTold t (right d speed) (toldOf t d region speed room)) h (a .1) in
+      let a = judged-header (verdict t) (sized d (ofTold t (right d speed) (toldOf t d region speed mostNumbers))) h e in
+      let s = sized-header d (ofTold t (right d speed) (toldOf t d region speed mostNumbers)) h (a .1) in
       record { accepted = a .0; long = s .1; short = s .0 }
 
   module _ (table : List ℕ) (r : Decoded) (table′ : List ℕ) (c : Decodes t d region speed table r table′) (q : r ≡ Header h)
-      (size : length table ≡ room) where
-    header-is : decoded t d region speed room ≡ Header h
+      (size : length table ≡ mostNumbers) where
+    header-is : decoded t d region speed mostNumbers ≡ Header h
     header-is = ap (decoded t d region speed) (sym size) ∙ sym (c .answer) ∙ q
 
     within : Within t d
@@ -116,22 +114,15 @@ module _ (t d : List ℕ) (region speed : ℕ) (h : DecodedHeader) where
 
 -- what a header that is answered says, whatever table is lent
 abbrev pub fresh : List ℕ
-fresh = replicate room 0
+fresh = replicate mostNumbers 0
 
 abbrev pub filled : List ℕ → List ℕ → ℕ → ℕ → DecodedHeader → List ℕ
-filled t d region speed h = tableAfter fresh (toldOf t d region speed room) (Header h)
+filled t d region speed h = tableAfter fresh (toldOf t d region speed mostNumbers) (Header h)
 
-pub owns : (t d : List ℕ) (region speed : ℕ) (h : DecodedHeader) → decoded t d region speed room ≡ Header h
+pub owns : (t d : List ℕ) (region speed : ℕ) (h : DecodedHeader) → decoded t d region speed mostNumbers ≡ Header h
     → Own t d (keyOf t region speed) (h .number) (h .rows) (filled t d region speed h)
 owns t d region speed h q =
-    let n : length fresh ≡ room = length-replicate {A = ℕ} room 0 in
+    let n : length fresh ≡ mostNumbers = length-replicate {A = ℕ} mostNumbers 0 in
     header-own t d region speed h fresh (Header h) (filled t d region speed h)
     (decodes t d region speed fresh (Header h) (filled t d region speed h) (sym q ∙ ap (decoded t d region speed) (sym n))
     (ap (λ (k : ℕ). tableAfter fresh (toldOf t d region speed k) (Header h)) (sym n))) refl n
-
--- R8 does not come: the table has rows enough
-pub never-eight : (t d : List ℕ) (region speed : ℕ) (x : Refusal) → Within t d → decoded t d region speed room ≡ Refused x → numberOf x ≡ 8
-    → ⊥
-never-eight t d region speed x w q e =
-    let n : length fresh ≡ room = length-replicate {A = ℕ} room 0 in
-    decodes t d region speed fresh (Refused x) fresh (sym q ∙ ap (decoded t d region speed) (sym n)) refl .by-readings w .enough (omega arith) e

@@ -3,7 +3,7 @@ use mathlib.Core.Path.{_≡_}
 use mathlib.Core.Logic.{_↔_}
 use mathlib.Core.List.{List}
 use mathlib.Core.Option.{none, some}
-use Prim.Native.Nat.{ℕ, zero, suc, _*_}
+use Prim.Native.Nat.{ℕ, zero, suc}
 use Rattle.refusal.specs.declared.Refusal.{Refusal}
 use Rattle.refusal.specs.declared.Refusal.the-variants.{Listing}
 use Rattle.text.specs.Text.{lines}
@@ -11,7 +11,7 @@ use Rattle.frame_definition.specs.Definition.{Definition, Base, definition, fir
 use Rattle.header_rules.specs.Data.{Field, Candidate}
 use Rattle.header_rules.specs.Lawful.{Reading}
 use Rattle.header_rules.specs.Demand.{First}
-use Rattle.header_rules.specs.Table.{rowWidth, tableOf}
+use Rattle.header_rules.specs.Table.{mostNumbers, tableOf}
 use Rattle.header_rules.specs.Trees.{trees}
 use Rattle.header_rules.specs.Told.{candidatesOf}
 use Rattle.header.specs.Decode.{keyOf, decoded}
@@ -22,10 +22,6 @@ use Rattle.listing_text.specs.Listing.{closed, listingOf, formOf, differs}
 use Rattle.listing_text.specs.declared.form.Form.the-variants.{Names, Wrong}
 use Rattle.listing.specs.declared.Judgement.{Judgement}
 use Rattle.listing.specs.declared.Judgement.the-variants.{Yes, Differs, Refused}
-
--- the numbers of a table that has rows enough for every header: refusal 8 does not come
-abbrev pub room : ℕ
-room = 128 * rowWidth
 
 -- LS5: yes, where no line differs
 abbrev pub orYes : ℕ → Judgement
@@ -53,11 +49,11 @@ pub record Against (def : Definition) (d : List ℕ) (key : ℕ) (b : Base) (l :
   pub exactly : (r ≡ Yes) ↔ ((c : Candidate 7) × (fs : List (Field 7)) × First 7 d (trees (b .params)) (candidatesOf key def) c fs
       × (l ≡ listingOf (tableOf 7 d (def .sets) fs) (c .number)))
 
--- LS4: what `judge_listing` answers: first as the header's call refuses, then by the listing's form, then by its lines
+-- LS4: what `judge_listing` answers: first as the header's call refuses by a table of 128 rows, then by the listing's form, then by its lines
 pub record Judges (t d : List ℕ) (region speed : ℕ) (l : List ℕ) (r : Judgement) : Type 0 where
-  pub refused : (x : Refusal) → decoded t d region speed room ≡ header.Refused x → r ≡ Refused x
-  pub wrong : (h : DecodedHeader) (k : ℕ) → decoded t d region speed room ≡ header.Header h → formOf 1 (lines l) ≡ Wrong k
+  pub refused : (x : Refusal) → decoded t d region speed mostNumbers ≡ header.Refused x → r ≡ Refused x
+  pub wrong : (h : DecodedHeader) (k : ℕ) → decoded t d region speed mostNumbers ≡ header.Header h → formOf 1 (lines l) ≡ Wrong k
       → r ≡ Refused (Listing k)
-  pub judged : (h : DecodedHeader) (number last : ℕ) → decoded t d region speed room ≡ header.Header h → formOf 1 (lines l) ≡ Names number last
+  pub judged : (h : DecodedHeader) (number last : ℕ) → decoded t d region speed mostNumbers ≡ header.Header h → formOf 1 (lines l) ≡ Names number last
       → (b : Base) → firstBase (keyOf t region speed) (definition t .bases) ≡ some b
       → Against (definition t) d (keyOf t region speed) b l number last r

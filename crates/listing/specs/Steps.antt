@@ -13,7 +13,7 @@ use Rattle.frame_text.specs.Rules.{verdict}
 use Rattle.frame_definition.specs.Definition.{Base, definition, firstBase}
 use Rattle.header_rules.specs.Data.{Field, Candidate}
 use Rattle.header_rules.specs.Demand.{First}
-use Rattle.header_rules.specs.Table.{tableOf}
+use Rattle.header_rules.specs.Table.{mostNumbers, tableOf}
 use Rattle.header_rules.specs.Trees.{trees}
 use Rattle.header_rules.specs.Told.{candidatesOf}
 use Rattle.header_named.specs.Named.{named, rowsOf}
@@ -23,7 +23,7 @@ use Rattle.listing_text.specs.declared.form.Form.{Form}
 use Rattle.listing_text.specs.declared.form.Form.the-variants.{Names, Wrong}
 use Rattle.listing.specs.declared.Judgement.{Judgement}
 use Rattle.listing.specs.declared.Judgement.the-variants.{Differs, Refused}
-use Rattle.listing.specs.Judge.{room, orLast, Against}
+use Rattle.listing.specs.Judge.{orLast, Against}
 
 -- the answer is a header with this number, the first candidate that holds, and the table has so many rows of it
 pub record Own (t d : List ℕ) (key number count : ℕ) (table : List ℕ) : Type 0 where
@@ -36,7 +36,7 @@ pub record Own (t d : List ℕ) (key number count : ℕ) (table : List ℕ) : Ty
   pub first : First 7 d (trees (base .params)) (candidatesOf key (definition t)) one fields
   pub number-is : number ≡ one .number
   pub rows-are : rowsIn count table ≡ tableOf 7 d (definition t .sets) fields
-  pub long : length table ≡ room
+  pub long : length table ≡ mostNumbers
   pub few : count ≤ 128
 
 -- the H of this number is not the first that holds

@@ -20,7 +20,8 @@ ghost use Rattle.frame_text.specs.Rules.{verdict};
 ghost use Rattle.header.specs.Decode.{keyOf};
 ghost use Rattle.listing_text.specs.Listing.{rowWidth, closed, formOf};
 ghost use Rattle.listing_text.specs.Steps.{rowsIn};
-ghost use Rattle.listing.specs.Judge.{room, orYes, orLast, Judges};
+ghost use Rattle.header_rules.specs.Table.{mostNumbers};
+ghost use Rattle.listing.specs.Judge.{orYes, orLast, Judges};
 ghost use Rattle.listing.specs.Write.{Writes};
 ghost use Rattle.listing.specs.Steps.{Own, Other, ByForm, WritesRows};
 
@@ -65,7 +66,7 @@ fn judge_other(
     last: usize,
     rows: &mut [u64],
 ) -> Judgement
-    requires { ⌜ (verdict (now text) ≡ Accepted) × (length (now mpdu) ≤ 2048) × (length (now rows) ≡ room) ⌝ }
+    requires { ⌜ (verdict (now text) ≡ Accepted) × (length (now mpdu) ≤ 2048) × (length (now rows) ≡ mostNumbers) ⌝ }
     ensures { λ r.
         ⌜ Other (now (text .entry)) (now (mpdu .entry)) (keyOf (now (text .entry)) (sent .region) (sent .speed)) (now (listing .entry)) number last r ⌝ }
 {

@@ -22,7 +22,7 @@ use Rattle.frame_definition.specs.Definition.{Frame, frames, definition, isKey,
 use Rattle.frame_definition.proofs.Views.{View, view}
 use Rattle.crc.specs.Crc.{right}
 use Rattle.header_rules.specs.Data.{Candidate}
-use Rattle.header_rules.specs.Table.{rowWidth}
+use Rattle.header_rules.specs.Table.{rowWidth, mostNumbers}
 use Rattle.header_rules.specs.Trees.{candidateOf}
 use Rattle.header_rules.specs.Says.{Says, Chosen}
 use Rattle.header_rules.specs.Told.{Heading, Told, no-base, no-candidate, more-rows, header, candidatesOf}
@@ -33,7 +33,6 @@ use Rattle.header.specs.declared.Decoded.{Decoded}
 use Rattle.header.specs.declared.Decoded.the-variants.{Header, Refused}
 use Rattle.header.specs.Decode.{ofTold, judged, keyOf, toldOf, decoded, numberIn}
 use Rattle.header.proofs.Says.{decodes}
-use Rattle.totals.specs.Totals.{room}
 
 -- ---- the key of an H line
 abbrev Low : form.Record → Type 0
@@ -139,23 +138,24 @@ abbrev pub OnlyThree : Decoded → Type 0
 OnlyThree (Header h) = Unit
 OnlyThree (Refused x) = (5 ≤ numberOf x) × (numberOf x ≤ 7)
 
-pub only-three : (t d : List ℕ) (region speed : ℕ) → verdict t ≡ text.Accepted → length d ≤ 2048 → OnlyThree (decoded t d region speed room)
+pub only-three : (t d : List ℕ) (region speed : ℕ) → verdict t ≡ text.Accepted → length d ≤ 2048
+    → OnlyThree (decoded t d region speed mostNumbers)
 only-three t d region speed accepted few =
-    rw (accepted, le-ltb 2048 (length d) few) (go (ltb (length d) 2) refl (toldOf t d region speed room) refl)
+    rw (accepted, le-ltb 2048 (length d) few) (go (ltb (length d) 2) refl (toldOf t d region speed mostNumbers) refl)
   where
     table : List ℕ
-    table = replicate room 0
+    table = replicate mostNumbers 0
 
-    full : length table ≡ room
-    full = length-replicate {A = ℕ} room 0
+    full : length table ≡ mostNumbers
+    full = length-replicate {A = ℕ} mostNumbers 0
 
-    never : 2 ≤ length d → numberIn (decoded t d region speed room) ≡ 8 → ⊥
+    never : 2 ≤ length d → numberIn (decoded t d region speed mostNumbers) ≡ 8 → ⊥
     never l q =
         let all = decodes t d region speed table (decoded t d region speed (length table)) _ refl refl in
         all .by-readings (record { accepted = accepted; long = l; short = few }) .enough (omega arith)
         (ap (λ (n : ℕ). numberIn (decoded t d region speed n)) full ∙ q)
 
-    go : (short : Bool) → ltb (length d) 2 ≡ short → (y : Told) → toldOf t d region speed room ≡ y
+    go : (short : Bool) → ltb (length d) 2 ≡ short → (y : Told) → toldOf t d region speed mostNumbers ≡ y
         → OnlyThree (cond short (Refused (TooShort (length d))) (ofTold t (right d speed) y))
     go true q y is = (omega arith, omega arith)
     go false q (no-base k) is = (omega arith, omega arith)

@@ -35,6 +35,7 @@ use Rattle.frame.proofs.Laws.{split-frame, split-none, split-framed, parts-in}
 use Rattle.pti.specs.Payload.{rowOf, rowsIn, rowsOf}
 use Rattle.pti.specs.Steps.{Within, bytesIn}
 use Rattle.pti.proofs.Laws.{within-end, leads-within}
+use Rattle.header_rules.specs.Table.{mostNumbers}
 use Rattle.header.specs.declared.DecodedHeader.{DecodedHeader}
 use Rattle.header.specs.declared.Decoded.{Decoded}
 use Rattle.header.specs.declared.Decoded.the-variants as header
@@ -43,7 +44,7 @@ use Rattle.totals.specs.declared.Framed.{Framed}
 use Rattle.totals.specs.declared.Framed.the-variants.{Is, Nothing}
 use Rattle.totals.specs.declared.Added.{Added}
 use Rattle.totals.specs.declared.Added.the-variants.{Counted, Refused}
-use Rattle.totals.specs.Totals.{size, refusedCounts, headerCounts, beamCounts, room, frameCounts, raisedBy, within, Adds}
+use Rattle.totals.specs.Totals.{size, refusedCounts, headerCounts, beamCounts, frameCounts, raisedBy, within, Adds}
 use Rattle.totals.specs.Steps.{zeros, tally, tallyRows, Room, Tallies, Lies, framedIn, bodyCounts, plus, AddsSums}
 use Rattle.totals.proofs.Sums.{adds-none, adds-both, adds-within, grown, length-rows, room-less, sum-laws}
 use Rattle.totals.proofs.Keys.{key-low}
@@ -67,28 +68,28 @@ module _ (x : Refusal) (n : ℕ) (is : n ≡ numberOf x) where
   pub refused-one : (a b : List ℕ) → Tallies 1 ((1023 + n, 1) ∷ []) a b → 5 ≤ n → n ≤ 7 → Tallies 1 (refusedCounts (numberOf x)) a b
   refused-one a b p l h = rw (← is, le-leb 5 n l, le-leb n 7 h) p
 
-module _ (t d : List ℕ) (region speed : ℕ) (r : Decoded) (answer-is : r ≡ decoded t d region speed room) where
+module _ (t d : List ℕ) (region speed : ℕ) (r : Decoded) (answer-is : r ≡ decoded t d region speed mostNumbers) where
   pub header-key : (h : DecodedHeader) → r ≡ header.Header h → h .key < 256
-  header-key h e = key-low t d region speed room h (sym answer-is ∙ e)
+  header-key h e = key-low t d region speed mostNumbers h (sym answer-is ∙ e)
 
   pub header-counted : (h : DecodedHeader) (a b : List ℕ) → Tallies 2 (headerCounts speed (header.Header h)) a b → r ≡ header.Header h
-      → Tallies 2 (headerCounts speed (decoded t d region speed room)) a b
+      → Tallies 2 (headerCounts speed (decoded t d region speed mostNumbers)) a b
   header-counted h a b p e = rw (← answer-is, e) p
 
   pub header-refused : (x : Refusal) (a b : List ℕ) → Tallies 1 (refusedCounts (numberOf x)) a b → r ≡ header.Refused x
-      → Tallies 2 (headerCounts speed (decoded t d region speed room)) a b
+      → Tallies 2 (headerCounts speed (decoded t d region speed mostNumbers)) a b
   header-refused x a b p e = rw (← answer-is, e) (adds-within 1 2 (refusedCounts (numberOf x)) a b p (omega arith))
 
 -- ---- a frame
 module _ (t : List ℕ) (region : ℕ) (s : List ℕ) (body : ℕ) (f : PtiFrame) (n : ℕ) (is : n ≡ beamsNumber (f .beams)) where
   pub frame-header : (at end : ℕ) (a b c : List ℕ) → Tallies 1 ((1027, f .length) ∷ []) a b
-      → Tallies 2 (headerCounts (f .rate) (decoded t (take (end - at) (drop at s)) region (f .rate) room)) b c → at ≡ body + f .start .0
+      → Tallies 2 (headerCounts (f .rate) (decoded t (take (end - at) (drop at s)) region (f .rate) mostNumbers)) b c → at ≡ body + f .start .0
       → end ≡ at + f .length → n ≡ 0 → Tallies 3 (frameCounts t region s (rowOf 0 body f)) a c
   unfolding frameCounts
   frame-header at end a b c p q is-at is-end none =
       let e : end - at ≡ f .length = omega arith in
       let all =
-      adds-both 1 2 ((1027, f .length) ∷ []) (headerCounts (f .rate) (decoded t (take (end - at) (drop at s)) region (f .rate) room)) a b c p q in
+      adds-both 1 2 ((1027, f .length) ∷ []) (headerCounts (f .rate) (decoded t (take (end - at) (drop at s)) region (f .rate) mostNumbers)) a b c p q in
       rw (eq-eqb (beamsNumber (f .beams)) 0 (sym is ∙ none)) (rw (e, is-at) at all)
 
   pub frame-beam : (a b c : List ℕ) → Tallies 1 ((1027, f .length) ∷ []) a b → Tallies 2 (beamCounts n) b c → (n ≡ 0 → ⊥)

@@ -21,12 +21,13 @@ use Rattle.frame.proofs.Ranges.{Bytes}
 use Rattle.radio.proofs.SpeedLaws.{rate-low}
 use Rattle.pti.specs.Payload.{rowOf, rowsIn, rowsOf, Placed, AllPlaced}
 use Rattle.pti.proofs.Laws.{located}
+use Rattle.header_rules.specs.Table.{mostNumbers}
 use Rattle.header.specs.declared.Decoded.{Decoded}
 use Rattle.header.specs.declared.Decoded.the-variants as header
 use Rattle.header.specs.Decode.{decoded}
 use Rattle.totals.specs.declared.Added.{Added}
 use Rattle.totals.specs.declared.Added.the-variants.{Counted, Refused}
-use Rattle.totals.specs.Totals.{size, bytesAt, refusedCounts, headerCounts, beamCounts, rateIn, beamsIn, mpduIn, room, kindCounts}
+use Rattle.totals.specs.Totals.{size, bytesAt, refusedCounts, headerCounts, beamCounts, rateIn, beamsIn, mpduIn, kindCounts}
 use Rattle.totals.specs.Totals.{frameCounts, amountAt, grownAt, growth, judged, addedOf, totalsAfter}
 use Rattle.totals.specs.Steps.{zeros}
 use Rattle.totals.specs.Runs.{sumBelow, counted, afterRun, onto, taken, growthOf, framesOf}
@@ -130,10 +131,10 @@ refused-weight n l h = go (eqb n 5) refl (eqb n 6) refl
             last false e = let many = leb-false n 6 e in omega arith
 
 header-weight : (t d : List ℕ) (region rate : ℕ) → verdict t ≡ text.Accepted → length d ≤ 2048 → rate < 4
-    → weights (headerCounts rate (decoded t d region rate room)) ≡ 1
+    → weights (headerCounts rate (decoded t d region rate mostNumbers)) ≡ 1
 unfolding weights
 header-weight t d region rate accepted few low =
-    go (decoded t d region rate room) (λ h e. key-low t d region rate room h e) (only-three t d region rate accepted few)
+    go (decoded t d region rate mostNumbers) (λ h e. key-low t d region rate mostNumbers h e) (only-three t d region rate accepted few)
   where
     go : (r : Decoded) → ((h : _) → r ≡ header.Header h → h .key < 256) → OnlyThree r → weights (headerCounts rate r) ≡ 1
     go (header.Header h) key three =
@@ -156,7 +157,7 @@ beam-weight n = refl
 
 kind-weight : (t : List ℕ) (region : ℕ) (s row : List ℕ) → verdict t ≡ text.Accepted → Fair row → weights (kindCounts t region s row) ≡ 1
 kind-weight t region s row accepted fair =
-    go (eqb (beamsIn row) 0) (headerCounts (rateIn row) (decoded t (mpduIn s row) region (rateIn row) room))
+    go (eqb (beamsIn row) 0) (headerCounts (rateIn row) (decoded t (mpduIn s row) region (rateIn row) mostNumbers))
     (header-weight t (mpduIn s row) region (rateIn row) accepted few (fair .0))
   where
     few : length (mpduIn s row) ≤ 2048

@@ -14,7 +14,7 @@ use Rattle.frame.specs.declared.Reading.{Reading}
 use Rattle.frame.specs.declared.Rules.{Rules}
 use Rattle.frame.specs.Frame.{regionBits, rulesOf}
 use Rattle.pti.specs.Payload.{rowsOf}
-use Rattle.header_rules.specs.Table.{rowWidth}
+use Rattle.header_rules.specs.Table.{mostNumbers}
 use Rattle.header.specs.declared.Decoded.{Decoded}
 use Rattle.header.specs.declared.Decoded.the-variants as header
 use Rattle.header.specs.Decode.{decoded}
@@ -71,14 +71,10 @@ beamsIn row = getD row 5 0
 abbrev pub mpduIn : List ℕ → List ℕ → List ℕ
 mpduIn s row = take (getD row 7 0) (drop (getD row 6 0) s)
 
--- TO3: a table that has room for every header: 128 rows
-abbrev pub room : ℕ
-room = 128 * rowWidth
-
--- TO2: the frame of a row of the payload s, by the text t at a region: a beam, or what its header counts at its own rate
+-- TO2: the frame of a row of the payload s, by the text t at a region: a beam, or what its header counts at its own rate, in a table of 128 rows
 abbrev pub kindCounts : List ℕ → ℕ → List ℕ → List ℕ → List (ℕ × ℕ)
 kindCounts t region s row =
-    cond (eqb (beamsIn row) 0) (headerCounts (rateIn row) (decoded t (mpduIn s row) region (rateIn row) room))
+    cond (eqb (beamsIn row) 0) (headerCounts (rateIn row) (decoded t (mpduIn s row) region (rateIn row) mostNumbers))
     (beamCounts (beamsIn row))
 
 -- TO2: and its bytes

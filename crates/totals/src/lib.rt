@@ -27,11 +27,12 @@ ghost use Rattle.text.specs.declared.Verdict.the-variants.{Accepted};
 ghost use Rattle.frame_text.specs.Rules.{verdict};
 ghost use Rattle.radio.specs.Speed.{RateTable};
 ghost use Rattle.refusal.specs.Refusal.{numberOf};
+ghost use Rattle.header_rules.specs.Table.{mostNumbers};
 ghost use Rattle.header.specs.declared.Decoded.the-variants.{Header};
 ghost use Rattle.header.specs.Decode.{decoded};
 ghost use Rattle.pti.specs.Payload.{rowsOf, rowOf};
 ghost use Rattle.pti.specs.Steps.{Within};
-ghost use Rattle.totals.specs.Totals.{size, refusedCounts, headerCounts, beamCounts, room, frameCounts, within, Adds};
+ghost use Rattle.totals.specs.Totals.{size, refusedCounts, headerCounts, beamCounts, frameCounts, within, Adds};
 ghost use Rattle.totals.specs.Steps.{zeros, Room, Tallies, Lies, framedIn, bodyCounts, tallyRows, plus, AddsSums};
 
 // How many rates there are: a key has a count for each.
@@ -53,7 +54,7 @@ pub const REFUSED: usize = 1023;
 pub const TOTALS: usize = 1031;
 
 // The greatest total.
-const MOST: u64 = 9223372036854775807;
+pub const MOST: u64 = 9223372036854775807;
 
 // What adding a payload answers.
 pub enum Added {
@@ -109,7 +110,7 @@ fn count_header(text: &[u8], mpdu: &[u8], region: u64, rate: u8, sums: &mut [u64
     requires { ⌜ verdict (now text) ≡ Accepted ⌝ }
     requires { ⌜ (rate < 4) × (Room 2 (now sums)) ⌝ }
     ensures { λ _.
-        ⌜ Tallies 2 (headerCounts rate (decoded (now (text .entry)) (now (mpdu .entry)) region rate room)) (now (sums .entry)) (now (sums .exit)) ⌝ }
+        ⌜ Tallies 2 (headerCounts rate (decoded (now (text .entry)) (now (mpdu .entry)) region rate mostNumbers)) (now (sums .entry)) (now (sums .exit)) ⌝ }
 {
     match identify_accepted(text, mpdu, region, rate as u64) {
         Decoded::Header(header) => count_heading(header, rate, sums),
