@@ -9,26 +9,31 @@ use lib.ListN.{length, getD, set, replicate, length-replicate}
 use borrow.Author.Tests.{le-leb, lt-leb, lt-ltb, le-ltb, eq-eqb, ne-eqb}
 use Rattle.refusal.specs.declared.Refusal.{Refusal}
 use Rattle.refusal.specs.Refusal.{numberOf}
-use Rattle.header_rules.specs.Table.{rowWidth}
+use Rattle.header_rules.specs.Table.{rowWidth, mostNumbers, cell, numberColumn, symbolColumn}
 use Rattle.header.specs.declared.DecodedHeader.{DecodedHeader}
 use Rattle.header.specs.declared.Decoded.{Decoded}
 use Rattle.header.specs.declared.Decoded.the-variants.{Header, Refused}
 use Rattle.header.specs.Decode.{decoded, toldOf, tableAfter, Decodes}
 use Rattle.header.proofs.Room.{Stands, header-stands}
+use Rattle.totals.specs.Totals.{most}
 use Rattle.coverage.specs.Coverage.{
+  headers,
+  params,
+  entries,
+  paramsAt,
+  entriesAt,
+  refusedAt,
+  noSet,
   size,
   placeIn,
   entryPlace,
   refusedPlace,
   setAt,
   rowPlaces,
-  cell,
   rowsFrom,
-  room,
   answerPlaces,
   tableOf,
   framePlaces,
-  most,
   raised,
   raisedAll,
 }
@@ -60,17 +65,18 @@ entry-none d symbol e = rw (eq-eqb symbol 0 e) refl
 pub entry-past : (d symbol : ℕ) → (symbol ≡ 0 → ⊥) → 64 < symbol → size ≡ entryPlace d symbol
 entry-past d symbol some h = rw (ne-eqb symbol 0 some, lt-leb symbol 64 h) refl
 
-pub entry-in : (d symbol r : ℕ) → r ≡ placeIn 5184 1024 (d * 64 + symbol - 1) → (symbol ≡ 0 → ⊥) → symbol ≤ 64 → r ≡ entryPlace d symbol
+pub entry-in : (d symbol r : ℕ) → r ≡ placeIn entriesAt entries (d * 64 + symbol - 1) → (symbol ≡ 0 → ⊥) → symbol ≤ 64
+    → r ≡ entryPlace d symbol
 entry-in d symbol r e some h = rw (ne-eqb symbol 0 some, le-leb symbol 64 h) e
 
-pub set-in : (sets : List ℕ) (k : ℕ) → k < 5120 → getD sets k 0 ≡ setAt sets k
-set-in sets k h = rw (lt-ltb k 5120 h) refl
+pub set-in : (sets : List ℕ) (k : ℕ) → k < params → getD sets k 0 ≡ setAt sets k
+set-in sets k h = rw (lt-ltb k params h) refl
 
-pub set-none : (sets : List ℕ) (k : ℕ) → 5120 ≤ k → 16 ≡ setAt sets k
-set-none sets k h = rw (le-ltb k 5120 h) refl
+pub set-none : (sets : List ℕ) (k : ℕ) → params ≤ k → noSet ≡ setAt sets k
+set-none sets k h = rw (le-ltb k params h) refl
 
 -- ---- a row
-pub row-counted : (sets : List ℕ) (number symbol p d q : ℕ) (a b c : List ℕ) → p ≡ placeIn 64 5120 number → b ≡ raised a p
+pub row-counted : (sets : List ℕ) (number symbol p d q : ℕ) (a b c : List ℕ) → p ≡ placeIn paramsAt params number → b ≡ raised a p
     → d ≡ setAt sets number
     → q ≡ entryPlace d symbol → c ≡ raised b q → c ≡ raisedAll a (rowPlaces sets number symbol)
 row-counted sets number symbol p d q a b c is-p is-b is-d is-q is-c = rw (is-c, is-q, is-d, is-b, is-p) refl
@@ -97,11 +103,11 @@ module _ (sets rows counts₀ counts : List ℕ) (k n : ℕ) (inv : Counting set
     counting-at = omega (arith, inv .inside)
 
     pub counting-more : (counts′ : List ℕ)
-        → counts′ ≡ raisedAll counts (rowPlaces sets (cell rows k 0) (cell rows k 6))
+        → counts′ ≡ raisedAll counts (rowPlaces sets (cell rows k numberColumn) (cell rows k symbolColumn))
         → Counting sets rows counts₀ counts′ (k + 1) n
     counting-more counts′ e =
         let z : n - k ≡ suc (n - (k + 1)) = omega arith in
-        let places = rowPlaces sets (cell rows k 0) (cell rows k 6) in
+        let places = rowPlaces sets (cell rows k numberColumn) (cell rows k symbolColumn) in
         record {
           rest = rw e (sym (raised-append counts places (rowsFrom sets rows (k + 1) (n - (k + 1)))) ∙ rw z at (inv .rest));
           few = omega arith;
@@ -113,7 +119,7 @@ module _ (x : Refusal) (n : ℕ) (is : n ≡ numberOf x) (a : List ℕ) where
   pub refused-low : n < 5 → a ≡ raised a (refusedPlace (numberOf x))
   refused-low h = rw (← is, lt-leb 5 n h) refl
 
-  pub refused-one : (b : List ℕ) → b ≡ raised a (6203 + n) → 5 ≤ n → b ≡ raised a (refusedPlace (numberOf x))
+  pub refused-one : (b : List ℕ) → b ≡ raised a (refusedAt + n) → 5 ≤ n → b ≡ raised a (refusedPlace (numberOf x))
   refused-one b e h = rw (← is, le-leb 5 n h) e
 
 -- ---- a header
@@ -122,14 +128,14 @@ module _ (sets t d : List ℕ) (region speed : ℕ) (r : Decoded) (rows : List �
   full : length (replicate {A = ℕ} 896 0) ≡ 896
   full = length-replicate {A = ℕ} 896 0
 
-  answer-is : r ≡ decoded t d region speed room
+  answer-is : r ≡ decoded t d region speed mostNumbers
   answer-is = dec .answer ∙ ap (decoded t d region speed) full
 
   rows-are : rows ≡ tableOf t d region speed
   rows-are =
       let zeros : List ℕ = replicate {A = ℕ} 896 0 in
       dec .rows ∙ ap (λ (n : ℕ). tableAfter zeros (toldOf t d region speed n) r) full
-      ∙ ap (λ (x : Decoded). tableAfter zeros (toldOf t d region speed room) x) answer-is
+      ∙ ap (λ (x : Decoded). tableAfter zeros (toldOf t d region speed mostNumbers) x) answer-is
 
   places : framePlaces sets t d region speed ≡ answerPlaces sets rows r
   places = rw (rows-are, answer-is) refl
@@ -139,7 +145,7 @@ module _ (sets t d : List ℕ) (region speed : ℕ) (r : Decoded) (rows : List �
       let stands : Stands 896 (Header h) = rw (full, e) at (header-stands t d region speed (replicate {A = ℕ} 896 0) r rows dec) in
       omega (arith, stands)
 
-  pub header-counted : (h : DecodedHeader) (p : ℕ) (a b c : List ℕ) → r ≡ Header h → p ≡ placeIn 0 64 (h .number) → b ≡ raised a p
+  pub header-counted : (h : DecodedHeader) (p : ℕ) (a b c : List ℕ) → r ≡ Header h → p ≡ placeIn 0 headers (h .number) → b ≡ raised a p
       → c ≡ raisedAll b (rowsFrom sets rows 0 (h .rows)) → c ≡ raisedAll a (framePlaces sets t d region speed)
   header-counted h p a b c e is-p is-b is-c = rw (places, e, is-c, is-b, is-p) refl
 

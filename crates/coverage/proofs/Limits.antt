@@ -9,7 +9,8 @@ use lib.ListN.{length, getD, set, length-set, List·getD-eq-default}
 use lib.Seq.{getD-set-same, getD-set-other}
 use borrow.Author.Tests.{eqb-true, eqb-false, ltb-true, ltb-false}
 use Rattle.laws.proofs.Bools.{and-right}
-use Rattle.coverage.specs.Coverage.{size, most, raised, raisedAll}
+use Rattle.totals.specs.Totals.{most}
+use Rattle.coverage.specs.Coverage.{size, raised, raisedAll}
 
 -- how often a place stands in a list of places
 abbrev pub often : ℕ → List ℕ → ℕ

@@ -7,13 +7,13 @@ use lib.ListN.{length, getD, drop, length-append, List·getD-append}
 use lib.Seq.{getD-append-add}
 use Rattle.rows.specs.Rows.{flat, laid}
 use Rattle.rows.specs.Parts.{Wide}
-use Rattle.header_rules.specs.Table.{rowWidth}
-use Rattle.coverage.specs.Coverage.{rowPlaces, cell, rowsFrom}
+use Rattle.header_rules.specs.Table.{rowWidth, cell, numberColumn, symbolColumn}
+use Rattle.coverage.specs.Coverage.{rowPlaces, rowsFrom}
 
--- the places of rows, each by its first and its last number
+-- the places of rows, each by the number of its P line and its symbol
 abbrev pub placesOf : List ℕ → List (List ℕ) → List ℕ
 placesOf sets [] = []
-placesOf sets (r ∷ rs) = rowPlaces sets (getD r 0 0) (getD r 6 0) ++ placesOf sets rs
+placesOf sets (r ∷ rs) = rowPlaces sets (getD r numberColumn 0) (getD r symbolColumn 0) ++ placesOf sets rs
 
 -- a number of the row behind k others
 cell-is : (front r rest : List ℕ) (k c : ℕ) → length front ≡ k * rowWidth → c < length r → cell (front ++ (r ++ rest)) k c ≡ getD r c 0
@@ -29,14 +29,14 @@ rows-behind sets (r ∷ rs) front rest k wide is =
     let whole : front ++ (flat (r ∷ rs) ++ rest) ≡ front ++ (r ++ tail) = ap (λ (l : List ℕ). front ++ l) (append-assoc r (flat rs) rest) in
     let parted : front ++ (r ++ tail) ≡ (front ++ r) ++ tail = sym (append-assoc front r tail) in
     let long : length (front ++ r) ≡ (k + 1) * rowWidth = length-append front r ∙ omega (arith, is, wide .0) in
-    let first : cell (front ++ (r ++ tail)) k 0 ≡ getD r 0 0 = cell-is front r tail k 0 is (omega (arith, wide .0)) in
-    let last : cell (front ++ (r ++ tail)) k 6 ≡ getD r 6 0 = cell-is front r tail k 6 is (omega (arith, wide .0)) in
+    let first : cell (front ++ (r ++ tail)) k numberColumn ≡ getD r numberColumn 0 = cell-is front r tail k numberColumn is (omega (arith, wide .0)) in
+    let last : cell (front ++ (r ++ tail)) k symbolColumn ≡ getD r symbolColumn 0 = cell-is front r tail k symbolColumn is (omega (arith, wide .0)) in
     let others : rowsFrom sets (front ++ (r ++ tail)) (k + 1) (length rs) ≡ placesOf sets rs =
     ap (λ (l : List ℕ). rowsFrom sets l (k + 1) (length rs)) parted ∙ rows-behind sets rs (front ++ r) rest (k + 1) (wide .1) long in
     ap (λ (l : List ℕ). rowsFrom sets l k (suc (length rs))) whole
-    ∙ ap (λ (n : ℕ). rowPlaces sets n (cell (front ++ (r ++ tail)) k 6) ++ rowsFrom sets (front ++ (r ++ tail)) (k + 1) (length rs)) first
-    ∙ ap (λ (n : ℕ). rowPlaces sets (getD r 0 0) n ++ rowsFrom sets (front ++ (r ++ tail)) (k + 1) (length rs)) last
-    ∙ ap (λ (l : List ℕ). rowPlaces sets (getD r 0 0) (getD r 6 0) ++ l) others
+    ∙ ap (λ (n : ℕ). rowPlaces sets n (cell (front ++ (r ++ tail)) k symbolColumn) ++ rowsFrom sets (front ++ (r ++ tail)) (k + 1) (length rs)) first
+    ∙ ap (λ (n : ℕ). rowPlaces sets (getD r numberColumn 0) n ++ rowsFrom sets (front ++ (r ++ tail)) (k + 1) (length rs)) last
+    ∙ ap (λ (l : List ℕ). rowPlaces sets (getD r numberColumn 0) (getD r symbolColumn 0) ++ l) others
 
 -- CV3: of a table over which rows are laid
 pub rows-placed : (sets : List ℕ) (rs : List (List ℕ)) (table : List ℕ) → Wide rowWidth rs

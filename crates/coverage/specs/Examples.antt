@@ -1,7 +1,8 @@
 -- Which counts are raised, by examples.
 use mathlib.Core.Path.{_≡_, refl}
 use mathlib.Core.List.{[], _∷_}
-use Rattle.coverage.specs.Coverage.{headerPlace, paramPlace, entryPlace, refusedPlace, rowsFrom, raisedAll, most}
+use Rattle.totals.specs.Totals.{most}
+use Rattle.coverage.specs.Coverage.{headerPlace, paramPlace, entryPlace, refusedPlace, rowsFrom, raisedAll}
 
 -- the first and the last of each kind
 pub places : headerPlace 0 ∷ headerPlace 63 ∷ paramPlace 0 ∷ paramPlace 5119 ∷ entryPlace 0 1 ∷ entryPlace 15 64 ∷ refusedPlace 5

@@ -7,6 +7,7 @@ use header_rows::NUMBER;
 use header_rows::ROW_WIDTH;
 use header_rows::SYMBOL;
 use refusal::Refusal;
+use totals::MOST;
 ghost use mathlib.Core.Path.{_≡_};
 ghost use Prim.Native.Nat.{_+_, _*_, _≤_};
 ghost use lib.ListN.{length};
@@ -37,10 +38,7 @@ pub const COUNTS: usize = REFUSED + 8;
 // Where a P line has no set.
 pub const NO_SET: u8 = 16;
 
-// The greatest count.
-const MOST: u64 = 9223372036854775807;
-
-// Counts one more at a place, if there is such a place and it has not reached the greatest count.
+// Counts one more at a place, if there is such a place and it has not reached the greatest number.
 fn raise(counts: &mut [u64; COUNTS], at: usize)
     ensures { λ _. ⌜ now (counts .exit) ≡ raised (now (counts .entry)) at ⌝ }
 {
