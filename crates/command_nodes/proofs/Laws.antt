@@ -4,7 +4,7 @@ use mathlib.Core.Bool.{Bool, true, false}
 use mathlib.Core.List.{List, []}
 use Prim.Native.Nat.{ℕ, _+_, _-_, _*_, _/_, _≤_, _<_}
 use native.Mathlib.Omega.{arith}
-use lib.ListN.{length, take, drop}
+use lib.ListN.{length}
 use borrow.Author.Tests.{eq-eqb, ne-eqb, le-leb, lt-leb}
 use Rattle.refusal.specs.declared.Refusal.{Refusal}
 use Rattle.refusal.specs.declared.Refusal.the-variants.{NoSuchField}
@@ -32,7 +32,7 @@ use Rattle.node_mask.specs.Nodes.{Lists}
 use Rattle.node_mask.proofs.NodeLaws.{nodes-address}
 use Rattle.node_mask.specs.declared.Listed.{Listed}
 use Rattle.node_mask.specs.declared.Listed.the-variants as listing
-use Rattle.command_nodes.specs.Fields.{typeSaid, typeRead, typeAmong, paramType, isTyped, isMask, partIn, maskOf}
+use Rattle.command_nodes.specs.Fields.{typeSaid, typeRead, typeAmong, paramType, isTyped, isMask, maskOf}
 use Rattle.command_nodes.specs.Answer.{RowNodes, LentNodes, ofFound, leftBy, CommandNodes}
 
 -- ---- type_read
@@ -90,16 +90,12 @@ module _ (t : List ℕ) (kind line : ℕ) where
   unfolding isMask
   mask-typed x b e is h = rw (eq-eqb kind 0 h, ← e) is
 
--- ---- bytes_between
-pub no-bytes : (payload l : List ℕ) (start end : ℕ) → l ≡ take 0 (drop start payload) → end < start → l ≡ partIn payload start end
-no-bytes payload l start end e h = let z : end - start ≡ 0 = omega arith in rw z e
-
 -- ---- nodes_of_row
 module _ (t payload : List ℕ) (row : Row) (k : ℕ) (table : List ℕ) (b : Bool) (is : b ≡ isMask t (row .kind) (row .line)) where
   pub row-not : b ≡ false → RowNodes t payload row k table (listing.Refused (NoSuchField k)) table
   row-not e = record { answer = rw (← is, e) refl; leaves = refl }
 
-  pub row-lists : (m : List ℕ) (r : Listed) (table′ : List ℕ) → m ≡ partIn payload (row .start) (row .end) → Lists m table r table′ → b ≡ true
+  pub row-lists : (m : List ℕ) (r : Listed) (table′ : List ℕ) → m ≡ maskOf payload row → Lists m table r table′ → b ≡ true
       → RowNodes t payload row k table r table′
   row-lists m r table′ part l e = record { answer = rw (← is, e, ← part) (l .answer); leaves = rw (← part) (l .leaves) }
 
@@ -164,7 +160,6 @@ pub ruleset laws = (
   type-less,
   mask-kind,
   mask-typed,
-  no-bytes,
   row-not,
   row-lists,
   lent-not,

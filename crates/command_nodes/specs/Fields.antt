@@ -1,9 +1,8 @@
 -- BM2 (docs/RULES.md): which rows of a command are masks of nodes.
-use Prim.Native.Nat.{ℕ, _-_}
+use Prim.Native.Nat.{ℕ}
 use mathlib.Core.Bool.{Bool, true, false, cond, _&&_}
 use mathlib.Core.List.{List, [], _∷_}
 use lib.Dec.{eqb}
-use lib.ListN.{take, drop}
 use Rattle.text.specs.Text.{lines}
 use Rattle.text.specs.Records.{records}
 use Rattle.command_text.specs.Form.{Record, param, group, item, form}
@@ -14,6 +13,7 @@ use Rattle.command_text.specs.declared.Typed.the-variants.{Is, Not}
 use Rattle.command_class.specs.Definition.{Item, numbered}
 use Rattle.command_class.specs.declared.Row.{Row as Line}
 use Rattle.command_rules.specs.declared.Row.{Row}
+use Rattle.command_row.specs.Answer.{bytesOf}
 
 -- the type that a line says, if it is a Q
 abbrev pub typeSaid : Record → Typed
@@ -55,14 +55,10 @@ isTyped Not = false
 unfoldable pub isMask : List ℕ → ℕ → ℕ → Bool
 isMask t kind line = eqb kind 0 && isTyped (paramType t line)
 
--- the bytes from one place to another
-abbrev pub partIn : List ℕ → ℕ → ℕ → List ℕ
-partIn payload start end = take (end - start) (drop start payload)
-
 -- BM2: is it the row of such a parameter
 abbrev pub isMaskRow : List ℕ → Row → Bool
 isMaskRow t r = isMask t (r .kind) (r .line)
 
 -- BM2: its bytes of the payload
 abbrev pub maskOf : List ℕ → Row → List ℕ
-maskOf payload r = partIn payload (r .start) (r .end)
+maskOf payload r = bytesOf payload r

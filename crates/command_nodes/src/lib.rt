@@ -2,6 +2,7 @@
 use command_class::Row as Line;
 use command_class::read_at;
 use command_row::Found;
+use command_row::bytes_of;
 use command_row::row_accepted;
 use command_rows::ROW_WIDTH;
 use command_rows::read_row;
@@ -10,7 +11,6 @@ use command_rules::Row;
 use command_text::ParamType;
 use command_text::Typed;
 use command_text::check_command_text;
-use header_paths::part_of;
 use node_mask::Listed;
 use node_mask::mask_nodes;
 use refusal::Refusal;
@@ -19,7 +19,7 @@ use text::Verdict;
 ghost use mathlib.Core.Path.{_≡_};
 ghost use Rattle.text.specs.declared.Verdict.the-variants.{Accepted};
 ghost use Rattle.command_text.specs.Rules.{verdict};
-ghost use Rattle.command_nodes.specs.Fields.{paramType, typeRead, isBitmask, isTyped, isMask, partIn};
+ghost use Rattle.command_nodes.specs.Fields.{paramType, typeRead, isBitmask, isTyped, isMask};
 ghost use Rattle.command_nodes.specs.Answer.{RowNodes, LentNodes, CommandNodes};
 
 // The type that a line says, if it is a Q.
@@ -88,24 +88,13 @@ fn is_mask(text: &[u8], kind: u64, line: u64) -> bool
     is_typed(param_type(text, line))
 }
 
-// The bytes of a payload from one place to another.
-fn bytes_between(payload: &[u8], start: u64, end: u64) -> &[u8]
-    ensures { λ r. ⌜ now r ≡ partIn (now (payload .entry)) start end ⌝ }
-{
-    if end < start {
-        return part_of(payload, start, 0);
-    }
-    part_of(payload, start, end - start)
-}
-
 // The nodes of a row by a text that is accepted; or refusal 11, which carries the number of the row that was asked for, or 8.
 fn nodes_of_row(text: &[u8], payload: &[u8], row: Row, asked: usize, nodes: &mut [u16]) -> Listed
     requires { ⌜ verdict (now text) ≡ Accepted ⌝ }
     ensures { λ r. ⌜ RowNodes (now (text .entry)) (now (payload .entry)) row asked (now (nodes .entry)) r (now (nodes .exit)) ⌝ }
 {
     if is_mask(text, row.kind, row.line) {
-        let mask = bytes_between(payload, row.start, row.end);
-        return mask_nodes(mask, nodes);
+        return mask_nodes(bytes_of(payload, row), nodes);
     }
     Listed::Refused(Refusal::NoSuchField(asked))
 }

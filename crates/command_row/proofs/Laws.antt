@@ -4,8 +4,9 @@ use mathlib.Core.List.{List, [], _∷_}
 use Prim.Native.Nat.{ℕ, _-_, _≤_, _<_}
 use native.Mathlib.Omega.{arith}
 use lib.ListN.{length, take, drop, length-drop, drop-of-length-le}
+use lib.Seq.{take-all, take-nil}
 use borrow.Author.Tests.{lt-ltb, le-ltb}
-use Rattle.laws.proofs.Lists.{tail}
+use Rattle.laws.proofs.Lists.{done, tail}
 use Rattle.refusal.specs.declared.Refusal.{Refusal}
 use Rattle.refusal.specs.declared.Refusal.the-variants.{TooLong, TooShort, NoSuchField}
 use Rattle.text.specs.declared.Verdict.{Verdict}
@@ -24,7 +25,7 @@ use Rattle.command_groups.specs.Steps.{Gives}
 use Rattle.command_groups.specs.declared.Taken.{Taken}
 use Rattle.command.specs.Answer.{bodyOf}
 use Rattle.command.proofs.Decoding.{loaded-all, loaded-short}
-use Rattle.command_row.specs.Answer.{nth, rowBy, rowOf}
+use Rattle.command_row.specs.Answer.{nth, rowBy, rowOf, bytesOf}
 use Rattle.command_row.specs.declared.Found.{Found}
 use Rattle.command_row.specs.declared.Found.the-variants.{Row, Refused}
 
@@ -90,6 +91,17 @@ module _ (offsets : Offsets) (x payload : List ℕ) (k : ℕ) (v : Verdict) (is-
   unfolding rowOf
   text-found r e a = rw (← is-v, a) e
 
+-- ---- bytes_of
+module _ (p : List ℕ) (r : Numbers) where
+  pub bytes-none : r .end ≤ r .start → [] ≡ bytesOf p r
+  bytes-none h = let z : r .end - r .start ≡ 0 = omega arith in rw z
+
+  pub bytes-past : length p ≤ r .start → [] ≡ bytesOf p r
+  bytes-past h = rw (done p (r .start) h) (sym (take-nil (r .end - r .start)))
+
+  pub bytes-rest : length p < r .end → take (length p - r .start) (drop (r .start) p) ≡ bytesOf p r
+  bytes-rest h = tail p (r .start) ∙ sym (take-all (r .end - r .start) (drop (r .start) p) (rw length-drop (omega arith)))
+
 pub ruleset laws = (
   row-past,
   row-there,
@@ -102,4 +114,7 @@ pub ruleset laws = (
   text-accepted,
   text-refused,
   text-found,
+  bytes-none,
+  bytes-past,
+  bytes-rest,
 )

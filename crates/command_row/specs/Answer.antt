@@ -1,9 +1,9 @@
 -- BM5 (docs/RULES.md): one row of a command, by its number.
-use Prim.Native.Nat.{ℕ}
+use Prim.Native.Nat.{ℕ, _-_}
 use mathlib.Core.Bool.{cond}
 use mathlib.Core.List.{List, [], _∷_}
 use lib.Dec.{ltb}
-use lib.ListN.{length, drop}
+use lib.ListN.{length, take, drop}
 use Rattle.refusal.specs.declared.Refusal.the-variants.{TooLong, TooShort, NoSuchField}
 use Rattle.text.specs.declared.Verdict.{Verdict}
 use Rattle.text.specs.declared.Verdict.the-variants as text
@@ -40,3 +40,7 @@ onVerdict (text.Refused x) found = Refused x
 -- BM5: what `command_row` answers
 unfoldable pub rowOf : Offsets → List ℕ → List ℕ → ℕ → Found
 rowOf offsets t payload k = onVerdict (verdict t) (rowBy offsets (definition t) payload k)
+
+-- BM2, VT2: the bytes of the payload that a row names, end excluded
+abbrev pub bytesOf : List ℕ → Numbers → List ℕ
+bytesOf payload r = take (r .end - r .start) (drop (r .start) payload)

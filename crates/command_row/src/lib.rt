@@ -20,7 +20,7 @@ ghost use Rattle.command_class.specs.Definition.{definition};
 ghost use Rattle.command_schema.specs.Heads.{headsOf, entriesOf};
 ghost use Rattle.command_schema.specs.Loaded.{loadedWidth};
 ghost use Rattle.command_rules.specs.Walk.{walk};
-ghost use Rattle.command_row.specs.Answer.{nth, rowBy, rowOf};
+ghost use Rattle.command_row.specs.Answer.{nth, rowBy, rowOf, bytesOf};
 
 // The row that was asked for, or a refusal.
 pub enum Found {
@@ -70,4 +70,25 @@ pub fn command_row(text: &[u8], payload: &[u8], offsets: Offsets, row: usize) ->
         Verdict::Accepted => row_accepted(text, payload, offsets, row),
         Verdict::Refused(refusal) => Found::Refused(refusal),
     }
+}
+
+// The bytes of a payload that a row names, as far as they are there.
+pub fn bytes_of(payload: &[u8], row: Row) -> &[u8]
+    ensures { λ r. ⌜ now r ≡ bytesOf (now (payload .entry)) row ⌝ }
+{
+    let length = payload.len() as u64;
+    let start = row.start;
+    let end = row.end;
+    if end <= start {
+        return &payload[..0];
+    }
+    if length <= start {
+        return &payload[..0];
+    }
+    let a = start as usize;
+    if length < end {
+        return &payload[a..];
+    }
+    let e = end as usize;
+    &payload[a..e]
 }

@@ -2,13 +2,11 @@
 use mathlib.Core.Path.{_≡_, refl, sym, _∙_}
 use mathlib.Core.Bool.{Bool}
 use mathlib.Core.List.{List, []}
-use Prim.Native.Nat.{ℕ, _-_, _≤_, _<_}
+use Prim.Native.Nat.{ℕ, _≤_}
 use native.Mathlib.Decide.{decLe}
 use native.Mathlib.Omega.{arith}
-use lib.ListN.{length, take, drop, length-take, length-drop}
-use lib.Seq.{take-all, take-nil}
+use lib.ListN.{length, length-take, length-drop}
 use borrow.Author.Tests.{eq-eqb, ne-eqb, lt-ltb}
-use Rattle.laws.proofs.Lists.{done, tail}
 use Rattle.refusal.specs.declared.Refusal.{Refusal}
 use Rattle.refusal.specs.declared.Refusal.the-variants.{TooLong}
 use Rattle.text.specs.Records.{Readable}
@@ -24,31 +22,20 @@ use Rattle.buffer.specs.Buffer.{Writes}
 use Rattle.display.specs.Display.{display, displayBit}
 use Rattle.command_rules.specs.declared.Offsets.{Offsets}
 use Rattle.command_rules.specs.declared.Row.{Row}
-use Rattle.command_row.specs.Answer.{rowBy, rowOf}
+use Rattle.command_row.specs.Answer.{rowBy, rowOf, bytesOf}
 use Rattle.command_row.specs.declared.Found.{Found}
 use Rattle.command_row.specs.declared.Found.the-variants as found
-use Rattle.command_value.specs.Params.{isAscii, constName, isFlag, bytesBetween, paramText, bitText, rowText}
+use Rattle.command_value.specs.Params.{isAscii, constName, isFlag, paramText, bitText, rowText}
 use Rattle.command_value.specs.Lookup.{Behind, IsShown, asciiBy, nameBy}
 use Rattle.command_value.specs.declared.lookup.Shown.{Shown}
 use Rattle.command_value.specs.declared.lookup.Shown.the-variants.{Ascii, Named, Plain}
 use Rattle.command_value.specs.Answer.{ofFound, leftBy, CommandValue}
 use Rattle.command_value.proofs.LookupLaws.{lookup-laws}
 
--- ---- bytes_between
-module _ (p : List ℕ) (start end : ℕ) where
-  pub between-none : end ≤ start → [] ≡ bytesBetween p start end
-  between-none h = let z : end - start ≡ 0 = omega arith in rw z
-
-  pub between-past : length p ≤ start → [] ≡ bytesBetween p start end
-  between-past h = rw (done p start h) (sym (take-nil (end - start)))
-
-  pub between-rest : length p < end → take (length p - start) (drop start p) ≡ bytesBetween p start end
-  between-rest h = tail p start ∙ sym (take-all (end - start) (drop start p) (rw length-drop (omega arith)))
-
-  pub between-short : (l : List ℕ) → l ≡ bytesBetween p start end → length p ≤ 2048 → length l ≤ 2048
-  between-short l e h = rw e (simp (length-take, length-drop) (omega arith))
-
 -- ---- param_value, bit_value
+pub bytes-short : (p : List ℕ) (r : Row) (l : List ℕ) → l ≡ bytesOf p r → length p ≤ 2048 → length l ≤ 2048
+bytes-short p r l e h = rw e (simp (length-take, length-drop) (omega arith))
+
 shown-as : (t : List ℕ) (n : ℕ) (is : List Item) (bytes : List ℕ) (s : Shown) → IsShown t n is s
     → display (isAscii is) (constName n is) bytes ≡ display (asciiBy s) (nameBy t s) bytes
 unfolding display
@@ -58,7 +45,7 @@ shown-as t n is bytes Plain k = rw (k .0, k .1) refl
 
 pub param-shown : (t p : List ℕ) (r : Row) (q : Place) (s : Shown) (ascii : Bool) (name bytes b : List ℕ) (w : Written) (b′ : List ℕ)
     → Behind t (r .line) q → IsShown t (r .named) (under (from t q)) s → Writes (display ascii name bytes) b w b′ → ascii ≡ asciiBy s
-    → name ≡ nameBy t s → bytes ≡ bytesBetween p (r .start) (r .end) → Writes (paramText t p r) b w b′
+    → name ≡ nameBy t s → bytes ≡ bytesOf p r → Writes (paramText t p r) b w b′
 unfolding paramText
 param-shown t p r q s ascii name bytes b w b′ is how d x y z =
     rw (← is .lines, ← z, shown-as t (r .named) (under (from t q)) bytes s how) (rw (x, y) at d)
@@ -124,10 +111,7 @@ pub told-judged : (t : List ℕ) (v : Verdict) → v ≡ verdict t → v ≡ tex
 told-judged t v is e = sym is ∙ e
 
 pub ruleset row-laws = (
-  between-none,
-  between-past,
-  between-rest,
-  between-short,
+  bytes-short,
   param-shown,
   items-readable,
   bit-shown,

@@ -1,15 +1,15 @@
 -- VT2 (docs/RULES.md): what is shown of a row of a command.
-use Prim.Native.Nat.{ℕ, _-_}
+use Prim.Native.Nat.{ℕ}
 use mathlib.Core.Bool.{Bool, false, cond, _||_}
 use mathlib.Core.List.{List, [], _∷_}
 use lib.Dec.{eqb}
-use lib.ListN.{take, drop}
 use Rattle.text.specs.Text.{lines}
 use Rattle.text.specs.Records.{records}
 use Rattle.command_text.specs.Form.{form}
 use Rattle.command_class.specs.Definition.{Item, numbered, under, letter, constIn}
 use Rattle.command_rules.specs.Field.{first, asArray, asVariant, arrayAscii, variantAscii}
 use Rattle.command_rules.specs.declared.Row.{Row}
+use Rattle.command_row.specs.Answer.{bytesOf}
 use Rattle.display.specs.Display.{display, displayBit}
 
 -- ---- the line of a row
@@ -50,14 +50,10 @@ isFlag t n = flagIn (since n (linesOf t))
 
 -- ---- a row
 
--- VT2: the bytes of the payload p from a place up to another, end excluded
-abbrev pub bytesBetween : List ℕ → ℕ → ℕ → List ℕ
-bytesBetween p start end = take (end - start) (drop start p)
-
 -- VT2: what is shown of a parameter, a bit child, a repetition
 unfoldable pub paramText : List ℕ → List ℕ → Row → List ℕ
 paramText t p r =
-    display (isAscii (itemsAt t (r .line))) (constName (r .named) (itemsAt t (r .line))) (bytesBetween p (r .start) (r .end))
+    display (isAscii (itemsAt t (r .line))) (constName (r .named) (itemsAt t (r .line))) (bytesOf p r)
 
 unfoldable pub bitText : List ℕ → Row → List ℕ
 bitText t r = displayBit (isFlag t (r .line)) (r .value)

@@ -3,6 +3,7 @@ mod lookup;
 
 use buffer::Written;
 use command_row::Found;
+use command_row::bytes_of;
 use command_row::row_accepted;
 use command_rules::Offsets;
 use command_rules::Row;
@@ -22,27 +23,8 @@ ghost use lib.ListN.{length};
 ghost use Rattle.text.specs.declared.Verdict.the-variants.{Accepted};
 ghost use Rattle.command_text.specs.Rules.{verdict};
 ghost use Rattle.buffer.specs.Buffer.{Writes};
-ghost use Rattle.command_value.specs.Params.{bytesBetween, paramText, bitText, rowText};
+ghost use Rattle.command_value.specs.Params.{paramText, bitText, rowText};
 ghost use Rattle.command_value.specs.Answer.{CommandValue};
-
-// The bytes of a payload from a place up to another, as far as they are there.
-fn bytes_between(payload: &[u8], start: u64, end: u64) -> &[u8]
-    ensures { λ r. ⌜ now r ≡ bytesBetween (now (payload .entry)) start end ⌝ }
-{
-    let length = payload.len() as u64;
-    if end <= start {
-        return &payload[..0];
-    }
-    if length <= start {
-        return &payload[..0];
-    }
-    let a = start as usize;
-    if length < end {
-        return &payload[a..];
-    }
-    let e = end as usize;
-    &payload[a..e]
-}
 
 // What is shown of a parameter.
 fn param_value(text: &[u8], payload: &[u8], row: Row, buffer: &mut [u8]) -> Written
@@ -50,7 +32,7 @@ fn param_value(text: &[u8], payload: &[u8], row: Row, buffer: &mut [u8]) -> Writ
     ensures { λ r. ⌜ Writes (paramText (now (text .entry)) (now (payload .entry)) row) (now (buffer .entry)) r (now (buffer .exit)) ⌝ }
 {
     let items = find_items(text, row.line);
-    let bytes = bytes_between(payload, row.start, row.end);
+    let bytes = bytes_of(payload, row);
     let shown = shown_by(text, items, row.named);
     display(is_ascii(shown), name_by(text, shown), bytes, buffer)
 }

@@ -1,11 +1,11 @@
--- `command_value::bytes_between` meets its contract, by the laws of the crate. Assumes nothing.
-use Rattle.command_value.proofs.Laws.{laws}
+-- `command_row::bytes_of` meets its contract, by the laws of the crate. Assumes nothing.
+use Rattle.command_row.proofs.Laws.{laws}
 use borrow.Author.Needs.{needs}
-use Rattle.command_value.proofs.bytes_between.Statement.{statement}
-use Rattle.command_value.proofs.bytes_between.Tie as tie
+use Rattle.command_row.proofs.bytes_of.Statement.{statement}
+use Rattle.command_row.proofs.bytes_of.Tie as tie
 
-pub bytes-between-spec : {M : Type 1} → statement M
-bytes-between-spec =
+pub bytes-of-spec : {M : Type 1} → statement M
+bytes-of-spec =
     tie.close
     (tie.spec
     (λ c. search (needs, laws))
