@@ -1,33 +1,27 @@
 -- Laws of values as text. Assumes nothing.
-use mathlib.Core.Path.{_≡_, refl, _∙_}
+use mathlib.Core.Path.{_≡_, refl}
 use mathlib.Core.Bool.{Bool, true, false, _&&_}
 use mathlib.Core.List.{List, [], _∷_}
 use Prim.Native.Nat.{ℕ, _-_, _%_, _≤_, _<_}
 use native.Mathlib.Omega.{arith}
 use lib.ListN.{length, drop, take}
 use borrow.Author.Tests.{eq-eqb, ne-eqb, le-leb, lt-leb}
-use Rattle.laws.proofs.Lists.{tail}
 use Rattle.frame_text.specs.declared.ParamType.{ParamType}
 use Rattle.frame_text.specs.declared.ParamType.the-variants.{Hex, Number, NumberSigned, NodeNumber, Boolean, Bitmask}
 use Rattle.buffer.specs.declared.Written.{Written}
 use Rattle.buffer.specs.declared.Written.the-variants.{Length}
 use Rattle.buffer.specs.Buffer.{Writes}
-use Rattle.numerals.specs.Numerals.{decimal, signed, hex, pairs, Spells}
+use Rattle.numerals.specs.Numerals.{room, decimal, signed, hex, pairs, Spells}
+use Rattle.numerals.proofs.Laws.{digits-are}
 use Rattle.lossy.specs.Lossy.{shown}
 use Rattle.display.specs.Display.{word, some?, valueText, ifValued, inBytes, displayValue, display, displayBit}
 use Rattle.display.specs.declared.Value.{Value}
 use Rattle.display.specs.declared.Value.the-variants.{Is, Not}
 
--- ---- what is written of one text is written of any that it is
-said : (l m b : List ℕ) (r : Written) (b′ : List ℕ) → l ≡ m → Writes l b r b′ → Writes m b r b′
-said l m b r b′ e w = rw e at w
-
 -- ---- digits at the end of their room
-module _ (room : ℕ) (l : List ℕ) (at : ℕ) (out b : List ℕ) (r : Written) (b′ : List ℕ) (s : Spells room l at out) where
-  pub spelled-written : Writes (take (22 - at) (drop at out)) b r b′ → Writes l b r b′
-  spelled-written w =
-      let t : take (22 - at) (drop at out) ≡ drop at out = rw (← s .all) (tail out at) in
-      said (take (22 - at) (drop at out)) l b r b′ (t ∙ s .text) w
+pub spelled-written : (free : ℕ) (l : List ℕ) (at : ℕ) (out b : List ℕ) (r : Written) (b′ : List ℕ) → Spells free l at out
+    → Writes (take (room - at) (drop at out)) b r b′ → Writes l b r b′
+spelled-written free l at out b r b′ s w = rw (digits-are free l at out s) at w
 
 module _ (b : List ℕ) (r : Written) (b′ : List ℕ) where
   pub word-false : (v : ℕ) → Writes (0x66 ∷ 0x61 ∷ 0x6c ∷ 0x73 ∷ 0x65 ∷ []) b r b′ → v ≡ 0 → Writes (word v) b r b′
@@ -77,7 +71,7 @@ module _ (symbol : List ℕ) (kind : ParamType) (value : Value) (bytes b : List 
   unfolding displayValue
   field-symbol w h = rw (ne-eqb (length symbol) 0 h) w
 
-  pub field-bytes : (x : Bool) → x ≡ some? bytes && inBytes kind → Writes (pairs 65 bytes) b r b′ → length symbol ≡ 0 → x ≡ true
+  pub field-bytes : (x : Bool) → x ≡ some? bytes && inBytes kind → Writes (pairs bytes) b r b′ → length symbol ≡ 0 → x ≡ true
       → Writes (displayValue symbol kind value bytes) b r b′
   unfolding displayValue
   field-bytes x is w h e = rw (eq-eqb (length symbol) 0 h, ← is, e) w
@@ -97,12 +91,12 @@ module _ (ascii : Bool) (name bytes b : List ℕ) (r : Written) (b′ : List ℕ
   unfolding display
   param-named w e h = rw (e, ne-eqb (length name) 0 h) w
 
-  pub param-few : Writes (0x30 ∷ 0x78 ∷ pairs 65 bytes) b r b′ → ascii ≡ false → length name ≡ 0 → length bytes ≤ 4
+  pub param-few : Writes (0x30 ∷ 0x78 ∷ pairs bytes) b r b′ → ascii ≡ false → length name ≡ 0 → length bytes ≤ 4
       → Writes (display ascii name bytes) b r b′
   unfolding display
   param-few w e h f = rw (e, eq-eqb (length name) 0 h, le-leb (length bytes) 4 f) w
 
-  pub param-many : Writes (pairs 65 bytes) b r b′ → ascii ≡ false → length name ≡ 0 → 4 < length bytes
+  pub param-many : Writes (pairs bytes) b r b′ → ascii ≡ false → length name ≡ 0 → 4 < length bytes
       → Writes (display ascii name bytes) b r b′
   unfolding display
   param-many w e h f = rw (e, eq-eqb (length name) 0 h, lt-leb (length bytes) 4 f) w

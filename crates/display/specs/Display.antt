@@ -45,13 +45,13 @@ inBytes Bitmask = true
 
 -- VT1: a field of a header, by its symbol's name, its type, its value and its bytes; a symbol's name of no bytes is none
 unfoldable pub displayValue : List ℕ → ParamType → Value → List ℕ → List ℕ
-displayValue symbol type v bytes = cond (some? symbol) symbol (cond (some? bytes && inBytes type) (pairs 65 bytes) (ifValued type v))
+displayValue symbol type v bytes = cond (some? symbol) symbol (cond (some? bytes && inBytes type) (pairs bytes) (ifValued type v))
 
 -- ---- a parameter of a command
 
 -- VT2: all bytes, up to 4 of them behind a mark
 abbrev pub bytesText : List ℕ → List ℕ
-bytesText bytes = cond (leb (length bytes) 4) (0x30 ∷ 0x78 ∷ pairs 65 bytes) (pairs 65 bytes)
+bytesText bytes = cond (leb (length bytes) 4) (0x30 ∷ 0x78 ∷ pairs bytes) (pairs bytes)
 
 -- VT2: a parameter, by whether it is ascii, its const's name and its bytes; a name of no bytes is none
 unfoldable pub display : Bool → List ℕ → List ℕ → List ℕ

@@ -6,30 +6,28 @@ use native.Mathlib.Omega.{arith}
 use lib.ListN.{length, getD, set, take, drop, length-append, length-drop}
 use lib.Seq.{sets, sets-eq, length-sets, take-at, drop-drop, length-take-le}
 use borrow.Author.Tests.{eq-eqb, ne-eqb}
-use Rattle.laws.proofs.Lists.{next, done, tail}
+use Rattle.laws.proofs.Lists.{next, done}
 use Rattle.rows.specs.Rows.{put}
 use Rattle.rows.proofs.Laws.{sets-append, put-room}
 use Rattle.rows.proofs.Parts.{length-put}
 use Rattle.text.specs.Print.{Every, shown}
-use Rattle.numerals.specs.Numerals.{decimal, Spells}
+use Rattle.numerals.specs.Numerals.{room, decimal, Spells}
+use Rattle.numerals.proofs.Laws.{digits-are}
 use Rattle.numerals.proofs.Shown.{decimal-shown}
 use Rattle.listing_text.specs.Listing.{rowWidth, stopOf, lineOf, textOf, closed}
 use Rattle.listing_text.specs.Steps.{Small, PutsNumber, Writes, stopBefore, rowsIn, puts, Puts, PutsAll}
 
 -- ---- a number and the byte behind it
-module _ (n stop : ℕ) (line : List ℕ) (at start : ℕ) (bytes : List ℕ) (spells : Spells 2 (decimal n) start bytes) (room : at + 21 ≤ length line)
+module _ (n stop : ℕ) (line : List ℕ) (at start : ℕ) (bytes : List ℕ) (spells : Spells 2 (decimal n) start bytes) (fits : at + 21 ≤ length line)
     (small : n < 2 ^ 64) where
-  said : drop start bytes ≡ shown n
-  said = spells .text ∙ decimal-shown n small
+  long : length (shown n) ≡ room - start
+  long = ap length (sym (spells .text ∙ decimal-shown n small)) ∙ length-drop start bytes ∙ rw (spells .all) refl
 
-  long : length (shown n) ≡ 22 - start
-  long = ap length (sym said) ∙ length-drop start bytes ∙ rw (spells .all) refl
-
-  pub number-put : (line₁ : List ℕ) → line₁ ≡ put line at (take (22 - start) (drop start bytes))
-      → PutsNumber n stop line at (at + (22 - start) + 1) (set line₁ (at + (22 - start)) stop)
+  pub number-put : (line₁ : List ℕ) → line₁ ≡ put line at (take (room - start) (drop start bytes))
+      → PutsNumber n stop line at (at + (room - start) + 1) (set line₁ (at + (room - start)) stop)
   number-put line₁ e =
       let is : line₁ ≡ sets line at (shown n) =
-      e ∙ ap (put line at) (ap (λ (k : ℕ). take (k - start) (drop start bytes)) (sym (spells .all)) ∙ tail bytes start ∙ said)
+      e ∙ ap (put line at) (digits-are 2 (decimal n) start bytes spells ∙ decimal-shown n small)
       ∙ (put-room line (shown n) at (omega (arith, long, spells .before))) in
       record {
         says = rw (is, ← long) (sym (sets-append line at (shown n) (stop ∷ [])));
@@ -38,13 +36,13 @@ module _ (n stop : ℕ) (line : List ℕ) (at start : ℕ) (bytes : List ℕ) (s
         fits = omega arith;
       }
 
-  pub number-room : (line₁ : List ℕ) → line₁ ≡ put line at (take (22 - start) (drop start bytes)) → at + (22 - start) < length line₁
-  number-room line₁ e = omega (arith, ap length e ∙ length-put line at (take (22 - start) (drop start bytes)), spells .before)
+  pub number-room : (line₁ : List ℕ) → line₁ ≡ put line at (take (room - start) (drop start bytes)) → at + (room - start) < length line₁
+  number-room line₁ e = omega (arith, ap length e ∙ length-put line at (take (room - start) (drop start bytes)), spells .before)
 
 pub digits-start : (n start : ℕ) (bytes : List ℕ) → Spells 2 (decimal n) start bytes → start ≤ length bytes
 digits-start n start bytes s = s .within
 
-pub digits-inside : (n start : ℕ) (bytes : List ℕ) → Spells 2 (decimal n) start bytes → start ≤ 22
+pub digits-inside : (n start : ℕ) (bytes : List ℕ) → Spells 2 (decimal n) start bytes → start ≤ room
 digits-inside n start bytes s = omega (arith, s .within, s .all)
 
 -- ---- the byte behind a number

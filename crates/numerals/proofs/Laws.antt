@@ -11,12 +11,12 @@ use lib.Dec.{eqb}
 use lib.ListN.{length, getD, set, take, drop, length-set, length-append}
 use lib.Seq.{sets, length-sets, set-split, drop-at, length-take-le}
 use borrow.Author.Tests.{eq-eqb, ne-eqb, lt-ltb, le-ltb}
-use Rattle.laws.proofs.Lists.{next, done}
+use Rattle.laws.proofs.Lists.{next, done, tail}
 use Rattle.refusal.specs.declared.Refusal.the-variants.{MoreBytes}
 use Rattle.buffer.specs.Buffer.{Writes}
 use Rattle.buffer.specs.declared.Written.the-variants.{Length, Refused}
 use Rattle.buffer.proofs.Laws.{sets-append, writes-room, writes-short}
-use Rattle.numerals.specs.Numerals.{glyph, spelled, decimal, signed, hex, pairs, Spells}
+use Rattle.numerals.specs.Numerals.{room, capital, glyph, spelled, decimal, signed, hex, pairs, Spells}
 
 -- ---- a digit
 pub glyph-low : (ten d : ℕ) → d < 10 → 48 + d ≡ glyph ten d
@@ -42,16 +42,16 @@ spelled-all rest left h = rw (eq-eqb rest 0 h)
 -- ---- digit by digit, from the last on: what is left is spelled before those that are there
 pub record Spelling (base ten least n : ℕ) (out : List ℕ) (at rest left : ℕ) : Type 0 where
   pub low : 2 ≤ at
-  pub all : length out ≡ 22
-  pub within : at ≤ 22
+  pub all : length out ≡ room
+  pub within : at ≤ room
   pub small : rest < base ^ (at - 2)
   pub few : left ≤ at - 2
   pub text : spelled base ten (at - 2) left rest ++ drop at out ≡ spelled base ten 20 least n
 
-pub spell-start : (base ten least n : ℕ) (out : List ℕ) → length out ≡ 22 → n < base ^ 20 → least ≤ 20
-    → Spelling base ten least n out 22 n least
+pub spell-start : (base ten least n : ℕ) (out : List ℕ) → length out ≡ room → n < base ^ 20 → least ≤ 20
+    → Spelling base ten least n out room n least
 spell-start base ten least n out l s f =
-    record { low = omega arith; all = l; within = omega arith; small = s; few = f; text = rw (done out 22 (omega arith)) (append-nil _) }
+    record { low = omega arith; all = l; within = omega arith; small = s; few = f; text = rw (done out room (omega arith)) (append-nil _) }
 
 -- what is written at a place stands before what was behind it
 put-before : (out : List ℕ) (i v : ℕ) → i < length out → drop i (set out i v) ≡ v ∷ drop (suc i) out
@@ -123,6 +123,10 @@ mark-before room l at out v s =
       all = rw length-set (s .all);
     }
 
+-- the bytes from there on are the text
+pub digits-are : (free : ℕ) (l : List ℕ) (at : ℕ) (out : List ℕ) → Spells free l at out → take (room - at) (drop at out) ≡ l
+digits-are free l at out s = rw (← s .all) (tail out at) ∙ s .text
+
 pub mark-inside : (l : List ℕ) (at : ℕ) (out : List ℕ) (v : ℕ) → Spells 2 l at out → at - 2 < length (set out (at - 1) v)
 mark-inside l at out v s = rw length-set (omega (arith, s .before, s .within))
 
@@ -137,17 +141,17 @@ signed-high low at out s h b =
     let m : Spells 1 (0x2d ∷ decimal (256 - low)) (at - 1) (set out (at - 1) 0x2d) = mark-before 1 (decimal (256 - low)) at out 0x2d (rw z at s) in
     rw (le-ltb low 128 h) m
 
-pub hex-marked : (n at : ℕ) (out : List ℕ) → Spells 2 (spelled 16 65 20 2 n) at out
+pub hex-marked : (n at : ℕ) (out : List ℕ) → Spells 2 (spelled 16 capital 20 2 n) at out
     → Spells 0 (hex n) (at - 2) (set (set out (at - 1) 0x78) (at - 2) 0x30)
 hex-marked n at out s =
     let z : at - 1 - 1 ≡ at - 2 = omega arith in
-    rw z at (mark-before 0 (0x78 ∷ spelled 16 65 20 2 n) (at - 1) (set out (at - 1) 0x78) 0x30 (mark-before 1 (spelled 16 65 20 2 n) at out 0x78 s))
+    rw z at (mark-before 0 (0x78 ∷ spelled 16 capital 20 2 n) (at - 1) (set out (at - 1) 0x78) 0x30 (mark-before 1 (spelled 16 capital 20 2 n) at out 0x78 s))
 
 pub ruleset mark-laws = (mark-inside, signed-low, signed-high, hex-marked)
 
 -- ---- a byte
-pub pair-put : (to : List ℕ) (at b g h : ℕ) → g ≡ glyph 65 (b / 16) → h ≡ glyph 65 (b % 16)
-    → set (set to at g) (at + 1) h ≡ sets to at (pairs 65 (b ∷ []))
+pub pair-put : (to : List ℕ) (at b g h : ℕ) → g ≡ glyph capital (b / 16) → h ≡ glyph capital (b % 16)
+    → set (set to at g) (at + 1) h ≡ sets to at (pairs (b ∷ []))
 pair-put to at b g h e f = let s : at + 1 ≡ suc at = omega arith in rw (e, f, s)
 
 pub pair-inside : (to : List ℕ) (at g : ℕ) → at + 2 ≤ length to → at + 1 < length (set to at g)
@@ -158,13 +162,13 @@ pub record Pairing (to to₀ bytes : List ℕ) (at place i : ℕ) : Type 0 where
   pub in-bytes : i ≤ length bytes
   pub same : length to ≡ length to₀
   pub place-is : place ≡ at + 2 * i
-  pub fill : sets to place (pairs 65 (drop i bytes)) ≡ sets to₀ at (pairs 65 bytes)
+  pub fill : sets to place (pairs (drop i bytes)) ≡ sets to₀ at (pairs bytes)
 
 pub pairs-start : (to bytes : List ℕ) (at : ℕ) → Pairing to to bytes at at 0
 pairs-start to bytes at = record { in-bytes = omega arith; same = refl; place-is = omega arith; fill = refl }
 
 module _ (to to₀ bytes : List ℕ) (at place i : ℕ) (p : Pairing to to₀ bytes at place i) where
-  pub pairs-more : (to′ : List ℕ) → to′ ≡ sets to place (pairs 65 (getD bytes i 0 ∷ [])) → i < length bytes
+  pub pairs-more : (to′ : List ℕ) → to′ ≡ sets to place (pairs (getD bytes i 0 ∷ [])) → i < length bytes
       → Pairing to′ to₀ bytes at (place + 2) (i + 1)
   pairs-more to′ e l =
       let s : place + 2 ≡ suc (suc place) = omega arith in
@@ -175,33 +179,33 @@ module _ (to to₀ bytes : List ℕ) (at place i : ℕ) (p : Pairing to to₀ by
         fill = rw (e, s) (rw (next bytes i l) at (p .fill));
       }
 
-  pub pairs-done : length bytes ≤ i → to ≡ sets to₀ at (pairs 65 bytes)
+  pub pairs-done : length bytes ≤ i → to ≡ sets to₀ at (pairs bytes)
   pairs-done h = rw (done bytes i h) at (p .fill)
 
-length-pairs : (ten : ℕ) (l : List ℕ) → length (pairs ten l) ≡ 2 * length l
-length-pairs ten [] = refl
-length-pairs ten (x ∷ xs) = omega (arith, length-pairs ten xs)
+length-pairs : (l : List ℕ) → length (pairs l) ≡ 2 * length l
+length-pairs [] = refl
+length-pairs (x ∷ xs) = omega (arith, length-pairs xs)
 
 -- ---- a mark and bytes
 module _ (mark bytes b : List ℕ) where
-  counted : length mark + 2 * length bytes ≡ length (mark ++ pairs 65 bytes)
-  counted = rw length-append (omega (arith, length-pairs 65 bytes))
+  counted : length mark + 2 * length bytes ≡ length (mark ++ pairs bytes)
+  counted = rw length-append (omega (arith, length-pairs bytes))
 
   pub pairs-longer : length b < length mark + 2 * length bytes
-      → Writes (mark ++ pairs 65 bytes) b (Refused (MoreBytes (length mark + 2 * length bytes))) b
-  pairs-longer h = writes-short (mark ++ pairs 65 bytes) b (length mark + 2 * length bytes) counted h
+      → Writes (mark ++ pairs bytes) b (Refused (MoreBytes (length mark + 2 * length bytes))) b
+  pairs-longer h = writes-short (mark ++ pairs bytes) b (length mark + 2 * length bytes) counted h
 
   pub pairs-room : (b₁ : List ℕ) → b₁ ≡ sets b 0 mark → length mark + 2 * length bytes ≤ length b
       → length mark + 2 * length bytes ≤ length b₁
   pairs-room b₁ e h = rw (e, length-sets) h
 
-  pub pairs-written : (b₁ b₂ : List ℕ) → b₁ ≡ sets b 0 mark → b₂ ≡ sets b₁ (length mark) (pairs 65 bytes)
+  pub pairs-written : (b₁ b₂ : List ℕ) → b₁ ≡ sets b 0 mark → b₂ ≡ sets b₁ (length mark) (pairs bytes)
       → length mark + 2 * length bytes ≤ length b
-      → Writes (mark ++ pairs 65 bytes) b (Length (length mark + 2 * length bytes)) b₂
+      → Writes (mark ++ pairs bytes) b (Length (length mark + 2 * length bytes)) b₂
   pairs-written b₁ b₂ e f h =
       let z : 0 + length mark ≡ length mark = omega arith in
-      let w : sets b 0 (mark ++ pairs 65 bytes) ≡ sets (sets b 0 mark) (length mark) (pairs 65 bytes) = rw z at (sets-append b 0 mark (pairs 65 bytes)) in
-      writes-room (mark ++ pairs 65 bytes) b (length mark + 2 * length bytes) counted b₂ (f ∙ rw e (sym w)) h
+      let w : sets b 0 (mark ++ pairs bytes) ≡ sets (sets b 0 mark) (length mark) (pairs bytes) = rw z at (sets-append b 0 mark (pairs bytes)) in
+      writes-room (mark ++ pairs bytes) b (length mark + 2 * length bytes) counted b₂ (f ∙ rw e (sym w)) h
 
 pub ruleset pairs-laws = (pair-put, pair-inside, pairs-start, pairs-more, pairs-done, pairs-longer, pairs-room, pairs-written)
 

@@ -9,7 +9,7 @@ use lib.Dec.{eqb, ltb}
 use borrow.Author.Tests.{lt-ltb, le-ltb, ne-eqb, ltb-true, ltb-false}
 use Rattle.text.specs.Print.{digitsIn, shown}
 use Rattle.text.proofs.Laws.{and-false}
-use Rattle.numerals.specs.Numerals.{spelled, decimal}
+use Rattle.numerals.specs.Numerals.{capital, spelled, decimal}
 
 -- ---- what is printed, the last digit first
 digits-same : (k m n : ℕ) → n < k → n < m → digitsIn k n ≡ digitsIn m n
@@ -39,37 +39,37 @@ shown-more n h =
     rw (le-ltb n 10 h, digits-same n (suc (n / 10)) (n / 10) (omega arith) (omega arith))
 
 -- ---- what is spelled
-spelled-none : (m : ℕ) → spelled 10 65 m 0 0 ≡ []
+spelled-none : (m : ℕ) → spelled 10 capital m 0 0 ≡ []
 unfolding spelled
 spelled-none zero = refl
 spelled-none (suc m) = refl
 
 -- a number that is not 0 has a digit
-spelled-some : (m n : ℕ) → 1 ≤ n → spelled 10 65 m 0 n ≡ spelled 10 65 m 1 n
+spelled-some : (m n : ℕ) → 1 ≤ n → spelled 10 capital m 0 n ≡ spelled 10 capital m 1 n
 unfolding spelled
 spelled-some zero n h = refl
 spelled-some (suc m) n h = rw (ne-eqb n 0 (λ e. omega arith))
 
-spelled-last : (m n : ℕ) → spelled 10 65 (suc m) 1 n ≡ spelled 10 65 m 0 (n / 10) ++ ((48 + n % 10) ∷ [])
+spelled-last : (m n : ℕ) → spelled 10 capital (suc m) 1 n ≡ spelled 10 capital m 0 (n / 10) ++ ((48 + n % 10) ∷ [])
 unfolding spelled
 spelled-last m n = rw (and-false (eqb n 0), lt-ltb (n % 10) 10 (omega arith))
 
-one-digit : (m n : ℕ) → n < 10 → spelled 10 65 (suc m) 1 n ≡ shown n
+one-digit : (m n : ℕ) → n < 10 → spelled 10 capital (suc m) 1 n ≡ shown n
 one-digit m n l =
     let parts : n / 10 * 10 + n % 10 ≡ n = div-add-mod' n 10 in
     let d : n / 10 ≡ 0 = omega arith in
     let r : n % 10 ≡ n = omega arith in
     rw (spelled-last m n, d, r, spelled-none m, shown-one n l)
 
-spelled-shown : (m n : ℕ) → n < 10 ^ suc m → spelled 10 65 (suc m) 1 n ≡ shown n
+spelled-shown : (m n : ℕ) → n < 10 ^ suc m → spelled 10 capital (suc m) 1 n ≡ shown n
 spelled-shown zero n h = one-digit 0 n (omega arith)
 spelled-shown (suc m) n h = go (ltb n 10) refl (spelled-shown m (n / 10))
   where
     parts : n / 10 * 10 + n % 10 ≡ n
     parts = div-add-mod' n 10
 
-    go : (b : Bool) → ltb n 10 ≡ b → (n / 10 < 10 ^ suc m → spelled 10 65 (suc m) 1 (n / 10) ≡ shown (n / 10))
-        → spelled 10 65 (suc (suc m)) 1 n ≡ shown n
+    go : (b : Bool) → ltb n 10 ≡ b → (n / 10 < 10 ^ suc m → spelled 10 capital (suc m) 1 (n / 10) ≡ shown (n / 10))
+        → spelled 10 capital (suc (suc m)) 1 n ≡ shown n
     go true q ih = one-digit (suc m) n (ltb-true n 10 q)
     go false q ih =
         let l : 10 ≤ n = ltb-false n 10 q in

@@ -42,5 +42,5 @@ unfolding spelled
 hex-three-digits = refl
 
 -- 00FF
-both-bytes : pairs 65 (0 ∷ 255 ∷ []) ≡ 0x30 ∷ 0x30 ∷ 0x46 ∷ 0x46 ∷ []
+both-bytes : pairs (0 ∷ 255 ∷ []) ≡ 0x30 ∷ 0x30 ∷ 0x46 ∷ 0x46 ∷ []
 both-bytes = refl

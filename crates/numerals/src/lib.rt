@@ -10,13 +10,13 @@ ghost use lib.Dec.{eqb};
 ghost use lib.ListN.{length};
 ghost use lib.Seq.{sets};
 ghost use Rattle.buffer.specs.Buffer.{Writes};
-ghost use Rattle.numerals.specs.Numerals.{glyph as glyphOf, spelled, decimal as decimalOf, signed as signedOf, hex as hexOf, pairs, Spells};
+ghost use Rattle.numerals.specs.Numerals.{room, glyph as glyphOf, spelled, decimal as decimalOf, signed as signedOf, hex as hexOf, pairs, Spells};
 
 // The room in which a number is spelled, up to its end: 20 digits are enough for 64 bits, and before them is room for a mark of two bytes.
 pub const ROOM: usize = 22;
 
 // The digit for ten, in capitals.
-const CAPITAL: u8 = b'A';
+pub const CAPITAL: u8 = b'A';
 
 // A digit, where `ten` stands for ten.
 pub fn glyph(ten: u8, d: u8) -> u8
@@ -44,7 +44,7 @@ fn one_less(n: usize) -> usize
 
 // Spells a number in a base, with at least so many digits, and answers where it begins.
 pub fn spell(n: u64, base: u8, ten: u8, least: usize, out: &mut [u8]) -> usize
-    requires { ⌜ (length (now out) ≡ 22) × (2 ≤ base) × (base ≤ 16) × (ten ≤ 128) × (n < base ^ 20) × (least ≤ 20) ⌝ }
+    requires { ⌜ (length (now out) ≡ room) × (2 ≤ base) × (base ≤ 16) × (ten ≤ 128) × (n < base ^ 20) × (least ≤ 20) ⌝ }
     ensures { λ r. ⌜ Spells 2 (spelled base ten 20 least n) r (now (out .exit)) ⌝ }
 {
     let mut at: usize = ROOM;
@@ -64,7 +64,7 @@ pub fn spell(n: u64, base: u8, ten: u8, least: usize, out: &mut [u8]) -> usize
 
 // A number in decimal.
 pub fn decimal(n: u64, out: &mut [u8]) -> usize
-    requires { ⌜ length (now out) ≡ 22 ⌝ }
+    requires { ⌜ length (now out) ≡ room ⌝ }
     ensures { λ r. ⌜ Spells 2 (decimalOf n) r (now (out .exit)) ⌝ }
 {
     spell(n, 10, CAPITAL, 1, out)
@@ -72,7 +72,7 @@ pub fn decimal(n: u64, out: &mut [u8]) -> usize
 
 // A byte as a signed number.
 pub fn signed(low: u8, out: &mut [u8]) -> usize
-    requires { ⌜ length (now out) ≡ 22 ⌝ }
+    requires { ⌜ length (now out) ≡ room ⌝ }
     ensures { λ r. ⌜ Spells 1 (signedOf low) r (now (out .exit)) ⌝ }
 {
     if low < 128 {
@@ -85,7 +85,7 @@ pub fn signed(low: u8, out: &mut [u8]) -> usize
 
 // A number in hexadecimal: 0x, and two capital digits at least.
 pub fn hex(n: u64, out: &mut [u8]) -> usize
-    requires { ⌜ length (now out) ≡ 22 ⌝ }
+    requires { ⌜ length (now out) ≡ room ⌝ }
     ensures { λ r. ⌜ Spells 0 (hexOf n) r (now (out .exit)) ⌝ }
 {
     let at = spell(n, 16, CAPITAL, 2, out);
@@ -97,7 +97,7 @@ pub fn hex(n: u64, out: &mut [u8]) -> usize
 // Puts the two digits of a byte into a buffer that has room for them, from `at` on.
 fn put_pair(buffer: &mut [u8], at: usize, b: u8)
     requires { ⌜ at + 2 ≤ length (now buffer) ⌝ }
-    ensures { λ _. ⌜ now (buffer .exit) ≡ sets (now (buffer .entry)) at (pairs 65 (b ∷ [])) ⌝ }
+    ensures { λ _. ⌜ now (buffer .exit) ≡ sets (now (buffer .entry)) at (pairs (b ∷ [])) ⌝ }
 {
     buffer[at] = glyph(CAPITAL, b / 16);
     buffer[at + 1] = glyph(CAPITAL, b % 16);
@@ -106,7 +106,7 @@ fn put_pair(buffer: &mut [u8], at: usize, b: u8)
 // Puts the two digits of each byte into a buffer that has room for them, from `at` on.
 fn put_pairs(buffer: &mut [u8], at: usize, bytes: &[u8])
     requires { ⌜ at + 2 * length (now bytes) ≤ length (now buffer) ⌝ }
-    ensures { λ _. ⌜ now (buffer .exit) ≡ sets (now (buffer .entry)) at (pairs 65 (now (bytes .entry))) ⌝ }
+    ensures { λ _. ⌜ now (buffer .exit) ≡ sets (now (buffer .entry)) at (pairs (now (bytes .entry))) ⌝ }
 {
     let mut place = at;
     let mut i = 0;
@@ -120,7 +120,7 @@ fn put_pairs(buffer: &mut [u8], at: usize, bytes: &[u8])
 // Writes a mark and the two digits of each byte at the front of a buffer, if it has room.
 pub fn write_pairs(mark: &[u8], bytes: &[u8], buffer: &mut [u8]) -> Written
     requires { ⌜ length (now mark) + 2 * length (now bytes) < 2 ^ 64 ⌝ }
-    ensures { λ r. ⌜ Writes (now (mark .entry) ++ pairs 65 (now (bytes .entry))) (now (buffer .entry)) r (now (buffer .exit)) ⌝ }
+    ensures { λ r. ⌜ Writes (now (mark .entry) ++ pairs (now (bytes .entry))) (now (buffer .entry)) r (now (buffer .exit)) ⌝ }
 {
     let size = mark.len() + 2 * bytes.len();
     if buffer.len() < size {

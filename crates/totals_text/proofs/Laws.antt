@@ -9,23 +9,24 @@ use lib.Dec.{eqb}
 use lib.ListN.{length, getD, take, drop, length-append, length-take}
 use lib.Seq.{sets, length-sets, length-take-le, getD-take}
 use borrow.Author.Tests.{eq-eqb, ne-eqb}
-use Rattle.laws.proofs.Lists.{next, done, tail}
+use Rattle.laws.proofs.Lists.{next, done}
 use Rattle.buffer.specs.Buffer.{Writes}
 use Rattle.buffer.specs.declared.Written.the-variants.{Length, Refused}
 use Rattle.buffer.proofs.Laws.{sets-append, writes-short, writes-room}
 use Rattle.refusal.specs.declared.Refusal.the-variants.{MoreBytes}
-use Rattle.numerals.specs.Numerals.{decimal, Spells}
+use Rattle.numerals.specs.Numerals.{room, decimal, Spells}
+use Rattle.numerals.proofs.Laws.{digits-are}
 use Rattle.totals.specs.Totals.{size, wrongAt}
 use Rattle.totals_text.specs.Text.{item, space, ended, keyWord, wrongWord, beamsWord, repeatsWord, bytesWord, refusedWord, keyLine, keyLines}
 use Rattle.totals_text.specs.Text.{refusedLine, sumLines, refusedLines, textOf}
 use Rattle.totals_text.specs.Steps.{Appends}
 
 -- ---- bytes
-module _ (l b : List ℕ) (at : ℕ) (few : length l ≤ 22) where
-  pub append-none : length b < at + length l → Appends 22 l b at (at + length l) b
+module _ (l b : List ℕ) (at : ℕ) (few : length l ≤ room) where
+  pub append-none : length b < at + length l → Appends room l b at (at + length l) b
   append-none h = record { next = refl; short = few; fill = λ fits. absurd (omega arith); same = refl }
 
-  pub append-all : (b′ : List ℕ) → b′ ≡ sets b at l → Appends 22 l b at (at + length l) b′
+  pub append-all : (b′ : List ℕ) → b′ ≡ sets b at l → Appends room l b at (at + length l) b′
   append-all b′ e = record { next = refl; short = few; fill = λ fits. e; same = rw e (length-sets b at l) }
 
 -- ---- one after the other
@@ -56,29 +57,27 @@ append-low j l b b′ at r x = omega (arith, x .next, x .short)
 -- ---- numbers
 module _ (n at₀ : ℕ) (out : List ℕ) (spells : Spells 2 (decimal n) at₀ out) where
   abbrev digits : List ℕ
-  digits = take (22 - at₀) (drop at₀ out)
+  digits = take (room - at₀) (drop at₀ out)
 
-  digits-are : digits ≡ decimal n
-  digits-are = rw (← spells .all) (tail out at₀) ∙ spells .text
+  pub digits-few : length digits ≤ room
+  digits-few = omega (arith, length-take (room - at₀) (drop at₀ out))
 
-  pub digits-few : length digits ≤ 22
-  digits-few = omega (arith, length-take (22 - at₀) (drop at₀ out))
+  pub number-written : (stop at r q : ℕ) (b b₁ b₂ : List ℕ) → Appends room digits b at r b₁ → Appends room (stop ∷ []) b₁ r q b₂
+      → Appends (2 * room) (item [] n stop) b at q b₂
+  number-written stop at r q b b₁ b₂ x y =
+      appends-both room room (decimal n) (stop ∷ []) b b₁ b₂ at r q (rw (digits-are 2 (decimal n) at₀ out spells) at x) y
 
-  pub number-written : (stop at r q : ℕ) (b b₁ b₂ : List ℕ) → Appends 22 digits b at r b₁ → Appends 22 (stop ∷ []) b₁ r q b₂
-      → Appends 44 (item [] n stop) b at q b₂
-  number-written stop at r q b b₁ b₂ x y = appends-both 22 22 (decimal n) (stop ∷ []) b b₁ b₂ at r q (rw digits-are at x) y
-
-pub item-written : (word : List ℕ) (n stop at r q : ℕ) (b b₁ b₂ : List ℕ) → Appends 22 word b at r b₁
-    → Appends 44 (item [] n stop) b₁ r q b₂ → Appends 66 (item word n stop) b at q b₂
+pub item-written : (word : List ℕ) (n stop at r q : ℕ) (b b₁ b₂ : List ℕ) → Appends room word b at r b₁
+    → Appends (2 * room) (item [] n stop) b₁ r q b₂ → Appends (3 * room) (item word n stop) b at q b₂
 item-written word n stop at r q b b₁ b₂ x y = appends-both 22 44 word (item [] n stop) b b₁ b₂ at r q x y
 
 -- ---- the line of a count
-pub key-none : (n i at : ℕ) (b : List ℕ) → n ≡ 0 → Appends 154 (cond (eqb n 0) [] (keyLine i n)) b at at b
+pub key-none : (n i at : ℕ) (b : List ℕ) → n ≡ 0 → Appends (7 * room) (cond (eqb n 0) [] (keyLine i n)) b at at b
 key-none n i at b e = rw (eq-eqb n 0 e) (appends-within 0 154 [] b b at at (appends-none b at) (omega arith))
 
-pub key-written : (n i at r q p : ℕ) (b b₁ b₂ b₃ : List ℕ) → Appends 66 (item keyWord (i / 4) space) b at r b₁
-    → Appends 44 (item [] (i % 4) space) b₁ r q b₂ → Appends 44 (item [] n ended) b₂ q p b₃ → (n ≡ 0 → ⊥)
-    → Appends 154 (cond (eqb n 0) [] (keyLine i n)) b at p b₃
+pub key-written : (n i at r q p : ℕ) (b b₁ b₂ b₃ : List ℕ) → Appends (3 * room) (item keyWord (i / 4) space) b at r b₁
+    → Appends (2 * room) (item [] (i % 4) space) b₁ r q b₂ → Appends (2 * room) (item [] n ended) b₂ q p b₃ → (n ≡ 0 → ⊥)
+    → Appends (7 * room) (cond (eqb n 0) [] (keyLine i n)) b at p b₃
 key-written n i at r q p b b₁ b₂ b₃ x y z some =
     rw (ne-eqb n 0 some)
     (appends-both 66 88 (item keyWord (i / 4) space) (item [] (i % 4) space ++ item [] n ended) b b₁ b₃ at r p x
@@ -101,7 +100,8 @@ module _ (totals b₀ b : List ℕ) (at i : ℕ) (inv : Keying totals b₀ b at 
   keys-long : length (take wrongAt totals) ≡ wrongAt
   keys-long = length-take-le wrongAt totals (omega arith)
 
-  pub keying-more : (r : ℕ) (b′ : List ℕ) → Appends 154 (cond (eqb (getD totals i 0) 0) [] (keyLine i (getD totals i 0))) b at r b′ → i < wrongAt
+  pub keying-more : (r : ℕ) (b′ : List ℕ) → Appends (7 * room) (cond (eqb (getD totals i 0) 0) [] (keyLine i (getD totals i 0))) b at r b′
+      → i < wrongAt
       → Keying totals b₀ b′ r (i + 1)
   unfolding keyLines
   keying-more r b′ x h =
@@ -127,9 +127,10 @@ module _ (totals b₀ b : List ℕ) (at i : ℕ) (inv : Keying totals b₀ b at 
       rw all (appends-within (154 * i) 157696 (inv .front) b₀ b 0 at (inv .wrote) (omega arith))
 
 -- ---- the other lines
-pub sums-written : (totals b b₁ b₂ b₃ b₄ : List ℕ) (at p q r z : ℕ) → Appends 66 (item wrongWord (getD totals 1024 0) ended) b at p b₁
-    → Appends 66 (item beamsWord (getD totals 1025 0) ended) b₁ p q b₂ → Appends 66 (item repeatsWord (getD totals 1026 0) ended) b₂ q r b₃
-    → Appends 66 (item bytesWord (getD totals 1027 0) ended) b₃ r z b₄ → Appends 264 (sumLines totals) b at z b₄
+pub sums-written : (totals b b₁ b₂ b₃ b₄ : List ℕ) (at p q r z : ℕ) → Appends (3 * room) (item wrongWord (getD totals 1024 0) ended) b at p b₁
+    → Appends (3 * room) (item beamsWord (getD totals 1025 0) ended) b₁ p q b₂
+    → Appends (3 * room) (item repeatsWord (getD totals 1026 0) ended) b₂ q r b₃
+    → Appends (3 * room) (item bytesWord (getD totals 1027 0) ended) b₃ r z b₄ → Appends (12 * room) (sumLines totals) b at z b₄
 sums-written totals b b₁ b₂ b₃ b₄ at p q r z u v x y =
     let wrong = item wrongWord (getD totals 1024 0) ended in
     let beams = item beamsWord (getD totals 1025 0) ended in
@@ -138,13 +139,13 @@ sums-written totals b b₁ b₂ b₃ b₄ at p q r z u v x y =
     appends-both 66 198 wrong (beams ++ (repeats ++ bytes)) b b₁ b₄ at p z u
     (appends-both 66 132 beams (repeats ++ bytes) b₁ b₂ b₄ p q z v (appends-both 66 66 repeats bytes b₂ b₃ b₄ q r z x y))
 
-pub refusal-written : (k n at r q : ℕ) (b b₁ b₂ : List ℕ) → Appends 66 (item refusedWord k space) b at r b₁
-    → Appends 44 (item [] n ended) b₁ r q b₂ → Appends 110 (refusedLine k n) b at q b₂
+pub refusal-written : (k n at r q : ℕ) (b b₁ b₂ : List ℕ) → Appends (3 * room) (item refusedWord k space) b at r b₁
+    → Appends (2 * room) (item [] n ended) b₁ r q b₂ → Appends (5 * room) (refusedLine k n) b at q b₂
 refusal-written k n at r q b b₁ b₂ x y = appends-both 66 44 (item refusedWord k space) (item [] n ended) b b₁ b₂ at r q x y
 
-pub refused-written : (totals b b₁ b₂ b₃ : List ℕ) (at p q r : ℕ) → Appends 110 (refusedLine 5 (getD totals 1028 0)) b at p b₁
-    → Appends 110 (refusedLine 6 (getD totals 1029 0)) b₁ p q b₂ → Appends 110 (refusedLine 7 (getD totals 1030 0)) b₂ q r b₃
-    → Appends 330 (refusedLines totals) b at r b₃
+pub refused-written : (totals b b₁ b₂ b₃ : List ℕ) (at p q r : ℕ) → Appends (5 * room) (refusedLine 5 (getD totals 1028 0)) b at p b₁
+    → Appends (5 * room) (refusedLine 6 (getD totals 1029 0)) b₁ p q b₂ → Appends (5 * room) (refusedLine 7 (getD totals 1030 0)) b₂ q r b₃
+    → Appends (15 * room) (refusedLines totals) b at r b₃
 refused-written totals b b₁ b₂ b₃ at p q r x y z =
     let five = refusedLine 5 (getD totals 1028 0) in
     let six = refusedLine 6 (getD totals 1029 0) in
@@ -153,7 +154,8 @@ refused-written totals b b₁ b₂ b₃ at p q r x y z =
 
 -- ---- all of them
 pub all-written : (totals b b₁ b₂ b₃ : List ℕ) (p q r : ℕ) → Appends 157696 (keyLines 0 (take wrongAt totals)) b 0 p b₁
-    → Appends 264 (sumLines totals) b₁ p q b₂ → Appends 330 (refusedLines totals) b₂ q r b₃ → Appends 158290 (textOf totals) b 0 r b₃
+    → Appends (12 * room) (sumLines totals) b₁ p q b₂ → Appends (15 * room) (refusedLines totals) b₂ q r b₃
+    → Appends 158290 (textOf totals) b 0 r b₃
 unfolding textOf
 all-written totals b b₁ b₂ b₃ p q r x y z =
     appends-both 157696 594 (keyLines 0 (take wrongAt totals)) (sumLines totals ++ refusedLines totals) b b₁ b₃ 0 p r x

@@ -14,10 +14,11 @@ use totals::WRONG;
 ghost use mathlib.Core.Bool.{cond};
 ghost use mathlib.Core.Path.{_≡_};
 ghost use mathlib.Core.List.{[]};
-ghost use Prim.Native.Nat.{_≤_};
+ghost use Prim.Native.Nat.{_*_, _≤_};
 ghost use lib.Dec.{eqb};
 ghost use lib.ListN.{length, take};
 ghost use Rattle.buffer.specs.Buffer.{Writes};
+ghost use Rattle.numerals.specs.Numerals.{room};
 ghost use Rattle.totals.specs.Totals.{size, wrongAt};
 ghost use Rattle.totals_text.specs.Text.{item, keyLine, keyLines, refusedLine, sumLines, refusedLines, textOf};
 ghost use Rattle.totals_text.specs.Steps.{Appends};
@@ -29,8 +30,8 @@ const END: u8 = 10;
 
 // Writes bytes at a place of the buffer, if they end inside it; answers the place behind.
 fn append(buffer: &mut [u8], at: usize, bytes: &[u8]) -> usize
-    requires { ⌜ (at ≤ 400000) × (length (now bytes) ≤ 22) ⌝ }
-    ensures { λ r. ⌜ Appends 22 (now (bytes .entry)) (now (buffer .entry)) at r (now (buffer .exit)) ⌝ }
+    requires { ⌜ (at ≤ 400000) × (length (now bytes) ≤ room) ⌝ }
+    ensures { λ r. ⌜ Appends room (now (bytes .entry)) (now (buffer .entry)) at r (now (buffer .exit)) ⌝ }
 {
     let end = at + bytes.len();
     if buffer.len() < end {
@@ -43,7 +44,7 @@ fn append(buffer: &mut [u8], at: usize, bytes: &[u8]) -> usize
 // Writes a number in decimal and the byte behind it.
 fn append_number(buffer: &mut [u8], at: usize, n: u64, stop: u8) -> usize
     requires { ⌜ at ≤ 350000 ⌝ }
-    ensures { λ r. ⌜ Appends 44 (item [] n stop) (now (buffer .entry)) at r (now (buffer .exit)) ⌝ }
+    ensures { λ r. ⌜ Appends (2 * room) (item [] n stop) (now (buffer .entry)) at r (now (buffer .exit)) ⌝ }
 {
     let mut digits = [0u8; ROOM];
     let start = decimal(n, &mut digits);
@@ -54,8 +55,8 @@ fn append_number(buffer: &mut [u8], at: usize, n: u64, stop: u8) -> usize
 
 // Writes a word, a number and the byte behind it.
 fn append_item(buffer: &mut [u8], at: usize, word: &[u8], n: u64, stop: u8) -> usize
-    requires { ⌜ (at ≤ 300000) × (length (now word) ≤ 22) ⌝ }
-    ensures { λ r. ⌜ Appends 66 (item (now (word .entry)) n stop) (now (buffer .entry)) at r (now (buffer .exit)) ⌝ }
+    requires { ⌜ (at ≤ 300000) × (length (now word) ≤ room) ⌝ }
+    ensures { λ r. ⌜ Appends (3 * room) (item (now (word .entry)) n stop) (now (buffer .entry)) at r (now (buffer .exit)) ⌝ }
 {
     let next = append(buffer, at, word);
     append_number(buffer, next, n, stop)
@@ -64,7 +65,7 @@ fn append_item(buffer: &mut [u8], at: usize, word: &[u8], n: u64, stop: u8) -> u
 // Writes the line of the count n at a place of the totals, if there is one.
 fn append_key(buffer: &mut [u8], at: usize, place: usize, n: u64) -> usize
     requires { ⌜ at ≤ 200000 ⌝ }
-    ensures { λ r. ⌜ Appends 154 (cond (eqb n 0) [] (keyLine place n)) (now (buffer .entry)) at r (now (buffer .exit)) ⌝ }
+    ensures { λ r. ⌜ Appends (7 * room) (cond (eqb n 0) [] (keyLine place n)) (now (buffer .entry)) at r (now (buffer .exit)) ⌝ }
 {
     if n == 0 {
         return at;
@@ -91,7 +92,7 @@ fn append_keys(totals: &[u64], buffer: &mut [u8]) -> usize
 // Writes the lines of the wrong checksums, the beams, their repetitions and the bytes.
 fn append_sums(totals: &[u64], buffer: &mut [u8], at: usize) -> usize
     requires { ⌜ (length (now totals) ≡ size) × (at ≤ 200000) ⌝ }
-    ensures { λ r. ⌜ Appends 264 (sumLines (now (totals .entry))) (now (buffer .entry)) at r (now (buffer .exit)) ⌝ }
+    ensures { λ r. ⌜ Appends (12 * room) (sumLines (now (totals .entry))) (now (buffer .entry)) at r (now (buffer .exit)) ⌝ }
 {
     let wrong = append_item(buffer, at, b"wrong ", totals[WRONG], END);
     let beams = append_item(buffer, wrong, b"beams ", totals[BEAMS], END);
@@ -102,7 +103,7 @@ fn append_sums(totals: &[u64], buffer: &mut [u8], at: usize) -> usize
 // Writes the line of a refusal's number.
 fn append_refusal(buffer: &mut [u8], at: usize, number: u64, n: u64) -> usize
     requires { ⌜ at ≤ 250000 ⌝ }
-    ensures { λ r. ⌜ Appends 110 (refusedLine number n) (now (buffer .entry)) at r (now (buffer .exit)) ⌝ }
+    ensures { λ r. ⌜ Appends (5 * room) (refusedLine number n) (now (buffer .entry)) at r (now (buffer .exit)) ⌝ }
 {
     let next = append_item(buffer, at, b"refused ", number, SPACE);
     append_number(buffer, next, n, END)
@@ -111,7 +112,7 @@ fn append_refusal(buffer: &mut [u8], at: usize, number: u64, n: u64) -> usize
 // Writes the lines of what was refused.
 fn append_refused(totals: &[u64], buffer: &mut [u8], at: usize) -> usize
     requires { ⌜ (length (now totals) ≡ size) × (at ≤ 210000) ⌝ }
-    ensures { λ r. ⌜ Appends 330 (refusedLines (now (totals .entry))) (now (buffer .entry)) at r (now (buffer .exit)) ⌝ }
+    ensures { λ r. ⌜ Appends (15 * room) (refusedLines (now (totals .entry))) (now (buffer .entry)) at r (now (buffer .exit)) ⌝ }
 {
     let short = append_refusal(buffer, at, 5, totals[REFUSED + 5]);
     let unbased = append_refusal(buffer, short, 6, totals[REFUSED + 6]);

@@ -17,7 +17,8 @@ use Rattle.text.specs.Scan.{cut}
 use Rattle.text.specs.declared.Part.{Part}
 use Rattle.text.proofs.Laws.{split-last, split-more, front-count}
 use Rattle.buffer.proofs.Laws.{sets-append}
-use Rattle.numerals.specs.Numerals.{decimal, Spells}
+use Rattle.numerals.specs.Numerals.{room, decimal, Spells}
+use Rattle.numerals.proofs.Laws.{digits-are}
 use Rattle.xml_schema.specs.Schema.{formOf, nameOf, Follows}
 use Rattle.xml_schema.specs.declared.Next.{Next}
 use Rattle.xml_schema.specs.declared.Next.the-variants.{Last, Entry}
@@ -153,9 +154,9 @@ module _ (t u : List ℕ) (n r : ℕ) (v : List ℕ) where
   pub count-laid : (a : ℕ) → drop a v ≡ strip (unsigned v) → Laid t u n r (take (length v - a) (drop a v)) → Laid t u n r (strip (unsigned v))
   count-laid a e l = let m : Laid t u n r (drop a v) = rw tail at l in rw e at m
 
-  pub decimal-laid : (number a : ℕ) (out : List ℕ) → Spells 2 (decimal number) a out → Laid t u n r (take (22 - a) (drop a out))
+  pub decimal-laid : (number a : ℕ) (out : List ℕ) → Spells 2 (decimal number) a out → Laid t u n r (take (room - a) (drop a out))
       → Laid t u n r (decimal number)
-  decimal-laid number a out s l = let e : take (22 - a) (drop a out) ≡ decimal number = rw (← s .all) (tail out a) ∙ s .text in rw e at l
+  decimal-laid number a out s l = rw (digits-are 2 (decimal number) a out s) at l
 
   pub numeral-laid : (g : Numeral) → g ≡ numeral v → (number : ℕ) → g ≡ Is number → Laid t u n r (decimal number)
       → Laid t u n r (inDecimal (numeral v))

@@ -5,9 +5,10 @@ use Prim.Native.Nat.{ℕ, _+_, _-_, _≤_, _<_}
 use native.Mathlib.Omega.{arith}
 use lib.ListN.{length, getD, take, drop}
 use borrow.Author.Tests.{eq-eqb, ne-eqb}
-use Rattle.laws.proofs.Lists.{next, done, tail}
+use Rattle.laws.proofs.Lists.{next, done}
 use Rattle.text.specs.Text.{value}
-use Rattle.numerals.specs.Numerals.{spelled, Spells}
+use Rattle.numerals.specs.Numerals.{room, capital, spelled, Spells}
+use Rattle.numerals.proofs.Laws.{digits-are}
 use Rattle.numerals.proofs.Laws.{hex-fits}
 use Rattle.append.specs.Append.{Room, Laid}
 use Rattle.append.proofs.Laws.{Leaves, leaves-start, leaves-more, leaves-room, leaves-done, laid-both, room-first, room-second}
@@ -102,20 +103,20 @@ module _ (s b b₀ : List ℕ) (at at₀ i : ℕ) (inv : Escaping s b b₀ at at
   escaping-done h = leaves-done (escaped s) b b₀ at at₀ (rw (done s i h) at (inv .leaves))
 
 -- ---- hexadecimal
-module _ (f : List ℕ) (n : ℕ) (is : n ≡ value 65535 f) (start : ℕ) (out : List ℕ) (spells : Spells 2 (spelled 16 65 20 1 n) start out) where
-  digits-are : take (22 - start) (drop start out) ≡ spelled 16 65 20 1 (value 65535 f)
-  digits-are = rw (← spells .all) (tail out start) ∙ spells .text ∙ ap (spelled 16 65 20 1) is
+module _ (f : List ℕ) (n : ℕ) (is : n ≡ value 65535 f) (start : ℕ) (out : List ℕ) (spells : Spells 2 (spelled 16 capital 20 1 n) start out) where
+  digits : take (room - start) (drop start out) ≡ spelled 16 capital 20 1 (value 65535 f)
+  digits = digits-are 2 (spelled 16 capital 20 1 n) start out spells ∙ ap (spelled 16 capital 20 1) is
 
   pub hex-room : (at r : ℕ) (b b′ : List ℕ) → Laid (0x30 ∷ 0x78 ∷ []) b at r b′ → Room at (hexed f)
-      → Room r (take (22 - start) (drop start out))
-  hex-room at r b b′ l room = rw digits-are (room-second at r (0x30 ∷ 0x78 ∷ []) (spelled 16 65 20 1 (value 65535 f)) b b′ l room)
+      → Room r (take (room - start) (drop start out))
+  hex-room at r b b′ l h = rw digits (room-second at r (0x30 ∷ 0x78 ∷ []) (spelled 16 capital 20 1 (value 65535 f)) b b′ l h)
 
   pub hex-laid : (at r q : ℕ) (b b′ b″ : List ℕ) → Laid (0x30 ∷ 0x78 ∷ []) b at r b′
-      → Laid (take (22 - start) (drop start out)) b′ r q b″ → Laid (hexed f) b at q b″
-  hex-laid at r q b b′ b″ l m = laid-both (0x30 ∷ 0x78 ∷ []) (spelled 16 65 20 1 (value 65535 f)) b b′ b″ at r q l (rw digits-are at m)
+      → Laid (take (room - start) (drop start out)) b′ r q b″ → Laid (hexed f) b at q b″
+  hex-laid at r q b b′ b″ l m = laid-both (0x30 ∷ 0x78 ∷ []) (spelled 16 capital 20 1 (value 65535 f)) b b′ b″ at r q l (rw digits at m)
 
 pub hex-mark : (f : List ℕ) (at : ℕ) → Room at (hexed f) → Room at (0x30 ∷ 0x78 ∷ [])
-hex-mark f at room = room-first at (0x30 ∷ 0x78 ∷ []) (spelled 16 65 20 1 (value 65535 f)) room
+hex-mark f at room = room-first at (0x30 ∷ 0x78 ∷ []) (spelled 16 capital 20 1 (value 65535 f)) room
 
 -- ---- a flag
 module _ (x : ℕ) where

@@ -4,7 +4,7 @@ use mathlib.Core.Bool.{cond}
 use mathlib.Core.List.{List, [], _∷_, _++_}
 use lib.Dec.{eqb}
 use Rattle.text.specs.Text.{value}
-use Rattle.numerals.specs.Numerals.{spelled}
+use Rattle.numerals.specs.Numerals.{capital, spelled}
 
 -- X13: a byte of a value: `&amp;`, `&lt;`, `&gt;`, `&quot;` and `&apos;` for the five that have names, any other as it is
 abbrev pub escapeOf : ℕ → List ℕ
@@ -22,7 +22,7 @@ escaped (x ∷ xs) = escapeOf x ++ escaped xs
 
 -- X13: the number of a field in hexadecimal: 0x, and capital digits with no more zeros than one
 abbrev pub hexed : List ℕ → List ℕ
-hexed f = 0x30 ∷ 0x78 ∷ spelled 16 65 20 1 (value 65535 f)
+hexed f = 0x30 ∷ 0x78 ∷ spelled 16 capital 20 1 (value 65535 f)
 
 -- X13: a flag, by its digit: `true` or `false`
 abbrev pub flagged : ℕ → List ℕ

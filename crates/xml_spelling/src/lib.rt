@@ -1,6 +1,7 @@
 // The values of attributes as they are written: X13 of docs/RULES.md.
 use append::append;
 use append::append_byte;
+use numerals::CAPITAL;
 use numerals::ROOM;
 use numerals::spell;
 use text::read_value;
@@ -44,7 +45,7 @@ pub fn append_hex(buffer: &mut [u8], at: usize, field: &[u8]) -> usize
 {
     let n = read_value(field, 65535);
     let mut digits = [0u8; ROOM];
-    let start = spell(n as u64, 16, b'A', 1, &mut digits);
+    let start = spell(n as u64, 16, CAPITAL, 1, &mut digits);
     let next = append(buffer, at, b"0x");
     append(buffer, next, &digits[start..])
 }
