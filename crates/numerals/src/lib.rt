@@ -36,10 +36,11 @@ fn is_spelled(rest: u64, left: usize) -> bool
     left == 0
 }
 
-fn one_less(n: usize) -> usize
-    ensures { λ r. ⌜ r ≡ n - 1 ⌝ }
+// What is left of a number without another, or 0.
+pub fn less(n: usize, by: usize) -> usize
+    ensures { λ r. ⌜ r ≡ n - by ⌝ }
 {
-    if n == 0 { 0 } else { n - 1 }
+    if n < by { 0 } else { n - by }
 }
 
 // Spells a number in a base, with at least so many digits, and answers where it begins.
@@ -58,7 +59,7 @@ pub fn spell(n: u64, base: u8, ten: u8, least: usize, out: &mut [u8]) -> usize
         at -= 1;
         out[at] = glyph(ten, digit);
         rest /= base as u64;
-        left = one_less(left);
+        left = less(left, 1);
     }
 }
 

@@ -1,6 +1,7 @@
 // The attributes that are written for a line, by the entries of its element: X13 of docs/RULES.md.
 use append::append;
 use append::append_byte;
+use numerals::less;
 use readers::line_fields::field_of;
 use text::is_missing;
 use xml_schema::Next;
@@ -12,19 +13,13 @@ use xml_spelling::append_flag;
 use xml_spelling::append_hex;
 ghost use mathlib.Core.Path.{_≡_};
 ghost use mathlib.Core.Bool.{_||_};
-ghost use Prim.Native.Nat.{_-_, _≤_, _<_};
+ghost use Prim.Native.Nat.{_≤_, _<_};
 ghost use lib.Dec.{eqb};
 ghost use lib.ListN.{length, getD};
 ghost use Rattle.text.specs.Text.{fields};
 ghost use Rattle.append.specs.Append.{Room, Laid};
 ghost use Rattle.xml_schema.specs.Schema.{nameOf, optionalWords, optionalNumber};
 ghost use Rattle.xml_attributes.specs.Attributes.{valueFor, isAbsent, label, written, fieldAfter, digitAfter, attributesBy};
-
-fn less(n: usize, by: usize) -> usize
-    ensures { λ r. ⌜ r ≡ n - by ⌝ }
-{
-    if n < by { 0 } else { n - by }
-}
 
 // Byte j of a field, or 0.
 fn digit_of(s: &[u8], j: usize) -> u8

@@ -1,5 +1,6 @@
 // The XML that is written for the lines of a text: X13 of docs/RULES.md.
 use append::append;
+use numerals::less;
 use readers::line_fields::field_of;
 use readers::line_fields::letter_of;
 use text::find;
@@ -12,7 +13,7 @@ use xml_schema::name_of;
 use xml_schema::parent_of;
 use xml_schema::row_of;
 ghost use mathlib.Core.Path.{_≡_};
-ghost use Prim.Native.Nat.{_-_, _≤_};
+ghost use Prim.Native.Nat.{_≤_};
 ghost use Rattle.text.specs.Text.{lines, fields};
 ghost use Rattle.append.specs.Append.{Room, Laid};
 ghost use Rattle.xml_schema.specs.Schema.{entriesOf};
@@ -209,12 +210,6 @@ fn leads_to(d: usize, k: usize, level: usize) -> usize
         return 16 + level;
     }
     if is_alone(k) { parent_of(k) } else { k }
-}
-
-fn less(n: usize, by: usize) -> usize
-    ensures { λ r. ⌜ r ≡ n - by ⌝ }
-{
-    if n < by { 0 } else { n - by }
 }
 
 // A line, from a place.
