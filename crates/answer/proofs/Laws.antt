@@ -12,14 +12,14 @@ use Rattle.laws.proofs.Lists.{next, done}
 use Rattle.answer.specs.Table.{fresh, isFresh}
 
 -- ---- a part of a table that nothing has been written to
-module _ (t : List ℕ) (i : ℕ) (inv : isFresh t ≡ isFresh (drop i t)) where
-  pub fresh-not : i < length t → (getD t i 0 ≡ 0xA5A5A5A5A5A5A5A5 → ⊥) → false ≡ isFresh t
+module _ (pattern : ℕ) (t : List ℕ) (i : ℕ) (inv : isFresh pattern t ≡ isFresh pattern (drop i t)) where
+  pub fresh-not : i < length t → (getD t i 0 ≡ pattern → ⊥) → false ≡ isFresh pattern t
   fresh-not h e = rw (inv, next t i h, ne-eqb _ _ e)
 
-  pub fresh-more : i < length t → getD t i 0 ≡ 0xA5A5A5A5A5A5A5A5 → isFresh t ≡ isFresh (drop (i + 1) t)
+  pub fresh-more : i < length t → getD t i 0 ≡ pattern → isFresh pattern t ≡ isFresh pattern (drop (i + 1) t)
   fresh-more h e = rw (inv, next t i h, eq-eqb _ _ e)
 
-  pub fresh-done : length t ≤ i → true ≡ isFresh t
+  pub fresh-done : length t ≤ i → true ≡ isFresh pattern t
   fresh-done h = rw (inv, done t i h)
 
 -- ---- filling a table

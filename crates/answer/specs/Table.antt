@@ -13,7 +13,7 @@ Ample table = 163840 ≤ length table
 abbrev pub fresh : ℕ → List ℕ
 fresh n = replicate n 0xA5A5A5A5A5A5A5A5
 
--- nothing has been written to a part of a table
-abbrev pub isFresh : List ℕ → Bool
-isFresh [] = true
-isFresh (x ∷ xs) = eqb x 0xA5A5A5A5A5A5A5A5 && isFresh xs
+-- nothing has been written to a part of a table, every number of which was the pattern
+abbrev pub isFresh : ℕ → List ℕ → Bool
+isFresh pattern [] = true
+isFresh pattern (x ∷ xs) = eqb x pattern && isFresh pattern xs

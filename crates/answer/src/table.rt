@@ -24,7 +24,7 @@ pub fn fill(table: &mut [u64])
 
 // Whether nothing has been written to a part of a table.
 fn is_fresh(table: &[u64]) -> bool
-    ensures { λ r. ⌜ r ≡ isFresh (now (table .entry)) ⌝ }
+    ensures { λ r. ⌜ r ≡ isFresh 0xA5A5A5A5A5A5A5A5 (now (table .entry)) ⌝ }
 {
     let mut i = 0;
     while i < table.len() {
@@ -48,7 +48,9 @@ pub fn put_touched(out: &mut Buffer, used: usize, table: &[u64]) -> usize {
 pub const SHORT: u16 = 0xA5A5;
 
 // Whether nothing has been written to a part of such a table.
-fn is_fresh_short(table: &[u16]) -> bool {
+fn is_fresh_short(table: &[u16]) -> bool
+    ensures { λ r. ⌜ r ≡ isFresh 0xA5A5 (now (table .entry)) ⌝ }
+{
     let mut i = 0;
     while i < table.len() {
         if table[i] != SHORT {
@@ -74,7 +76,9 @@ pub const MOST_BYTES: u64 = 196608;
 pub const BYTE: u8 = 0xA5;
 
 // Whether nothing has been written to a part of a buffer.
-fn is_fresh_bytes(bytes: &[u8]) -> bool {
+fn is_fresh_bytes(bytes: &[u8]) -> bool
+    ensures { λ r. ⌜ r ≡ isFresh 0xA5 (now (bytes .entry)) ⌝ }
+{
     let mut i = 0;
     while i < bytes.len() {
         if bytes[i] != BYTE {

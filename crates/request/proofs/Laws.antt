@@ -17,13 +17,13 @@ use Rattle.request.specs.declared.Number.the-variants.{Is, Not}
 use Rattle.request.specs.declared.Leading.{Leading}
 use Rattle.request.specs.declared.Leading.the-variants.{Is as Leads, Not as NoLeading}
 use Rattle.request.specs.declared.Two.{Two}
-use Rattle.request.specs.declared.Two.the-variants.{Are as TwoAre}
+use Rattle.request.specs.declared.Two.the-variants.{Are as TwoAre, Not as NotTwo}
 use Rattle.request.specs.declared.Bytes.{Bytes}
 use Rattle.request.specs.declared.Bytes.the-variants.{Are, Not as NoBytes}
 use Rattle.request.specs.declared.Both.{Both}
 use Rattle.request.specs.declared.Both.the-variants.{Are as BothAre, Not as NotBoth}
 use Rattle.request.specs.Request.{cut, worth, digitsOf, numberOf, led, leadingOf, digitOf, Decoded, bytes, none, onto, pairsOf, isDash, bytesOf}
-use Rattle.request.specs.Request.{LeadTwo, fitting, Decodes, firstOf, secondOf, fittingBoth, InBoth, DecodesBoth}
+use Rattle.request.specs.Request.{paired, further, twoOf, fitting, Decodes, firstOf, secondOf, fittingBoth, InBoth, DecodesBoth}
 
 -- ---- where a byte stands
 module _ (b : ℕ) (s : List ℕ) (i : ℕ) (inv : cut b s ≡ i + cut b (drop i s)) where
@@ -354,21 +354,44 @@ module _ (a b : Decoded) (held : List ℕ) (r : Both) (n e : ℕ) (told : Decode
 pub taken-before : (s : List ℕ) (n e : ℕ) → n ≤ e → e ≤ length s → n ≡ length (take n s)
 taken-before s n e l h = taken s n (omega arith)
 
--- ---- two numbers, and where the words start behind them
-pub two-words : (words : List ℕ) (r : Two) (first second at : ℕ) → LeadTwo words r → r ≡ TwoAre first second at → at ≤ length words
-two-words words r first second at told is = rw is at told
+-- ---- two numbers that others follow
+module _ (s : List ℕ) (r : Leading) (first : r ≡ leadingOf s) where
+  pub two-none : r ≡ NoLeading → NotTwo ≡ twoOf s
+  two-none e = rw (← first, e)
 
-module _ (words : List ℕ) (at from : ℕ) (first : at ≤ length words) (second : from ≤ length (take (length words - at) (drop at words))) where
-  behind : at + from ≤ length words
-  behind = omega (arith, first, rw (tail words at, length-drop) at second)
+  module _ (v at : ℕ) (is : r ≡ Leads v at) (q : Leading) (next : q ≡ leadingOf (take (length s - at) (drop at s))) where
+    rest-is : q ≡ leadingOf (drop at s)
+    rest-is = rw (tail s at) at next
 
-  pub two-fits : length words * 1 < 2 ^ 63 → Fits w64 (at + from)
-  two-fits room = omega (arith, behind)
+    pub two-one : q ≡ NoLeading → NotTwo ≡ twoOf s
+    two-one e = rw (← first, is, ← rest-is, e)
 
-  pub two-inside : at + from ≤ length words
-  two-inside = behind
+    module _ (w from : ℕ) (also : q ≡ Leads w from) where
+      pub two-are : TwoAre v w (at + from) ≡ twoOf s
+      two-are = rw (← first, is, ← rest-is, also)
 
-pub ruleset two-laws = (taken-before, two-words, two-fits, two-inside)
+      pub two-fits : length s * 1 < 2 ^ 63 → Fits w64 (at + from)
+      two-fits room =
+          let rest = leading-inside (drop at s) q w from rest-is also in
+          omega (arith, leading-inside s r v at first is, rw length-drop at rest)
+
+-- where the others start, there are such
+pub two-words : (s : List ℕ) (r : Two) (v w at : ℕ) → r ≡ twoOf s → r ≡ TwoAre v w at → at ≤ length s
+two-words s r v w at is e = one (leadingOf s) (λ n m h. leading-inside s (leadingOf s) n m refl h) (sym is ∙ e)
+  where
+    two : (n m : ℕ) (q : Leading) → m ≤ length s → ((k from : ℕ) → q ≡ Leads k from → from ≤ length (drop m s))
+        → paired n m q ≡ TwoAre v w at → at ≤ length s
+    two n m (Leads k from) few inside h =
+        let z : m + from ≡ at = cc in
+        omega (arith, inside k from refl, length-drop m s)
+    two n m NoLeading few inside h = absurd (let z : _≡_ {A = ℕ} 0 1 = cc in omega arith)
+
+    one : (p : Leading) → ((n m : ℕ) → p ≡ Leads n m → m ≤ length s) → further s p ≡ TwoAre v w at → at ≤ length s
+    one (Leads n m) inside h =
+        two n m (leadingOf (drop m s)) (inside n m refl) (λ k from t. leading-inside (drop m s) (leadingOf (drop m s)) k from refl t) h
+    one NoLeading inside h = absurd (let z : _≡_ {A = ℕ} 0 1 = cc in omega arith)
+
+pub ruleset two-laws = (taken-before, two-none, two-one, two-are, two-fits, two-words)
 
 pub ruleset request-laws = (
   cut-hit,

@@ -3,7 +3,8 @@ use mathlib.Core.Path.{_≡_, refl}
 use mathlib.Core.List.{[], _∷_}
 use Rattle.request.specs.declared.Number.the-variants.{Is, Not}
 use Rattle.request.specs.declared.Leading.the-variants.{Is as Leads, Not as NoLeading}
-use Rattle.request.specs.Request.{numberOf, leadingOf, bytesOf, bytes, none}
+use Rattle.request.specs.declared.Two.the-variants.{Are as TwoAre, Not as NotTwo}
+use Rattle.request.specs.Request.{numberOf, leadingOf, twoOf, bytesOf, bytes, none}
 
 zero : numberOf (48 ∷ []) ≡ Is 0
 zero = refl
@@ -38,6 +39,13 @@ alone = refl
 
 last-empty : leadingOf (51 ∷ 32 ∷ []) ≡ Leads 3 2
 last-empty = refl
+
+-- `3 12 5b`, and `3 12`
+two-lead : twoOf (51 ∷ 32 ∷ 49 ∷ 50 ∷ 32 ∷ 53 ∷ 98 ∷ []) ≡ TwoAre 3 12 5
+two-lead = refl
+
+nothing-behind : twoOf (51 ∷ 32 ∷ 49 ∷ 50 ∷ []) ≡ NotTwo
+nothing-behind = refl
 
 -- `-`, `5b02`, `5B`, `5b0`, and no word
 no-bytes : bytesOf (45 ∷ []) ≡ bytes []

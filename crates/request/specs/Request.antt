@@ -53,6 +53,18 @@ led Not at = NoLeading
 abbrev pub leadingOf : List ℕ → Leading
 leadingOf l = cond (ltb (cut 0x20 l) (length l)) (led (numberOf (take (cut 0x20 l) l)) (cut 0x20 l + 1)) NoLeading
 
+-- the two numbers that words start with where others follow them, and where these start
+abbrev pub paired : ℕ → ℕ → Leading → Two
+paired first at (Leads second from) = TwoAre first second (at + from)
+paired first at NoLeading = NotTwo
+
+abbrev pub further : List ℕ → Leading → Two
+further l (Leads first at) = paired first at (leadingOf (drop at l))
+further l NoLeading = NotTwo
+
+abbrev pub twoOf : List ℕ → Two
+twoOf l = further l (leadingOf l)
+
 -- ---- "Bytes are lower-case hex without spaces, `-` for none"
 -- what a digit says; 16 for a byte that is none
 abbrev pub digitOf : ℕ → ℕ
@@ -114,8 +126,3 @@ pub record InBoth (a b : Decoded) (held : List ℕ) (n e : ℕ) : Type 0 where
 abbrev pub DecodesBoth : Decoded → Decoded → List ℕ → Both → Type 0
 DecodesBoth a b held (BothAre n e) = InBoth a b held n e
 DecodesBoth a b held NotBoth = fittingBoth (length held) a b ≡ false
-
--- two numbers lead: the other words start inside
-abbrev pub LeadTwo : List ℕ → Two → Type 0
-LeadTwo words (TwoAre first second at) = at ≤ length words
-LeadTwo words NotTwo = Unit

@@ -3,8 +3,8 @@ use readers::line_fields::find_field;
 ghost use mathlib.Core.Path.{_≡_};
 ghost use Prim.Native.Nat.{_≤_};
 ghost use lib.ListN.{length};
-ghost use Rattle.request.specs.Request.{cut, numberOf, digitsOf, leadingOf, digitOf, pairsOf, isDash, bytesOf, Decodes, firstOf, secondOf, DecodesBoth};
-ghost use Rattle.request.specs.Request.{LeadTwo};
+ghost use Rattle.request.specs.Request.{cut, numberOf, digitsOf, leadingOf, twoOf, digitOf, pairsOf, isDash, bytesOf, Decodes, firstOf, secondOf};
+ghost use Rattle.request.specs.Request.{DecodesBoth};
 
 // The words that a request starts with.
 pub enum Word {
@@ -176,8 +176,9 @@ pub fn read_leading(words: &[u8]) -> Leading
     Leading::Is(n, e + 1)
 }
 
+// The two numbers that words start with, and where the others start.
 pub fn read_two(words: &[u8]) -> Two
-    ensures { λ r. ⌜ LeadTwo (now (words .entry)) r ⌝ }
+    ensures { λ r. ⌜ r ≡ twoOf (now (words .entry)) ⌝ }
 {
     let Leading::Is(first, at) = read_leading(words) else {
         return Two::Not;

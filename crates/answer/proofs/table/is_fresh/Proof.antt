@@ -9,7 +9,7 @@ use Rattle.answer.proofs.table.is_fresh.Statement.{statement}
 use Rattle.answer.proofs.table.is_fresh.Tie as tie
 
 abbrev Inv-loop : tie.InvT-loop
-Inv-loop table i₀ i = (i ≤ length table) × (isFresh table ≡ isFresh (drop i table))
+Inv-loop table i₀ i = (i ≤ length table) × (isFresh 0xA5A5A5A5A5A5A5A5 table ≡ isFresh 0xA5A5A5A5A5A5A5A5 (drop i table))
 
 abbrev μ-loop : tie.MeasureT-loop
 μ-loop table i₀ i = length table - i
