@@ -5,6 +5,7 @@ use Rattle.request.specs.declared.Number.the-variants.{Is, Not}
 use Rattle.request.specs.declared.Leading.the-variants.{Is as Leads, Not as NoLeading}
 use Rattle.request.specs.declared.Two.the-variants.{Are as TwoAre, Not as NotTwo}
 use Rattle.request.specs.Request.{numberOf, leadingOf, twoOf, bytesOf, bytes, none}
+use Rattle.request.specs.Row.{asked, unasked, headerOf, commandOf}
 
 zero : numberOf (48 ∷ []) ≡ Is 0
 zero = refl
@@ -62,3 +63,15 @@ odd = refl
 
 no-word : bytesOf [] ≡ none
 no-word = refl
+
+-- `9 2 1 3 5b 02`, `1 9 2 5b 02`, and `2 9 2 5b 02`
+header-row : headerOf (57 ∷ 32 ∷ 50 ∷ 32 ∷ 49 ∷ 32 ∷ 51 ∷ 32 ∷ 53 ∷ 98 ∷ 32 ∷ 48 ∷ 50 ∷ [])
+    ≡ asked 9 (2 ∷ 1 ∷ 3 ∷ []) (53 ∷ 98 ∷ 32 ∷ 48 ∷ 50 ∷ [])
+header-row = refl
+
+command-row : commandOf (49 ∷ 32 ∷ 57 ∷ 32 ∷ 50 ∷ 32 ∷ 53 ∷ 98 ∷ 32 ∷ 48 ∷ 50 ∷ [])
+    ≡ asked 9 (2 ∷ 1 ∷ []) (53 ∷ 98 ∷ 32 ∷ 48 ∷ 50 ∷ [])
+command-row = refl
+
+third-mode : commandOf (50 ∷ 32 ∷ 57 ∷ 32 ∷ 50 ∷ 32 ∷ 53 ∷ 98 ∷ 32 ∷ 48 ∷ 50 ∷ []) ≡ unasked
+third-mode = refl

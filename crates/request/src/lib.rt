@@ -1,4 +1,6 @@
 // The words of a request: which one it starts with, decimal numbers, and bytes in hex.
+pub mod row;
+
 use readers::line_fields::find_field;
 ghost use mathlib.Core.Path.{_≡_};
 ghost use Prim.Native.Nat.{_≤_};

@@ -8,27 +8,17 @@ use answer::table::put_touched_bytes;
 use libtap::TapAnswer;
 use libtap::values::tap_command_value;
 use libtap::values::tap_header_value;
-use node_requests::CommandAsked;
-use request::Both;
-use request::Leading;
-use request::Two;
-use request::read_both;
-use request::read_leading;
-use request::read_two;
+use request::row::CommandAsked;
+use request::row::CommandRow;
+use request::row::HeaderAsked;
+use request::row::HeaderRow;
+use request::row::read_command_row;
+use request::row::read_header_row;
 use writer::Buffer;
 use writer::put;
 ghost use Prim.Native.Nat.{_≤_};
 ghost use lib.ListN.{length};
 ghost use Rattle.libtap.specs.Answers.{Stands};
-
-// A request for a row of a header: its number, the region and the speed, where the MPDU starts behind the text, and where it ends.
-struct Asked {
-    row: usize,
-    region: u64,
-    speed: u64,
-    n: usize,
-    end: usize,
-}
 
 // A word and a text, the first n bytes of a buffer, and whether the buffer is untouched past it.
 fn put_text(out: &mut Buffer, used: usize, word: &[u8], buffer: &[u8], n: usize) -> usize
@@ -56,22 +46,10 @@ pub fn put_written(
     put_text(out, used, word, buffer, written.value as usize)
 }
 
-fn show_header(
-    text: &[u8],
-    mpdu: &[u8],
-    asked: Asked,
-    buffer: &mut [u8],
-    out: &mut Buffer,
-    used: usize,
-) -> usize {
-    let written = tap_header_value(text, mpdu, asked.region, asked.speed, asked.row, buffer);
-    put_written(out, used, b"headervalue ", written, buffer)
-}
-
 // The first bytes are the text, those behind them up to the end the MPDU.
-fn answer_header(
+fn show_header(
     bytes: &[u8],
-    asked: Asked,
+    asked: HeaderRow,
     buffer: &mut [u8],
     out: &mut Buffer,
     used: usize,
@@ -80,52 +58,31 @@ fn answer_header(
 {
     let n = asked.n;
     let end = asked.end;
-    show_header(&bytes[..n], &bytes[n..end], asked, buffer, out, used)
+    let written = tap_header_value(
+        &bytes[..n],
+        &bytes[n..end],
+        asked.region,
+        asked.speed,
+        asked.row,
+        buffer,
+    );
+    put_written(out, used, b"headervalue ", written, buffer)
 }
 
 // `headervalue CAP ROW REGION SPEED TEXT MPDU`
 pub fn headervalue(words: &[u8], bytes: &mut [u8], out: &mut Buffer, used: usize) -> Answer {
-    let Two::Are(cap, row, at) = read_two(words) else {
+    let HeaderAsked::Is(asked) = read_header_row(words, MOST_BYTES, bytes) else {
         return Answer::Bad;
     };
-    if MOST_BYTES < cap {
-        return Answer::Bad;
-    }
-    let others = &words[at..];
-    let Two::Are(region, speed, from) = read_two(others) else {
-        return Answer::Bad;
-    };
-    let Both::Are(n, end) = read_both(&others[from..], bytes) else {
-        return Answer::Bad;
-    };
-    let asked = Asked {
-        row: row as usize,
-        region,
-        speed,
-        n,
-        end,
-    };
-    let room = cap as usize;
+    let room = asked.cap;
     let mut buffer = [BYTE; 196608];
-    Answer::Put(answer_header(bytes, asked, &mut buffer[..room], out, used))
-}
-
-fn show_command(
-    text: &[u8],
-    payload: &[u8],
-    asked: CommandAsked,
-    buffer: &mut [u8],
-    out: &mut Buffer,
-    used: usize,
-) -> usize {
-    let written = tap_command_value(text, payload, asked.by_position, asked.row, buffer);
-    put_written(out, used, b"commandvalue ", written, buffer)
+    Answer::Put(show_header(bytes, asked, &mut buffer[..room], out, used))
 }
 
 // The first bytes are the text, those behind them up to the end the payload.
-fn answer_command(
+fn show_command(
     bytes: &[u8],
-    asked: CommandAsked,
+    asked: CommandRow,
     buffer: &mut [u8],
     out: &mut Buffer,
     used: usize,
@@ -134,34 +91,22 @@ fn answer_command(
 {
     let n = asked.n;
     let end = asked.end;
-    show_command(&bytes[..n], &bytes[n..end], asked, buffer, out, used)
+    let written = tap_command_value(
+        &bytes[..n],
+        &bytes[n..end],
+        asked.by_position,
+        asked.row,
+        buffer,
+    );
+    put_written(out, used, b"commandvalue ", written, buffer)
 }
 
 // `commandvalue MODE CAP ROW TEXT PAYLOAD`
 pub fn commandvalue(words: &[u8], bytes: &mut [u8], out: &mut Buffer, used: usize) -> Answer {
-    let Leading::Is(mode, at) = read_leading(words) else {
+    let CommandAsked::Is(asked) = read_command_row(words, MOST_BYTES, bytes) else {
         return Answer::Bad;
     };
-    if 1 < mode {
-        return Answer::Bad;
-    }
-    let others = &words[at..];
-    let Two::Are(cap, row, from) = read_two(others) else {
-        return Answer::Bad;
-    };
-    if MOST_BYTES < cap {
-        return Answer::Bad;
-    }
-    let Both::Are(n, end) = read_both(&others[from..], bytes) else {
-        return Answer::Bad;
-    };
-    let asked = CommandAsked {
-        row: row as usize,
-        by_position: mode == 1,
-        n,
-        end,
-    };
-    let room = cap as usize;
+    let room = asked.cap;
     let mut buffer = [BYTE; 196608];
-    Answer::Put(answer_command(bytes, asked, &mut buffer[..room], out, used))
+    Answer::Put(show_command(bytes, asked, &mut buffer[..room], out, used))
 }
