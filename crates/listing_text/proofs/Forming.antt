@@ -14,13 +14,13 @@ use Rattle.text.specs.Scan.{cut}
 use Rattle.text.specs.declared.Place.{Place}
 use Rattle.text.proofs.Laws.{split-last, split-more}
 use Rattle.text.proofs.Judging.{split-some}
-use Rattle.listing_text.specs.Listing.{rowWidth, most, numbersIn, atEnd, lastOf, formOf}
-use Rattle.listing_text.specs.Steps.{valueOf}
+use Rattle.numerals.specs.Numbers.{most, valueOf}
+use Rattle.numerals.specs.declared.numbers.Value.{Value}
+use Rattle.numerals.specs.declared.numbers.Value.the-variants.{Is, Not}
+use Rattle.numerals.proofs.Decimals.{value-is, value-not}
+use Rattle.listing_text.specs.Listing.{rowWidth, numbersIn, atEnd, lastOf, formOf}
 use Rattle.listing_text.specs.declared.form.Form.{Form}
 use Rattle.listing_text.specs.declared.form.Form.the-variants.{Names, Wrong}
-use Rattle.listing_text.specs.declared.numbers.Value.{Value}
-use Rattle.listing_text.specs.declared.numbers.Value.the-variants.{Is, Not}
-use Rattle.listing_text.proofs.Decimals.{value-is, value-not}
 
 -- ---- the numbers of a line, field by field
 pub record Counting (s : List ℕ) (at more : ℕ) : Type 0 where

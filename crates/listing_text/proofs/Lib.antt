@@ -1,4 +1,3 @@
-pub mod Decimals
 pub mod Lining
 pub mod Forming
 pub mod Differing

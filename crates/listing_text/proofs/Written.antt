@@ -14,7 +14,8 @@ use Rattle.text.specs.Text.{lines, fields, without, same, worth, upTo}
 use Rattle.text.specs.Print.{Every, Clean, shown, joined}
 use Rattle.text.proofs.Judging.{split-some}
 use Rattle.text.proofs.Printing.{shown-up-to, shown-worth, clean-shown, split-joined, without-joined, joined-split, split-long, split-without, same-is}
-use Rattle.listing_text.specs.Listing.{rowWidth, most, lineOf, textOf, closed, listingOf, numbersIn, lastOf, formOf, begins, differs}
+use Rattle.numerals.specs.Numbers.{most}
+use Rattle.listing_text.specs.Listing.{rowWidth, lineOf, textOf, closed, listingOf, numbersIn, lastOf, formOf, begins, differs}
 use Rattle.listing_text.specs.Steps.{Small, rowsIn, puts}
 use Rattle.listing_text.specs.declared.form.Form.the-variants.{Names, Wrong}
 use Rattle.listing_text.proofs.Forming.{form-line, end-not}

@@ -5,6 +5,7 @@ use mathlib.Core.List.{List, [], _∷_, _++_}
 use lib.ListN.{length, take, drop}
 use Rattle.text.specs.Text.{fields, same, upTo, worth}
 use Rattle.text.specs.Print.{shown}
+use Rattle.numerals.specs.Numbers.{most}
 use Rattle.listing_text.specs.declared.form.Form.{Form}
 use Rattle.listing_text.specs.declared.form.Form.the-variants.{Names, Wrong}
 
@@ -38,10 +39,6 @@ abbrev pub listingOf : List (List ℕ) → ℕ → List ℕ
 listingOf rows number = textOf (closed rows number)
 
 -- ---- LS2: the form
-
--- LS2: the greatest number of a listing
-abbrev pub most : ℕ
-most = 18446744073709551615
 
 -- LS2: are the fields of a line so many numbers
 abbrev pub numbersIn : ℕ → List (List ℕ) → Bool

@@ -1,25 +1,15 @@
 -- What the steps of reading, writing and comparing a listing answer.
 use Prim.Native.Nat.{ℕ, zero, suc, _+_, _≤_, _*_}
-use mathlib.Core.Bool.{cond, _&&_}
+use mathlib.Core.Bool.{cond}
 use mathlib.Core.Path.{_≡_}
 use mathlib.Core.List.{List, [], _∷_, _++_}
-use lib.Dec.{leb, eqb}
+use lib.Dec.{eqb}
 use lib.ListN.{length, take, drop}
 use lib.Seq.{sets}
 use Rattle.rows.specs.Rows.{put}
-use Rattle.text.specs.Text.{within, upTo, worth}
 use Rattle.text.specs.Print.{Every, shown}
-use Rattle.listing_text.specs.declared.numbers.Value.{Value}
-use Rattle.listing_text.specs.declared.numbers.Value.the-variants.{Is, Not}
-use Rattle.listing_text.specs.Listing.{rowWidth, most, lineOf, textOf, begins}
-
--- LS2: the number that l says
-abbrev pub valueOf : List ℕ → Value
-valueOf l = cond (upTo most l) (Is (worth 0 l)) Not
-
--- the number that digits say after digits that are worth v
-abbrev pub digitsFrom : ℕ → List ℕ → Value
-digitsFrom v l = cond (within 48 57 l && leb (worth v l) most) (Is (worth v l)) Not
+use Rattle.numerals.specs.Numbers.{most}
+use Rattle.listing_text.specs.Listing.{rowWidth, lineOf, textOf, begins}
 
 -- numbers that a listing can say
 abbrev pub Small : List ℕ → Type 0

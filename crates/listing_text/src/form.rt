@@ -1,7 +1,7 @@
 // The form of a listing.
 use crate::lines::ROW_WIDTH;
-use crate::numbers::Value;
-use crate::numbers::read_value;
+use numerals::numbers::Value;
+use numerals::numbers::read_value;
 use text::Place;
 use text::find;
 ghost use mathlib.Core.Path.{_≡_};

@@ -2,7 +2,6 @@
 mod difference;
 mod form;
 mod lines;
-mod numbers;
 
 pub use difference::first_difference;
 pub use form::Form;

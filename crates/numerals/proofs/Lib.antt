@@ -1,3 +1,4 @@
 pub mod Laws
+pub mod Decimals
 pub mod Worth
 pub mod Shown

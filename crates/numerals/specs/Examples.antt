@@ -1,6 +1,8 @@
--- Numbers as text.
+-- Numbers as text, and read.
 use mathlib.Core.Path.{_≡_, refl}
 use mathlib.Core.List.{[], _∷_}
+use Rattle.numerals.specs.declared.numbers.Value.the-variants.{Is, Not}
+use Rattle.numerals.specs.Numbers.{valueOf}
 use Rattle.numerals.specs.Numerals.{spelled, decimal, signed, hex, pairs}
 
 -- 0
@@ -44,3 +46,28 @@ hex-three-digits = refl
 -- 00FF
 both-bytes : pairs (0 ∷ 255 ∷ []) ≡ 0x30 ∷ 0x30 ∷ 0x46 ∷ 0x46 ∷ []
 both-bytes = refl
+
+-- 0, 12, 01, nothing, -1
+read-zero : valueOf (48 ∷ []) ≡ Is 0
+read-zero = refl
+
+read-twelve : valueOf (49 ∷ 50 ∷ []) ≡ Is 12
+read-twelve = refl
+
+leading-zero : valueOf (48 ∷ 49 ∷ []) ≡ Not
+leading-zero = refl
+
+no-digit : valueOf [] ≡ Not
+no-digit = refl
+
+read-minus : valueOf (45 ∷ 49 ∷ []) ≡ Not
+read-minus = refl
+
+-- 18446744073709551615 and the next
+largest : valueOf (49 ∷ 56 ∷ 52 ∷ 52 ∷ 54 ∷ 55 ∷ 52 ∷ 52 ∷ 48 ∷ 55 ∷ 51 ∷ 55 ∷ 48 ∷ 57 ∷ 53 ∷ 53 ∷ 49 ∷ 54 ∷ 49 ∷ 53
+    ∷ []) ≡ Is 18446744073709551615
+largest = refl
+
+too-large : valueOf (49 ∷ 56 ∷ 52 ∷ 52 ∷ 54 ∷ 55 ∷ 52 ∷ 52 ∷ 48 ∷ 55 ∷ 51 ∷ 55 ∷ 48 ∷ 57 ∷ 53 ∷ 53 ∷ 49 ∷ 54 ∷ 49 ∷ 54
+    ∷ []) ≡ Not
+too-large = refl

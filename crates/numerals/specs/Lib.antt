@@ -1,2 +1,3 @@
 pub mod Numerals
+pub mod Numbers
 pub mod Examples

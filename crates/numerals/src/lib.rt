@@ -1,4 +1,6 @@
-// Numbers and bytes as text: decimal, signed, hexadecimal.
+// Numbers and bytes as text: decimal, signed, hexadecimal. And decimal numbers read.
+pub mod numbers;
+
 use buffer::Written;
 use buffer::put;
 use refusal::Refusal;

@@ -1,6 +1,6 @@
 // Standard input, read in blocks and cut into lines. What is read and not yet answered lies in a lent buffer.
 use libc::STDIN_FILENO;
-use request::find;
+use text::find;
 ghost use Prim.Native.Nat.{_≤_};
 ghost use lib.ListN.{length};
 ghost use Rattle.replay.specs.Input.{In, Empty, Finds, Fills};

@@ -15,12 +15,12 @@ use libtap::frames::tap_count_records;
 use libtap::frames::tap_parse_record;
 use libtap::frames::tap_record_body;
 use libtap::frames::tap_speed_for;
+use numerals::numbers::Value;
+use numerals::numbers::read_value;
 use request::Bytes;
 use request::Leading;
-use request::Number;
 use request::read_bytes;
 use request::read_leading;
-use request::read_number;
 use writer::Buffer;
 use writer::put;
 
@@ -29,7 +29,7 @@ pub fn rate(words: &[u8], out: &mut Buffer, used: usize) -> Answer {
     let Leading::Is(channel, at) = read_leading(words) else {
         return Answer::Bad;
     };
-    let Number::Is(region) = read_number(&words[at..]) else {
+    let Value::Is(region) = read_value(&words[at..]) else {
         return Answer::Bad;
     };
     let rate = tap_speed_for(channel as usize, region as usize);

@@ -5,15 +5,18 @@ use mathlib.Core.List.{List, [], _∷_, _++_, append-assoc, append-nil}
 use Prim.Native.Nat.{ℕ, zero, suc, _+_, _-_, _*_, _/_, _^_, _≤_, _<_}
 use native.Mathlib.Numerals.{add-one}
 use native.Mathlib.Omega.{arith}
-use lib.Dec.{ltb, eqb}
+use lib.Dec.{ltb}
 use lib.ListN.{length, getD, set, take, drop, length-set, length-append, length-drop}
 use lib.Seq.{take-suc-set, length-take-le, take-at, drop-at}
 use mir.Syntax.{w64}
 use mir.Val.{Fits}
-use borrow.Author.Tests.{le-leb, lt-leb, lt-ltb, le-ltb, eq-eqb, ne-eqb, ltb-true, leb-false}
+use borrow.Author.Tests.{le-leb, lt-leb, lt-ltb, le-ltb, ltb-true, leb-false}
 use Rattle.laws.proofs.Lists.{next, done, tail}
-use Rattle.request.specs.declared.Number.{Number}
-use Rattle.request.specs.declared.Number.the-variants.{Is, Not}
+use Rattle.text.specs.Text.{missing}
+use Rattle.text.specs.Scan.{cut}
+use Rattle.numerals.specs.Numbers.{valueOf}
+use Rattle.numerals.specs.declared.numbers.Value.{Value}
+use Rattle.numerals.specs.declared.numbers.Value.the-variants.{Is, Not}
 use Rattle.request.specs.declared.Leading.{Leading}
 use Rattle.request.specs.declared.Leading.the-variants.{Is as Leads, Not as NoLeading}
 use Rattle.request.specs.declared.Two.{Two}
@@ -22,89 +25,15 @@ use Rattle.request.specs.declared.Bytes.{Bytes}
 use Rattle.request.specs.declared.Bytes.the-variants.{Are, Not as NoBytes}
 use Rattle.request.specs.declared.Both.{Both}
 use Rattle.request.specs.declared.Both.the-variants.{Are as BothAre, Not as NotBoth}
-use Rattle.request.specs.Request.{cut, worth, digitsOf, numberOf, led, leadingOf, digitOf, Decoded, bytes, none, onto, pairsOf, isDash, bytesOf}
+use Rattle.request.specs.Request.{led, leadingOf, digitOf, Decoded, bytes, none, onto, pairsOf, bytesOf}
 use Rattle.request.specs.Request.{paired, further, twoOf, fitting, Decodes, firstOf, secondOf, fittingBoth, InBoth, DecodesBoth}
-
--- ---- where a byte stands
-module _ (b : ℕ) (s : List ℕ) (i : ℕ) (inv : cut b s ≡ i + cut b (drop i s)) where
-  pub cut-hit : i < length s → getD s i 0 ≡ b → i ≡ cut b s
-  cut-hit h e = rw (inv, next s i h, eq-eqb _ _ e) (omega arith)
-
-  pub cut-more : i < length s → (getD s i 0 ≡ b → ⊥) → cut b s ≡ i + 1 + cut b (drop (i + 1) s)
-  cut-more h e = rw (inv, next s i h, ne-eqb _ _ e) (omega arith)
-
-  pub cut-done : i ≤ length s → length s ≤ i → i ≡ cut b s
-  cut-done l h = rw (inv, done s i h) (omega arith)
-
--- ---- digits
--- more digits are worth no less
-worth-grows : (v : ℕ) (l : List ℕ) → v ≤ worth v l
-worth-grows v [] = omega arith
-worth-grows v (x ∷ xs) = omega (arith, worth-grows (v * 10 + (x - 48)) xs)
-
--- past 2^64 - 1 no digit helps
-over : (v : ℕ) (l : List ℕ) → 2 ^ 64 ≤ v → digitsOf v l ≡ Not
-over v l h =
-    let g : 2 ^ 64 ≤ worth v l = omega (arith, worth-grows v l) in
-    rw (le-ltb (worth v l) (2 ^ 64) g, and-false)
-
--- digits that are worth v are read
-pub record Reading (s : List ℕ) (v i : ℕ) : Type 0 where
-  pub all : digitsOf 0 s ≡ digitsOf v (drop i s)
-  pub within : i ≤ length s
-  pub fits : v < 2 ^ 64
-
-pub reading-starts : (s : List ℕ) → Reading s 0 0
-reading-starts s = record { all = refl; within = omega arith; fits = omega arith }
-
-module _ (s : List ℕ) (v i : ℕ) (p : Reading s v i) where
-  pub digits-done : length s ≤ i → Is v ≡ digitsOf 0 s
-  digits-done h = rw (p .all, done s i h, lt-ltb v (2 ^ 64) (p .fits))
-
-  module _ (more : i < length s) where
-    pub digits-low : getD s i 0 < 48 → Not ≡ digitsOf 0 s
-    digits-low l = rw (p .all, next s i more, lt-leb _ _ l)
-
-    module _ (low : 48 ≤ getD s i 0) where
-      pub digits-high : 57 < getD s i 0 → Not ≡ digitsOf 0 s
-      digits-high u = rw (p .all, next s i more, le-leb _ _ low, lt-leb _ _ u)
-
-      module _ (high : getD s i 0 ≤ 57) where
-        step : digitsOf 0 s ≡ digitsOf (v * 10 + (getD s i 0 - 48)) (drop (i + 1) s)
-        step = rw (p .all, next s i more, le-leb _ _ low, le-leb _ _ high)
-
-        pub digits-over : (18446744073709551615 - (getD s i 0 - 48)) / 10 < v → Not ≡ digitsOf 0 s
-        digits-over o = sym (step ∙ over (v * 10 + (getD s i 0 - 48)) (drop (i + 1) s) (omega arith))
-
-        pub reading-more : v ≤ (18446744073709551615 - (getD s i 0 - 48)) / 10 → Reading s (v * 10 + (getD s i 0 - 48)) (i + 1)
-        reading-more u = record { all = step; within = omega arith; fits = omega arith }
-
--- ---- a number
-pub number-empty : (s : List ℕ) → length s ≡ 0 → Not ≡ numberOf s
-number-empty [] e = refl
-number-empty (x ∷ xs) e = absurd (omega arith)
-
-pub number-zero : (s : List ℕ) → length s ≡ 1 → getD s 0 0 ≡ 48 → Is 0 ≡ numberOf s
-number-zero [] n e = absurd (omega arith)
-number-zero (x ∷ []) n e = rw e
-number-zero (x ∷ y ∷ ys) n e = absurd (omega arith)
-
-pub number-lead : (s : List ℕ) → (length s ≡ 0 → ⊥) → (length s ≡ 1 → ⊥) → getD s 0 0 ≡ 48 → Not ≡ numberOf s
-number-lead [] n m e = absurd (n refl)
-number-lead (x ∷ []) n m e = absurd (m refl)
-number-lead (x ∷ y ∷ ys) n m e = rw (eq-eqb x 48 e)
-
-pub number-digits : (s : List ℕ) (r : Number) → (length s ≡ 0 → ⊥) → (getD s 0 0 ≡ 48 → ⊥) → r ≡ digitsOf 0 s → r ≡ numberOf s
-number-digits [] r n e d = absurd (n refl)
-number-digits (x ∷ []) r n e d = d
-number-digits (x ∷ y ∷ ys) r n e d = rw (ne-eqb x 48 e) d
 
 -- ---- a number that others follow
 module _ (s : List ℕ) (e : ℕ) (at-e : e ≡ cut 0x20 s) where
   pub leading-alone : e ≡ length s → NoLeading ≡ leadingOf s
   leading-alone l = rw (← at-e, le-ltb e (length s) (omega arith))
 
-  module _ (r : Number) (first : r ≡ numberOf (take e s)) (inside : e ≤ length s) (more : e ≡ length s → ⊥) where
+  module _ (r : Value) (first : r ≡ valueOf (take e s)) (inside : e ≤ length s) (more : e ≡ length s → ⊥) where
     pub leading-not : r ≡ Not → NoLeading ≡ leadingOf s
     leading-not n = rw (← at-e, lt-ltb e (length s) (omega arith), ← first, n)
 
@@ -113,9 +42,9 @@ module _ (s : List ℕ) (e : ℕ) (at-e : e ≡ cut 0x20 s) where
 
 -- where the others start, there are such
 pub leading-inside : (s : List ℕ) (r : Leading) (v at : ℕ) → r ≡ leadingOf s → r ≡ Leads v at → at ≤ length s
-leading-inside s r v at is e = go (ltb (cut 0x20 s) (length s)) (numberOf (take (cut 0x20 s) s)) (ltb-true (cut 0x20 s) (length s)) (sym is ∙ e)
+leading-inside s r v at is e = go (ltb (cut 0x20 s) (length s)) (valueOf (take (cut 0x20 s) s)) (ltb-true (cut 0x20 s) (length s)) (sym is ∙ e)
   where
-    go : (t : Bool) (n : Number) → (t ≡ true → cut 0x20 s < length s) → cond t (led n (cut 0x20 s + 1)) NoLeading ≡ Leads v at → at ≤ length s
+    go : (t : Bool) (n : Value) → (t ≡ true → cut 0x20 s < length s) → cond t (led n (cut 0x20 s + 1)) NoLeading ≡ Leads v at → at ≤ length s
     go true (Is m) inside q = let z : cut 0x20 s + 1 ≡ at = cc in omega (arith, inside refl)
     go true Not inside q = absurd (let z : _≡_ {A = ℕ} 0 1 = cc in omega arith)
     go false n inside q = absurd (let z : _≡_ {A = ℕ} 0 1 = cc in omega arith)
@@ -227,16 +156,6 @@ module _ (w held : List ℕ) (room n i : ℕ) (p : Pairing w held room n i) (eve
           }
 
 -- ---- the bytes of a word
-pub dash-is : (w : List ℕ) (b : Bool) → length w ≡ 1 → b ≡ eqb (getD w 0 0) 45 → b ≡ isDash w
-dash-is [] b n e = absurd (omega arith)
-dash-is (x ∷ []) b n e = e
-dash-is (x ∷ y ∷ l) b n e = absurd (omega arith)
-
-pub dash-not : (w : List ℕ) → (length w ≡ 1 → ⊥) → false ≡ isDash w
-dash-not [] n = refl
-dash-not (x ∷ []) n = absurd (n refl)
-dash-not (x ∷ y ∷ l) n = refl
-
 module _ (w held : List ℕ) where
   pub bytes-empty : length w ≡ 0 → Decodes (bytesOf w) held NoBytes
   bytes-empty e = go w e
@@ -245,18 +164,18 @@ module _ (w held : List ℕ) where
       go [] e = refl
       go (x ∷ l) e = absurd (omega arith)
 
-  module _ (d : Bool) (is-dash : d ≡ isDash w) where
+  module _ (d : Bool) (is-dash : d ≡ missing w) where
     pub bytes-none : d ≡ true → bytesOf w ≡ bytes []
     bytes-none e = go w (sym is-dash ∙ e)
       where
-        go : (w : List ℕ) → isDash w ≡ true → bytesOf w ≡ bytes []
+        go : (w : List ℕ) → missing w ≡ true → bytesOf w ≡ bytes []
         go [] t = cc
         go (x ∷ l) t = rw t
 
     pub bytes-pairs : (r : Bytes) → (length w ≡ 0 → ⊥) → d ≡ false → Decodes (pairsOf w) held r → Decodes (bytesOf w) held r
     bytes-pairs r some e told = rw (same w some (sym is-dash ∙ e)) told
       where
-        same : (w : List ℕ) → (length w ≡ 0 → ⊥) → isDash w ≡ false → bytesOf w ≡ pairsOf w
+        same : (w : List ℕ) → (length w ≡ 0 → ⊥) → missing w ≡ false → bytesOf w ≡ pairsOf w
         same [] n t = absurd (n refl)
         same (x ∷ l) n t = rw t
 
@@ -394,19 +313,6 @@ two-words s r v w at is e = one (leadingOf s) (λ n m h. leading-inside s (leadi
 pub ruleset two-laws = (taken-before, two-none, two-one, two-are, two-fits, two-words)
 
 pub ruleset request-laws = (
-  cut-hit,
-  cut-more,
-  cut-done,
-  reading-starts,
-  digits-done,
-  digits-low,
-  digits-high,
-  digits-over,
-  reading-more,
-  number-empty,
-  number-zero,
-  number-lead,
-  number-digits,
   leading-alone,
   leading-not,
   leading-is,
@@ -424,8 +330,6 @@ pub ruleset request-laws = (
   pairs-high,
   pairs-low,
   pairing-more,
-  dash-is,
-  dash-not,
   bytes-empty,
   bytes-none,
   bytes-pairs,

@@ -20,8 +20,8 @@ use Rattle.request.specs.declared.row.HeaderAsked.the-variants as header
 use Rattle.request.specs.declared.row.CommandRow.{CommandRow}
 use Rattle.request.specs.declared.row.CommandAsked.{CommandAsked}
 use Rattle.request.specs.declared.row.CommandAsked.the-variants as command
-use Rattle.request.specs.Request.{leadingOf, twoOf, firstOf, secondOf, fittingBoth, InBoth, DecodesBoth}
-use Rattle.request.specs.Row.{Asked, asked, unasked, headerEnd, headerOf, commandEnd, commandOf, Reads, readable, AsksHeader, AsksCommand}
+use Rattle.request.specs.Request.{leadingOf, twoOf, firstOf, secondOf, fittingBoth, DecodesBoth}
+use Rattle.request.specs.Row.{Asked, asked, headerEnd, headerOf, commandOf, Reads, readable, AsksHeader, AsksCommand}
 use Rattle.request.proofs.Laws.{two-laws, request-laws}
 
 -- a list from n on, as a part of a slice has it

@@ -1,35 +1,10 @@
 -- Words of requests, worked out.
 use mathlib.Core.Path.{_≡_, refl}
 use mathlib.Core.List.{[], _∷_}
-use Rattle.request.specs.declared.Number.the-variants.{Is, Not}
 use Rattle.request.specs.declared.Leading.the-variants.{Is as Leads, Not as NoLeading}
 use Rattle.request.specs.declared.Two.the-variants.{Are as TwoAre, Not as NotTwo}
-use Rattle.request.specs.Request.{numberOf, leadingOf, twoOf, bytesOf, bytes, none}
+use Rattle.request.specs.Request.{leadingOf, twoOf, bytesOf, bytes, none}
 use Rattle.request.specs.Row.{asked, unasked, headerOf, commandOf}
-
-zero : numberOf (48 ∷ []) ≡ Is 0
-zero = refl
-
-twelve : numberOf (49 ∷ 50 ∷ []) ≡ Is 12
-twelve = refl
-
-leading-zero : numberOf (48 ∷ 49 ∷ []) ≡ Not
-leading-zero = refl
-
-empty : numberOf [] ≡ Not
-empty = refl
-
-minus : numberOf (45 ∷ 49 ∷ []) ≡ Not
-minus = refl
-
--- 18446744073709551615 and the next
-largest : numberOf (49 ∷ 56 ∷ 52 ∷ 52 ∷ 54 ∷ 55 ∷ 52 ∷ 52 ∷ 48 ∷ 55 ∷ 51 ∷ 55 ∷ 48 ∷ 57 ∷ 53 ∷ 53 ∷ 49 ∷ 54 ∷ 49 ∷ 53
-    ∷ []) ≡ Is 18446744073709551615
-largest = refl
-
-too-large : numberOf (49 ∷ 56 ∷ 52 ∷ 52 ∷ 54 ∷ 55 ∷ 52 ∷ 52 ∷ 48 ∷ 55 ∷ 51 ∷ 55 ∷ 48 ∷ 57 ∷ 53 ∷ 53 ∷ 49 ∷ 54 ∷ 49 ∷ 54
-    ∷ []) ≡ Not
-too-large = refl
 
 -- `3 12`, `3`, and a word that is empty behind the space
 first-of-two : leadingOf (51 ∷ 32 ∷ 49 ∷ 50 ∷ []) ≡ Leads 3 2

@@ -1,12 +1,15 @@
 -- The words of a request: decimal numbers, and bytes in hex. A word is a list of bytes.
 use mathlib.Core.Path.{_≡_}
-use Prim.Native.Nat.{ℕ, suc, _+_, _-_, _*_, _^_, _≤_}
-use mathlib.Core.Bool.{Bool, true, false, cond, not, _&&_}
+use Prim.Native.Nat.{ℕ, _+_, _-_, _*_, _≤_}
+use mathlib.Core.Bool.{Bool, false, cond, _&&_}
 use mathlib.Core.List.{List, [], _∷_, _++_}
 use lib.ListN.{length, take, drop}
-use lib.Dec.{ltb, leb, eqb}
-use Rattle.request.specs.declared.Number.{Number}
-use Rattle.request.specs.declared.Number.the-variants.{Is, Not}
+use lib.Dec.{ltb, leb}
+use Rattle.text.specs.Text.{missing}
+use Rattle.text.specs.Scan.{cut}
+use Rattle.numerals.specs.Numbers.{valueOf}
+use Rattle.numerals.specs.declared.numbers.Value.{Value}
+use Rattle.numerals.specs.declared.numbers.Value.the-variants.{Is, Not}
 use Rattle.request.specs.declared.Leading.{Leading}
 use Rattle.request.specs.declared.Leading.the-variants.{Is as Leads, Not as NoLeading}
 use Rattle.request.specs.declared.Two.{Two}
@@ -16,42 +19,14 @@ use Rattle.request.specs.declared.Bytes.the-variants.{Are, Not as NoByte
 use Rattle.request.specs.declared.Both.{Both}
 use Rattle.request.specs.declared.Both.the-variants.{Are as BothAre, Not as NotBoth}
 
--- where the first b stands in l, or l's length where there is none
-abbrev pub cut : ℕ → List ℕ → ℕ
-cut b [] = 0
-cut b (x ∷ xs) = cond (eqb x b) 0 (suc (cut b xs))
-
 -- ---- "Numbers are decimal", without leading zeros and at most 2^64 - 1
--- every byte is a digit
-abbrev pub allDigits : List ℕ → Bool
-allDigits [] = true
-allDigits (x ∷ xs) = leb 48 x && (leb x 57 && allDigits xs)
-
--- what digits are worth, after digits that are worth v
-abbrev pub worth : ℕ → List ℕ → ℕ
-worth v [] = v
-worth v (x ∷ xs) = worth (v * 10 + (x - 48)) xs
-
--- the number that digits say, after digits that are worth v
-abbrev pub digitsOf : ℕ → List ℕ → Number
-digitsOf v l = cond (allDigits l && ltb (worth v l) (2 ^ 64)) (Is (worth v l)) Not
-
--- one digit, or digits of which the first is not 0
-abbrev pub plain : List ℕ → Bool
-plain [] = false
-plain (x ∷ []) = true
-plain (x ∷ y ∷ ys) = not (eqb x 48)
-
-abbrev pub numberOf : List ℕ → Number
-numberOf l = cond (plain l) (digitsOf 0 l) Not
-
 -- the number that words start with where others follow it, and where these start: words are "parted by one space"
-abbrev pub led : Number → ℕ → Leading
+abbrev pub led : Value → ℕ → Leading
 led (Is n) at = Leads n at
 led Not at = NoLeading
 
 abbrev pub leadingOf : List ℕ → Leading
-leadingOf l = cond (ltb (cut 0x20 l) (length l)) (led (numberOf (take (cut 0x20 l) l)) (cut 0x20 l + 1)) NoLeading
+leadingOf l = cond (ltb (cut 0x20 l) (length l)) (led (valueOf (take (cut 0x20 l) l)) (cut 0x20 l + 1)) NoLeading
 
 -- the two numbers that words start with where others follow them, and where these start
 abbrev pub paired : ℕ → ℕ → Leading → Two
@@ -84,14 +59,9 @@ pairsOf [] = bytes []
 pairsOf (x ∷ []) = none
 pairsOf (x ∷ y ∷ l) = cond (ltb (digitOf x) 16 && ltb (digitOf y) 16) (onto ((digitOf x * 16 + digitOf y) ∷ []) (pairsOf l)) none
 
-abbrev pub isDash : List ℕ → Bool
-isDash [] = false
-isDash (x ∷ []) = eqb x 0x2d
-isDash (x ∷ y ∷ l) = false
-
 abbrev pub bytesOf : List ℕ → Decoded
 bytesOf [] = none
-bytesOf (x ∷ l) = cond (isDash (x ∷ l)) (bytes []) (pairsOf (x ∷ l))
+bytesOf (x ∷ l) = cond (missing (x ∷ l)) (bytes []) (pairsOf (x ∷ l))
 
 -- there are bytes, and so much room is enough for them
 abbrev pub fitting : ℕ → Decoded → Bool

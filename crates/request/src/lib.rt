@@ -1,12 +1,13 @@
 // The words of a request: which one it starts with, decimal numbers, and bytes in hex.
 pub mod row;
 
+use numerals::numbers::Value;
+use numerals::numbers::read_value;
 use readers::line_fields::find_field;
+use text::find;
+use text::is_missing;
 ghost use mathlib.Core.Path.{_≡_};
-ghost use Prim.Native.Nat.{_≤_};
-ghost use lib.ListN.{length};
-ghost use Rattle.request.specs.Request.{cut, numberOf, digitsOf, leadingOf, twoOf, digitOf, pairsOf, isDash, bytesOf, Decodes, firstOf, secondOf};
-ghost use Rattle.request.specs.Request.{DecodesBoth};
+ghost use Rattle.request.specs.Request.{leadingOf, twoOf, digitOf, pairsOf, bytesOf, Decodes, firstOf, secondOf, DecodesBoth};
 
 // The words that a request starts with.
 pub enum Word {
@@ -38,12 +39,6 @@ pub enum Word {
     Unknown,
 }
 
-// What a word says as a number.
-pub enum Number {
-    Is(u64),
-    Not,
-}
-
 // What words say of which the first is a number and others follow it: the number, and where the others start.
 pub enum Leading {
     Is(u64, usize),
@@ -66,20 +61,6 @@ pub enum Bytes {
 pub enum Both {
     Are(usize, usize),
     Not,
-}
-
-// Where the first b stands in s, or s's length where there is none.
-pub fn find(s: &[u8], b: u8) -> usize
-    ensures { λ r. ⌜ (r ≡ cut b (now (s .entry))) × (r ≤ length (now (s .entry))) ⌝ }
-{
-    let mut i = 0;
-    while i < s.len() {
-        if s[i] == b {
-            return i;
-        }
-        i += 1;
-    }
-    i
 }
 
 // The words of the requests that came after the base.
@@ -124,46 +105,6 @@ pub fn word_of(word: &[u8]) -> Word {
     }
 }
 
-// The number that digits say, if it is at most 2^64 - 1. A leading 0 counts as any digit.
-fn read_digits(word: &[u8]) -> Number
-    ensures { λ r. ⌜ r ≡ digitsOf 0 (now (word .entry)) ⌝ }
-{
-    let mut v: u64 = 0;
-    let mut i = 0;
-    while i < word.len() {
-        let b = word[i];
-        if b < b'0' {
-            return Number::Not;
-        }
-        if b'9' < b {
-            return Number::Not;
-        }
-        let d = (b - b'0') as u64;
-        if (18446744073709551615 - d) / 10 < v {
-            return Number::Not;
-        }
-        v = v * 10 + d;
-        i += 1;
-    }
-    Number::Is(v)
-}
-
-// The number that a word says: at most 2^64 - 1, without leading zeros.
-pub fn read_number(word: &[u8]) -> Number
-    ensures { λ r. ⌜ r ≡ numberOf (now (word .entry)) ⌝ }
-{
-    if word.len() == 0 {
-        return Number::Not;
-    }
-    if word[0] == b'0' {
-        if word.len() == 1 {
-            return Number::Is(0);
-        }
-        return Number::Not;
-    }
-    read_digits(word)
-}
-
 // The number that words start with, and where the others start.
 pub fn read_leading(words: &[u8]) -> Leading
     ensures { λ r. ⌜ r ≡ leadingOf (now (words .entry)) ⌝ }
@@ -172,7 +113,7 @@ pub fn read_leading(words: &[u8]) -> Leading
     if e == words.len() {
         return Leading::Not;
     }
-    let Number::Is(n) = read_number(&words[..e]) else {
+    let Value::Is(n) = read_value(&words[..e]) else {
         return Leading::Not;
     };
     Leading::Is(n, e + 1)
@@ -210,16 +151,6 @@ fn read_digit(b: u8) -> u8
     16
 }
 
-fn is_dash(word: &[u8]) -> bool
-    ensures { λ r. ⌜ r ≡ isDash (now (word .entry)) ⌝ }
-{
-    if word.len() == 1 {
-        word[0] == b'-'
-    } else {
-        false
-    }
-}
-
 // The bytes that pairs of hex digits say.
 fn read_pairs(word: &[u8], bytes: &mut [u8]) -> Bytes
     ensures { λ r. ⌜ Decodes (pairsOf (now (word .entry))) (now (bytes .exit)) r ⌝ }
@@ -254,7 +185,7 @@ pub fn read_bytes(word: &[u8], bytes: &mut [u8]) -> Bytes
     if word.len() == 0 {
         return Bytes::Not;
     }
-    if is_dash(word) {
+    if is_missing(word) {
         return Bytes::Are(0);
     }
     read_pairs(word, bytes)

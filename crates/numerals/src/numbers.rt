@@ -1,6 +1,6 @@
 // Numbers up to 2^64 - 1 in decimal, read.
 ghost use mathlib.Core.Path.{_≡_};
-ghost use Rattle.listing_text.specs.Steps.{valueOf, digitsFrom};
+ghost use Rattle.numerals.specs.Numbers.{valueOf, digitsFrom};
 
 // What bytes say as a number.
 pub enum Value {

@@ -9,10 +9,9 @@ use borrow.Author.Tests.{le-leb, lt-leb, eq-eqb, ne-eqb}
 use Rattle.laws.proofs.Lists.{next, done}
 use Rattle.text.specs.Text.{within, worth, upTo}
 use Rattle.text.proofs.Laws.{worth-grows, and-false}
-use Rattle.listing_text.specs.Listing.{most}
-use Rattle.listing_text.specs.Steps.{valueOf, digitsFrom}
-use Rattle.listing_text.specs.declared.numbers.Value.{Value}
-use Rattle.listing_text.specs.declared.numbers.Value.the-variants.{Is, Not}
+use Rattle.numerals.specs.Numbers.{most, valueOf, digitsFrom}
+use Rattle.numerals.specs.declared.numbers.Value.{Value}
+use Rattle.numerals.specs.declared.numbers.Value.the-variants.{Is, Not}
 
 -- ---- read, digit by digit
 

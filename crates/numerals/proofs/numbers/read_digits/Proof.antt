@@ -1,13 +1,12 @@
--- `listing_text::numbers::read_digits` meets its contract, by the laws of the crate. Assumes nothing.
+-- `numerals::numbers::read_digits` meets its contract, by the laws of the crate. Assumes nothing.
 use mathlib.Core.Path.{_≡_}
 use Prim.Native.Nat.{_-_, _≤_}
 use lib.ListN.{length, drop}
-use Rattle.listing_text.specs.Listing.{most}
-use Rattle.listing_text.specs.Steps.{digitsFrom}
+use Rattle.numerals.specs.Numbers.{most, digitsFrom}
 use borrow.Author.Needs.{needs}
-use Rattle.listing_text.proofs.Laws.{laws}
-use Rattle.listing_text.proofs.numbers.read_digits.Statement.{statement}
-use Rattle.listing_text.proofs.numbers.read_digits.Tie as tie
+use Rattle.numerals.proofs.Decimals.{laws}
+use Rattle.numerals.proofs.numbers.read_digits.Statement.{statement}
+use Rattle.numerals.proofs.numbers.read_digits.Tie as tie
 
 abbrev Inv-loop : tie.InvT-loop
 Inv-loop s v₀ i₀ v i = (i ≤ length s) × (v ≤ most) × (digitsFrom 0 s ≡ digitsFrom v (drop i s))
