@@ -9,7 +9,8 @@ use lib.ListN.{length, getD, set, take, drop, replicate-append-replicate}
 use lib.Seq.{take-all, take-suc-set}
 use borrow.Author.Tests.{eq-eqb, ne-eqb}
 use Rattle.laws.proofs.Lists.{next, done}
-use Rattle.answer.specs.Table.{fresh, isFresh}
+use Rattle.writer.proofs.Laws.{first-count}
+use Rattle.answer.specs.Table.{fresh, isFresh, Holds}
 
 -- ---- a part of a table that nothing has been written to
 module _ (pattern : ℕ) (t : List ℕ) (i : ℕ) (inv : isFresh pattern t ≡ isFresh pattern (drop i t)) where
@@ -31,4 +32,8 @@ fill-done t i n inv e l u =
     let is : i ≡ n = omega arith in
     sym (take-all i t u) ∙ inv ∙ rw is
 
-pub ruleset laws = (fill-more, fill-done, fresh-not, fresh-more, fresh-done)
+-- ---- a text in a buffer
+pub holds-in : (refusal value : ℕ) (buffer : List ℕ) → Holds refusal value buffer → refusal ≡ 0 → value ≤ length buffer
+holds-in refusal value buffer holds z = holds z
+
+pub ruleset laws = (fill-more, fill-done, fresh-not, fresh-more, fresh-done, holds-in, first-count)

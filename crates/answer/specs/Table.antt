@@ -1,4 +1,5 @@
--- The tables that calls are lent.
+-- The tables and buffers that calls are lent.
+use mathlib.Core.Path.{_≡_}
 use Prim.Native.Nat.{ℕ, _≤_}
 use mathlib.Core.Bool.{Bool, true, _&&_}
 use mathlib.Core.List.{List, [], _∷_}
@@ -17,3 +18,7 @@ fresh n = replicate n 0xA5A5A5A5A5A5A5A5
 abbrev pub isFresh : ℕ → List ℕ → Bool
 isFresh pattern [] = true
 isFresh pattern (x ∷ xs) = eqb x pattern && isFresh pattern xs
+
+-- where nothing is refused, a buffer holds as many bytes as are answered
+abbrev pub Holds : ℕ → ℕ → List ℕ → Type 0
+Holds refusal value buffer = refusal ≡ 0 → value ≤ length buffer

@@ -1,10 +1,12 @@
 // A table as a call is lent it: filled before the call, and looked at after it.
+use crate::put_bytes;
 use crate::put_refusal;
 use writer::Buffer;
 use writer::put;
 ghost use mathlib.Core.Path.{_≡_};
+ghost use Prim.Native.Nat.{_≤_};
 ghost use lib.ListN.{length};
-ghost use Rattle.answer.specs.Table.{fresh, isFresh};
+ghost use Rattle.answer.specs.Table.{fresh, isFresh, Holds};
 
 // The most rows that a request may ask for.
 pub const MOST_ROWS: u64 = 16384;
@@ -107,4 +109,31 @@ pub fn put_refused(
 ) -> usize {
     let n = put_refusal(out, used, number, carried);
     put_touched(out, n, table)
+}
+
+// A word and a text, the first n bytes of a buffer, and whether the buffer is untouched past it.
+fn put_text(out: &mut Buffer, used: usize, word: &[u8], buffer: &[u8], n: usize) -> usize
+    requires { ⌜ n ≤ length (now buffer) ⌝ }
+{
+    let m = put(out, used, word);
+    let e = put_bytes(out, m, &buffer[..n]);
+    put_touched_bytes(out, e, &buffer[n..])
+}
+
+// What a call that writes a text answers, a refusal's number and what it carries, or 0 and the text's length, and the buffer that it was lent.
+pub fn put_written(
+    out: &mut Buffer,
+    used: usize,
+    word: &[u8],
+    refusal: u64,
+    value: u64,
+    buffer: &[u8],
+) -> usize
+    requires { ⌜ Holds refusal value (now buffer) ⌝ }
+{
+    if refusal != 0 {
+        let m = put_refusal(out, used, refusal, value);
+        return put_touched_bytes(out, m, buffer);
+    }
+    put_text(out, used, word, buffer, value as usize)
 }

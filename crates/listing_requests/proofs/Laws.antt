@@ -6,12 +6,13 @@ use native.Mathlib.Omega.{arith}
 use lib.ListN.{length, take, drop, length-append, length-drop}
 use lib.Seq.{length-take-le}
 use Rattle.laws.proofs.Lists.{tail}
+use Rattle.text.proofs.Laws.{front-count}
 use Rattle.request.specs.Request.{Decoded, Decodes, DecodesBoth}
 use Rattle.request.specs.declared.Bytes.{Bytes}
 use Rattle.request.specs.declared.Bytes.the-variants.{Are}
 use Rattle.request.specs.declared.Both.{Both}
 use Rattle.request.specs.declared.Both.the-variants as both
-use Rattle.request.proofs.Laws.{decoded-inside, taken, both-inside, request-laws}
+use Rattle.request.proofs.Laws.{decoded-inside, both-inside, two-laws, request-laws}
 
 -- what stands behind the first n of a list: of its first e the first m are lent, and those from m on
 module _ (s : List ℕ) (n m e : ℕ) (inside : n ≤ length s) (ordered : m ≤ e) (within : e ≤ length s - n) where
@@ -19,7 +20,7 @@ module _ (s : List ℕ) (n m e : ℕ) (inside : n ≤ length s) (ordered : m ≤
   behind = ap length (tail s n) ∙ length-drop n s
 
   pub behind-first : m ≡ length (take m (take (length s - n) (drop n s)))
-  behind-first = taken (take (length s - n) (drop n s)) m (omega (arith, behind))
+  behind-first = front-count (take (length s - n) (drop n s)) m (omega (arith, behind))
 
   pub behind-start : m ≤ length (take (length s - n) (drop n s))
   behind-start = omega (arith, behind)
@@ -55,4 +56,4 @@ module _ (d : Decoded) (held : List ℕ) (r : Bytes) (n : ℕ) (told : Decodes d
   pub rest-ends : (a b : Decoded) (q : Both) (m e : ℕ) → DecodesBoth a b ys q → q ≡ both.Are m e → e ≤ length after - n
   rest-ends a b q m e next is = omega (arith, whole, within, same, both-inside a b ys q m e next is)
 
-pub ruleset laws = (request-laws, taken, behind-first, behind-start, behind-end, rest-starts, rest-ends)
+pub ruleset laws = (request-laws, two-laws, behind-first, behind-start, behind-end, rest-starts, rest-ends)

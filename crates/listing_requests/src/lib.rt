@@ -6,10 +6,10 @@ use libtap::TapAnswer;
 use libtap::listings::tap_judge_listing;
 use request::Both;
 use request::Bytes;
-use request::Leading;
+use request::Two;
 use request::read_both;
 use request::read_bytes;
-use request::read_leading;
+use request::read_two;
 use text::find;
 use writer::Buffer;
 use writer::put;
@@ -84,12 +84,8 @@ fn judge_words(
 
 // `listing REGION SPEED TEXT MPDU LISTING`
 pub fn listing(words: &[u8], bytes: &mut [u8], out: &mut Buffer, used: usize) -> Answer {
-    let Leading::Is(region, at) = read_leading(words) else {
+    let Two::Are(region, speed, at) = read_two(words) else {
         return Answer::Bad;
     };
-    let others = &words[at..];
-    let Leading::Is(speed, from) = read_leading(others) else {
-        return Answer::Bad;
-    };
-    judge_words(&others[from..], region, speed, bytes, out, used)
+    judge_words(&words[at..], region, speed, bytes, out, used)
 }

@@ -6,7 +6,7 @@ use native.Mathlib.Omega.{arith}
 use lib.ListN.{length}
 use mir.Syntax.{w64}
 use mir.Val.{Fits}
-use Rattle.request.proofs.Laws.{taken, taken-before}
+use Rattle.request.proofs.Laws.{two-laws, request-laws}
 use Rattle.request.proofs.RowLaws.{row-laws}
 use Rattle.libtap.specs.declared.TapAnswer.{TapAnswer}
 use Rattle.libtap.specs.Answers.{Stands}
@@ -16,4 +16,4 @@ pub nodes-fits : (t : List ℕ) (r : TapAnswer) → Stands t r → r .refusal �
 nodes-fits t r stands z room = omega (arith, stands z)
 
 -- The laws that the proofs of this crate's functions go by.
-pub ruleset laws = (row-laws, taken, taken-before, nodes-fits, node-standing)
+pub ruleset laws = (request-laws, two-laws, row-laws, nodes-fits, node-standing)

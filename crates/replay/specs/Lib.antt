@@ -1,4 +1,2 @@
 pub mod Input
-pub mod Frames
 pub mod Serve
-pub mod Screen

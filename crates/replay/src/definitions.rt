@@ -3,6 +3,7 @@ use answer::Answer;
 use answer::put_refusal;
 use answer::table::BYTE;
 use answer::table::MOST_BYTES;
+use answer::table::put_written;
 use libtap::TapAnswer;
 use libtap::texts::tap_check_command_text;
 use libtap::texts::tap_check_frame_text;
@@ -11,7 +12,6 @@ use request::Bytes;
 use request::Leading;
 use request::read_bytes;
 use request::read_leading;
-use value_requests::put_written;
 use writer::Buffer;
 use writer::put;
 
@@ -43,7 +43,7 @@ pub fn commandtext(words: &[u8], bytes: &mut [u8], out: &mut Buffer, used: usize
 // The tidied text, or a refusal, after which nothing may have been written to the buffer.
 fn answer_tidy(text: &[u8], buffer: &mut [u8], out: &mut Buffer, used: usize) -> usize {
     let tidied = tap_tidy_command_text(text, buffer);
-    put_written(out, used, b"tidy ", tidied, buffer)
+    put_written(out, used, b"tidy ", tidied.refusal, tidied.value, buffer)
 }
 
 // `tidy CAP TEXT`

@@ -1,12 +1,9 @@
 // Answers the requests of standard input, one a line, each with a line on standard output: the door by which vectors,
 // differential runs and outside checks reach the proved calls.
 mod definitions;
-mod frame_table;
-mod frames;
 mod input;
 mod mpdu;
 mod serve;
-mod single;
 
 // All the memory of the program: a line of at most 524,288 bytes with its end, the bytes that it says, a table of 16,384 rows of
 // ten numbers, and the answers that wait to be written.

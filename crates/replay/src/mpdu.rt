@@ -6,8 +6,10 @@ use libtap::headers::tap_check_crc;
 use libtap::headers::tap_read_bits;
 use request::Bytes;
 use request::Leading;
+use request::Two;
 use request::read_bytes;
 use request::read_leading;
+use request::read_two;
 use writer::Buffer;
 use writer::put;
 
@@ -20,14 +22,10 @@ fn put_bits(out: &mut Buffer, used: usize, answer: TapBits) -> usize {
 
 // `bits PLACE WIDTH BYTES`
 pub fn bits(words: &[u8], bytes: &mut [u8], out: &mut Buffer, used: usize) -> Answer {
-    let Leading::Is(place, at) = read_leading(words) else {
+    let Two::Are(place, width, at) = read_two(words) else {
         return Answer::Bad;
     };
-    let others = &words[at..];
-    let Leading::Is(width, from) = read_leading(others) else {
-        return Answer::Bad;
-    };
-    let Bytes::Are(n) = read_bytes(&others[from..], bytes) else {
+    let Bytes::Are(n) = read_bytes(&words[at..], bytes) else {
         return Answer::Bad;
     };
     let answer = tap_read_bits(&bytes[..n], place, width);

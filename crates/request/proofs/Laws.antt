@@ -14,6 +14,7 @@ use borrow.Author.Tests.{le-leb, lt-leb, lt-ltb, le-ltb, ltb-true, leb-false}
 use Rattle.laws.proofs.Lists.{next, done, tail}
 use Rattle.text.specs.Text.{missing}
 use Rattle.text.specs.Scan.{cut}
+use Rattle.text.proofs.Laws.{front-count}
 use Rattle.numerals.specs.Numbers.{valueOf}
 use Rattle.numerals.specs.declared.numbers.Value.{Value}
 use Rattle.numerals.specs.declared.numbers.Value.the-variants.{Is, Not}
@@ -185,10 +186,6 @@ decoded-inside d held (Are m) n told e = let z : m ≡ n = cc in rw (← z) (tol
 decoded-inside d held NoBytes n told e = absurd (let z : _≡_ {A = ℕ} 0 1 = cc in omega arith)
 
 -- ---- two words of bytes
--- the first n of a list are n
-pub taken : (s : List ℕ) (n : ℕ) → n ≤ length s → n ≡ length (take n s)
-taken s n h = sym (length-take-le n s h)
-
 -- there is no second word
 pub both-alone : (w held : List ℕ) (e : ℕ) → e ≡ cut 0x20 w → e ≡ length w → DecodesBoth (firstOf w) (secondOf w) held NotBoth
 both-alone w held e at-e l =
@@ -271,7 +268,7 @@ module _ (a b : Decoded) (held : List ℕ) (r : Both) (n e : ℕ) (told : Decode
 
 -- ---- two words of bytes, of which the first n to e are lent too
 pub taken-before : (s : List ℕ) (n e : ℕ) → n ≤ e → e ≤ length s → n ≡ length (take n s)
-taken-before s n e l h = taken s n (omega arith)
+taken-before s n e l h = front-count s n (omega arith)
 
 -- ---- two numbers that others follow
 module _ (s : List ℕ) (r : Leading) (first : r ≡ leadingOf s) where
@@ -334,7 +331,7 @@ pub ruleset request-laws = (
   bytes-none,
   bytes-pairs,
   decoded-inside,
-  taken,
+  front-count,
   both-alone,
   both-first,
   both-second,

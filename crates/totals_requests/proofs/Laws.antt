@@ -10,7 +10,7 @@ use lib.Dec.{ltb}
 use lib.ListN.{length, take, drop, length-drop}
 use borrow.Author.Tests.{ltb-true, ltb-false}
 use Rattle.laws.proofs.Lists.{tail}
-use Rattle.request.proofs.Laws.{taken, two-laws, request-laws}
+use Rattle.request.proofs.Laws.{two-laws, request-laws}
 use Rattle.libtap.proofs.Standing.{totals-standing}
 
 -- from word to word: a word of e bytes stands at a place, and a space behind it
@@ -41,4 +41,4 @@ module _ (words : List ℕ) (at e : ℕ) (inside : at ≤ length words) (few : e
     pub space-fits : length words * 1 < 2 ^ 63 → Fits w64 (at + e + 1)
     space-fits short = omega (arith, before)
 
-pub ruleset laws = (request-laws, taken, two-laws, totals-standing, word-behind, word-nearer, word-fits, space-fits)
+pub ruleset laws = (request-laws, two-laws, totals-standing, word-behind, word-nearer, word-fits, space-fits)

@@ -1,6 +1,7 @@
 // The request on the totals of a capture.
 use answer::Answer;
 use answer::table::BYTE;
+use answer::table::put_written;
 use libtap::TapAnswer;
 use libtap::captures::tap_add_payload;
 use libtap::captures::tap_print_totals;
@@ -10,7 +11,6 @@ use request::read_bytes;
 use request::read_two;
 use text::find;
 use totals::TOTALS;
-use value_requests::put_written;
 use writer::Buffer;
 use writer::put;
 use writer::put_byte;
@@ -91,7 +91,7 @@ fn add_all(
 fn put_totals(out: &mut Buffer, used: usize, totals: &[u64; TOTALS]) -> usize {
     let mut buffer = [BYTE; ROOM];
     let written = tap_print_totals(totals, &mut buffer);
-    put_written(out, used, b" ", written, &buffer)
+    put_written(out, used, b" ", written.refusal, written.value, &buffer)
 }
 
 // The payloads of the words, added to totals that all start at a number.

@@ -1,11 +1,8 @@
 // The requests on values as people read them.
 use answer::Answer;
-use answer::put_bytes;
-use answer::put_refusal;
 use answer::table::BYTE;
 use answer::table::MOST_BYTES;
-use answer::table::put_touched_bytes;
-use libtap::TapAnswer;
+use answer::table::put_written;
 use libtap::values::tap_command_value;
 use libtap::values::tap_header_value;
 use request::row::CommandAsked;
@@ -15,36 +12,8 @@ use request::row::HeaderRow;
 use request::row::read_command_row;
 use request::row::read_header_row;
 use writer::Buffer;
-use writer::put;
 ghost use Prim.Native.Nat.{_≤_};
 ghost use lib.ListN.{length};
-ghost use Rattle.libtap.specs.Answers.{Stands};
-
-// A word and a text, the first n bytes of a buffer, and whether the buffer is untouched past it.
-fn put_text(out: &mut Buffer, used: usize, word: &[u8], buffer: &[u8], n: usize) -> usize
-    requires { ⌜ n ≤ length (now buffer) ⌝ }
-{
-    let m = put(out, used, word);
-    let e = put_bytes(out, m, &buffer[..n]);
-    put_touched_bytes(out, e, &buffer[n..])
-}
-
-// What a call answers, and the buffer that it was lent.
-pub fn put_written(
-    out: &mut Buffer,
-    used: usize,
-    word: &[u8],
-    written: TapAnswer,
-    buffer: &[u8],
-) -> usize
-    requires { ⌜ Stands (now buffer) written ⌝ }
-{
-    if written.refusal != 0 {
-        let m = put_refusal(out, used, written.refusal, written.value);
-        return put_touched_bytes(out, m, buffer);
-    }
-    put_text(out, used, word, buffer, written.value as usize)
-}
 
 // The first bytes are the text, those behind them up to the end the MPDU.
 fn show_header(
@@ -66,7 +35,14 @@ fn show_header(
         asked.row,
         buffer,
     );
-    put_written(out, used, b"headervalue ", written, buffer)
+    put_written(
+        out,
+        used,
+        b"headervalue ",
+        written.refusal,
+        written.value,
+        buffer,
+    )
 }
 
 // `headervalue CAP ROW REGION SPEED TEXT MPDU`
@@ -98,7 +74,14 @@ fn show_command(
         asked.row,
         buffer,
     );
-    put_written(out, used, b"commandvalue ", written, buffer)
+    put_written(
+        out,
+        used,
+        b"commandvalue ",
+        written.refusal,
+        written.value,
+        buffer,
+    )
 }
 
 // `commandvalue MODE CAP ROW TEXT PAYLOAD`

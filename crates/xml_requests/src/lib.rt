@@ -2,25 +2,25 @@
 use answer::Answer;
 use answer::table::BYTE;
 use answer::table::MOST_BYTES;
+use answer::table::put_written;
 use libtap::xml_texts::tap_frame_text_to_xml;
 use libtap::xml_texts::tap_xml_to_frame_text;
 use request::Bytes;
 use request::Leading;
 use request::read_bytes;
 use request::read_leading;
-use value_requests::put_written;
 use writer::Buffer;
 
 // The XML of a text, or a refusal, after which nothing may have been written to the buffer.
 fn answer_xml(text: &[u8], buffer: &mut [u8], out: &mut Buffer, used: usize) -> usize {
     let written = tap_frame_text_to_xml(text, buffer);
-    put_written(out, used, b"xml ", written, buffer)
+    put_written(out, used, b"xml ", written.refusal, written.value, buffer)
 }
 
 // The text that an XML says, or a refusal, the same.
 fn answer_unxml(xml: &[u8], buffer: &mut [u8], out: &mut Buffer, used: usize) -> usize {
     let written = tap_xml_to_frame_text(xml, buffer);
-    put_written(out, used, b"unxml ", written, buffer)
+    put_written(out, used, b"unxml ", written.refusal, written.value, buffer)
 }
 
 // One of the two.
