@@ -8,13 +8,7 @@ use crate::input::Input;
 use crate::mpdu::bits;
 use crate::mpdu::checksum;
 use answer::Answer;
-use frame_requests::frames::FRAMES;
-use frame_requests::frames::FRAMETABLE;
-use frame_requests::frames::frames;
-use frame_requests::single::body;
-use frame_requests::single::count;
-use frame_requests::single::rate;
-use frame_requests::single::record;
+use frame_requests::frame_request;
 use listing_requests::listing;
 use node_requests::commandnodes;
 use node_requests::headernodes;
@@ -46,6 +40,32 @@ enum Turn {
     End,
 }
 
+// Answers a request that starts with a word and needs no table.
+fn answer_word(
+    word: Word,
+    words: &[u8],
+    bytes: &mut [u8],
+    out: &mut Buffer,
+    used: usize,
+) -> Answer {
+    match word {
+        Word::Frametext => frametext(words, bytes, out, used),
+        Word::Commandtext => commandtext(words, bytes, out, used),
+        Word::Tidy => tidy(words, bytes, out, used),
+        Word::Bits => bits(words, bytes, out, used),
+        Word::Checksum => checksum(words, bytes, out, used),
+        Word::Headernodes => headernodes(words, bytes, out, used),
+        Word::Commandnodes => commandnodes(words, bytes, out, used),
+        Word::Headervalue => headervalue(words, bytes, out, used),
+        Word::Commandvalue => commandvalue(words, bytes, out, used),
+        Word::Listing => listing(words, bytes, out, used),
+        Word::Totals => totals(words, bytes, out, used),
+        Word::Xml => turned(words, false, bytes, out, used),
+        Word::Unxml => turned(words, true, bytes, out, used),
+        _ => frame_request(word, words, bytes, out, used),
+    }
+}
+
 // Answers a request. Every one has two words or more.
 fn answer(line: &[u8], bytes: &mut [u8], rows: &mut [u64], out: &mut Buffer, used: usize) -> Answer
     requires { ⌜ Ample (now rows) ⌝ }
@@ -55,33 +75,12 @@ fn answer(line: &[u8], bytes: &mut [u8], rows: &mut [u64], out: &mut Buffer, use
         return Answer::Bad;
     }
     let words = &line[e + 1..];
-    match word_of(&line[..e]) {
-        Word::Rate => rate(words, out, used),
-        Word::Count => count(words, bytes, out, used),
-        Word::Body => body(words, bytes, out, used),
-        Word::Record => record(words, false, bytes, out, used),
-        Word::Frames => frames(words, FRAMES, false, bytes, out, used),
-        Word::Frametable => frames(words, FRAMETABLE, false, bytes, out, used),
-        Word::Recordby => record(words, true, bytes, out, used),
-        Word::Framesby => frames(words, FRAMES, true, bytes, out, used),
-        Word::Frametableby => frames(words, FRAMETABLE, true, bytes, out, used),
-        Word::Frametext => frametext(words, bytes, out, used),
-        Word::Commandtext => commandtext(words, bytes, out, used),
+    let word = word_of(&line[..e]);
+    match word {
         Word::Header => header(words, bytes, rows, out, used),
         Word::Command => command(words, bytes, rows, out, used),
         Word::Commandby => commandby(words, bytes, rows, out, used),
-        Word::Bits => bits(words, bytes, out, used),
-        Word::Checksum => checksum(words, bytes, out, used),
-        Word::Tidy => tidy(words, bytes, out, used),
-        Word::Headernodes => headernodes(words, bytes, out, used),
-        Word::Commandnodes => commandnodes(words, bytes, out, used),
-        Word::Listing => listing(words, bytes, out, used),
-        Word::Headervalue => headervalue(words, bytes, out, used),
-        Word::Commandvalue => commandvalue(words, bytes, out, used),
-        Word::Totals => totals(words, bytes, out, used),
-        Word::Xml => turned(words, false, bytes, out, used),
-        Word::Unxml => turned(words, true, bytes, out, used),
-        Word::Unknown => Answer::Bad,
+        _ => answer_word(word, words, bytes, out, used),
     }
 }
 
