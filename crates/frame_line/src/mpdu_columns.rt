@@ -20,8 +20,6 @@ use output::paint::put_painted;
 use output::refusals::put_short;
 use readers::cells::cell;
 use readers::cells::part;
-use readers::line_fields::field_of;
-use readers::lines::find_line;
 use readers::region::frame_code;
 use refusal::Refusal;
 use writer::Buffer;

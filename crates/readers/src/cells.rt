@@ -1,8 +1,12 @@
 // What rows of a table say, whatever the table: a number that is not there is 0, and bytes that are not there are none.
+ghost use mathlib.Core.Path.{_≡_};
 ghost use Prim.Native.Nat.{_≤_};
+ghost use Rattle.readers.specs.Cells.{cellOf, partFrom};
 
 // Number k of row i, of rows so wide.
-pub fn cell(rows: &[u64], width: usize, i: usize, k: usize) -> u64 {
+pub fn cell(rows: &[u64], width: usize, i: usize, k: usize) -> u64
+    ensures { λ r. ⌜ r ≡ cellOf (now (rows .entry)) width i k ⌝ }
+{
     if width <= k {
         return 0;
     }
@@ -42,7 +46,9 @@ pub fn depth_of(rows: &[u64], width: usize, i: usize, k: usize) -> usize
 }
 
 // So many bytes from a place on, if all of them are there.
-pub fn part(bytes: &[u8], start: usize, count: usize) -> &[u8] {
+pub fn part(bytes: &[u8], start: usize, count: usize) -> &[u8]
+    ensures { λ r. ⌜ now r ≡ partFrom (now (bytes .entry)) start count ⌝ }
+{
     if bytes.len() < start {
         return &bytes[..0];
     }

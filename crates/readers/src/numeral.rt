@@ -1,4 +1,8 @@
-// A number that a person types.
+// A number that a person types, and one of a field.
+use text::Number;
+use text::read_number;
+ghost use mathlib.Core.Path.{_≡_};
+ghost use Rattle.readers.specs.Numeral.{numeralOf, says};
 
 pub enum Numeral {
     Is(u64),
@@ -10,7 +14,9 @@ pub enum Numeral {
 const MOST: u64 = 1000000000000000000;
 
 // The decimal number that bytes say.
-pub fn read_numeral(bytes: &[u8]) -> Numeral {
+pub fn read_numeral(bytes: &[u8]) -> Numeral
+    ensures { λ r. ⌜ r ≡ numeralOf (now (bytes .entry)) ⌝ }
+{
     if bytes.len() == 0 {
         return Numeral::Not;
     }
@@ -31,4 +37,15 @@ pub fn read_numeral(bytes: &[u8]) -> Numeral {
         i += 1;
     }
     Numeral::Is(value)
+}
+
+// Does a field say this number, of at most 255?
+pub fn is_number(s: &[u8], n: usize) -> bool
+    ensures { λ r. ⌜ r ≡ says n (now (s .entry)) ⌝ }
+{
+    match read_number(s, 255) {
+        Number::Is(m) => m as usize == n,
+        Number::Over => false,
+        Number::Not => false,
+    }
 }

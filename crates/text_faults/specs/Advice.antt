@@ -1,4 +1,4 @@
--- What is told of a line whose form is refused. `proofs/Frame` and `proofs/Command` prove that something is told exactly of those.
+-- What is told of a line whose form is refused. `proofs/advice/Frame` and `proofs/advice/Command` prove that something is told exactly of those.
 use Prim.Native.Nat.{ℕ, suc, _+_}
 use mathlib.Core.Bool.{Bool, true, false, cond}
 use mathlib.Core.List.{List, [], _∷_}

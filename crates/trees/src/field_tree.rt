@@ -18,7 +18,6 @@ use readers::cells::cell;
 use readers::cells::depth_of;
 use readers::line_fields::field_of;
 use readers::lines::find_line;
-use readers::lines::symbol;
 use std::num::wrapping_add_u64;
 use std::num::wrapping_sub_u64;
 use writer::Buffer;

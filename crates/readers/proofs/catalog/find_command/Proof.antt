@@ -1,13 +1,14 @@
--- `readers::catalog::find_command` meets its contract. Assumes nothing.
+-- `readers::catalog::find_command` meets its contract, by the laws of the crate. Assumes nothing.
 use borrow.Author.Needs.{needs}
-use lib.ListN.{length}
-use Prim.Native.Nat.{_-_, _≤_}
 use Rattle.text.proofs.Laws.{front-count}
+use Prim.Native.Nat.{_-_}
+use lib.ListN.{length}
+use Rattle.readers.proofs.catalog.Laws.{Looks, laws}
 use Rattle.readers.proofs.catalog.find_command.Statement.{statement}
 use Rattle.readers.proofs.catalog.find_command.Tie as tie
 
 abbrev Inv-loop : tie.InvT-loop
-Inv-loop index class command at₀ at = at ≤ length index
+Inv-loop index class command at₀ at = Looks index class command at
 
 abbrev μ-loop : tie.MeasureT-loop
 μ-loop index class command at₀ at = length index - at
@@ -18,13 +19,13 @@ find-command-spec =
     (tie.spec
     Inv-loop
     μ-loop
-    (λ c. search needs)
-    (λ c κs. search needs)
-    (λ c κs. search needs)
-    (λ c κs. search needs)
-    (λ c. search needs)
-    (λ c κs. search needs)
-    (λ c. search needs)
-    (λ c. search needs)
-    (λ c. search (needs, front-count))
-    (λ c. search needs))
+    (λ c. search (needs, laws, front-count))
+    (λ c κs. search (needs, laws, front-count))
+    (λ c κs. search (needs, laws, front-count))
+    (λ c κs. search (needs, laws, front-count))
+    (λ c. search (needs, laws, front-count))
+    (λ c κs. search (needs, laws, front-count))
+    (λ c. search (needs, laws, front-count))
+    (λ c. search (needs, laws, front-count))
+    (λ c. search (needs, laws, front-count))
+    (λ c. search (needs, laws, front-count)))

@@ -1,4 +1,4 @@
--- `readers::cells::cell` meets its contract, by the laws of a row's place. Assumes nothing.
+-- `readers::cells::cell` meets its contract, by the laws of the crate. Assumes nothing.
 use borrow.Author.Needs.{needs}
 use Rattle.readers.proofs.cells.Laws.{laws}
 use Rattle.readers.proofs.cells.cell.Statement.{statement}
@@ -8,11 +8,11 @@ pub cell-spec : {M : Type 1} → statement M
 cell-spec =
     tie.close
     (tie.spec
-    (λ c. search needs)
-    (λ c. search needs)
-    (λ c. search needs)
     (λ c. search (needs, laws))
     (λ c. search (needs, laws))
     (λ c. search (needs, laws))
     (λ c. search (needs, laws))
-    (λ c. search needs))
+    (λ c. search (needs, laws))
+    (λ c. search (needs, laws))
+    (λ c. search (needs, laws))
+    (λ c. search (needs, laws)))

@@ -1,6 +1,7 @@
--- `readers::lines::line` meets its contract. Assumes nothing.
+-- `readers::lines::line` meets its contract, by the laws of the crate. Assumes nothing.
 use borrow.Author.Needs.{needs}
 use Rattle.text.proofs.Laws.{front-count}
+use Rattle.readers.proofs.lines.Laws.{line-laws}
 use Rattle.readers.proofs.lines.line.Statement.{statement}
 use Rattle.readers.proofs.lines.line.Tie as tie
 
@@ -8,11 +9,11 @@ pub line-spec : {M : Type 1} → statement M
 line-spec =
     tie.close
     (tie.spec
-    (λ c. search (needs, front-count))
-    (λ c. search needs)
-    (λ c. search needs)
-    (λ c. search needs)
-    (λ c. search needs)
-    (λ c κs. search needs)
-    (λ c. search (needs, front-count))
-    (λ c. search needs))
+    (λ c. search (needs, line-laws, front-count))
+    (λ c. search (needs, line-laws, front-count))
+    (λ c. search (needs, line-laws, front-count))
+    (λ c. search (needs, line-laws, front-count))
+    (λ c. search (needs, line-laws, front-count))
+    (λ c κs. search (needs, line-laws, front-count))
+    (λ c. search (needs, line-laws, front-count))
+    (λ c. search (needs, line-laws, front-count)))
