@@ -2,6 +2,7 @@
 pub mod append;
 pub mod capture;
 pub mod capture_line;
+pub mod day;
 pub mod folder;
 pub mod frame_names;
 pub mod input;

@@ -8,6 +8,11 @@ use files::input::File;
 use files::input::Got;
 use files::options::Asked;
 use files::options::Options;
+use frame_search::Aim;
+use frame_search::Search;
+use frame_search::fail_number;
+use frame_search::read_number;
+use frame_search::search_capture;
 use libc::STDERR_FILENO;
 use output::outcome::fail;
 use output::outcome::fail_capture;
@@ -15,11 +20,6 @@ use output::outcome::fail_file;
 use readers::numeral::Numeral;
 use readers::region::frame_code;
 use screen::FrameRecord;
-use show_word::frame_search::Aim;
-use show_word::frame_search::Search;
-use show_word::show_file::fail_number;
-use show_word::show_file::read_number;
-use show_word::show_file::search;
 use std::num::wrapping_sub_u64;
 use writer::print_number;
 
@@ -92,7 +92,7 @@ fn answer_file(name: &[u8], fd: i32, task: Task, options: Options) {
         left: before,
         payloads: 0,
     };
-    match search(fd, aim, &mut mpdu) {
+    match search_capture(fd, aim, &mut mpdu) {
         Search::Found(hit) => {
             let n = hit.count;
             let heard = hit.frame;

@@ -1,11 +1,11 @@
 // A frame whole: how it was heard, its bytes, and its header as a tree and, where it is asked for, as a picture.
-use crate::frame_search::Hit;
 use files::options::Options;
 use frame_line::beam_columns::number_of;
 use frame_line::beam_columns::put_hash_digits;
 use frame_line::frame_row::put_rate;
 use frame_line::frame_row::put_rssi;
 use frame_line::mpdu_columns::put_why;
+use frame_search::Hit;
 use header::DecodedHeader;
 use output::paint::Hue;
 use output::paint::put_painted;

@@ -6,69 +6,37 @@ use crate::command_page::put_unknown;
 use crate::frame_page::put_header;
 use crate::frame_page::put_heard;
 use crate::frame_page::put_refused;
-use crate::frame_search::Aim;
-use crate::frame_search::Hit;
-use crate::frame_search::Search;
-use crate::frame_search::Table;
-use crate::frame_search::find_frame;
 use command::Params;
 use command::decode_params;
 use command::offsets_by;
 use command_part::command_part;
-use files::capture::Opened;
 use files::folder::Loaded;
 use files::folder::load;
 use files::folder::load_command;
 use files::input::File;
 use files::options::Asked;
 use files::options::Options;
+use frame_search::Aim;
+use frame_search::Hit;
+use frame_search::Search;
+use frame_search::fail_number;
+use frame_search::read_number;
+use frame_search::search_capture;
 use header::Decoded;
 use header::MOST_NUMBERS;
 use header::decode_header;
-use libc::STDERR_FILENO;
 use output::outcome::fail;
 use output::outcome::fail_capture;
 use output::outcome::fail_file;
-use pti::payload::ROW_WIDTH;
 use readers::numeral::Numeral;
-use readers::numeral::read_numeral;
 use readers::region::frame_code;
 use screen::FrameRecord;
 use std::num::wrapping_sub_u64;
 use writer::Buffer;
 use writer::flush;
-ghost use Rattle.show_word.specs.Search.{Holds};
 
 // The numbers of a command's rows, of which there are 1,024.
 const PARAMS: usize = 1024 * command_rows::ROW_WIDTH;
-
-// The frame that is sought in the capture behind a descriptor.
-pub fn search(fd: i32, aim: Aim, mpdu: &mut [u8; 4096]) -> Search
-    ensures { λ r. ⌜ Holds (now (mpdu .exit)) r ⌝ }
-{
-    let mut block = io::buffer();
-    let Opened::At(source) = files::capture::open(fd, &mut block) else {
-        return Search::Unreadable;
-    };
-    let mut payload = io::large_buffer();
-    let mut table: Table = [0u16; 3000 * ROW_WIDTH];
-    find_frame(source, aim, &mut block, &mut payload, &mut table, mpdu)
-}
-
-// A capture with fewer frames.
-pub fn fail_number(name: &[u8], number: u64, frames: u64) {
-    io::write_all(STDERR_FILENO, b"tap: there is no frame ");
-    io::print_decimal(STDERR_FILENO, number);
-    io::write_all(STDERR_FILENO, b" in ");
-    io::write_all(STDERR_FILENO, name);
-    if frames == 0 {
-        fail(b", nor any other\n");
-        return;
-    }
-    io::write_all(STDERR_FILENO, b": frames go from 1 to ");
-    io::print_decimal(STDERR_FILENO, frames);
-    fail(b"\n");
-}
 
 // The parameters of a command by its text.
 fn show_params(text: &[u8], payload: &[u8], by_position: bool, out: &mut Buffer, at: usize) {
@@ -189,7 +157,7 @@ fn show_file(name: &[u8], fd: i32, number: u64, options: Options) {
         left: before,
         payloads: 0,
     };
-    match search(fd, aim, &mut mpdu) {
+    match search_capture(fd, aim, &mut mpdu) {
         Search::Found(hit) => {
             let n = hit.count;
             show_hit(number, hit, &mpdu[..n], options);
@@ -198,13 +166,6 @@ fn show_file(name: &[u8], fd: i32, number: u64, options: Options) {
         Search::NoCapture(line, column) => fail_capture(name, line, column),
         Search::Unreadable => fail_file(name),
     }
-}
-
-// The number that argument k says, from 1.
-pub fn read_number(k: usize) -> Numeral {
-    let mut bytes = io::buffer();
-    let n = os::arg(k, &mut bytes);
-    read_numeral(&bytes[..n])
 }
 
 fn open_and_show(number: u64, options: Options) {

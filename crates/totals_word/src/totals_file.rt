@@ -1,10 +1,10 @@
 // The word `totals`: the totals of the captures that are named.
-use crate::day::Day;
-use crate::day::Verdict;
 use crate::day::add_capture;
 use crate::words_page::put_page;
 use buffer::Written;
 use files::capture::Opened;
+use files::day::Day;
+use files::day::end;
 use files::frame_names::State;
 use files::frame_names::load_frames;
 use files::options::Asked;
@@ -14,7 +14,6 @@ use libc::STDERR_FILENO;
 use libc::STDOUT_FILENO;
 use output::outcome::fail;
 use output::outcome::refuse;
-use output::outcome::succeed;
 use totals::TOTALS;
 use totals_text::print_totals;
 ghost use mathlib.Core.Path.{_≡_};
@@ -51,16 +50,6 @@ fn show_page(text: &[u8], options: Options, totals: &[u64; TOTALS]) {
         return;
     }
     print_page(totals);
-}
-
-// The last line.
-pub fn end(day: Day) {
-    let verdict = day.verdict;
-    match verdict {
-        Verdict::Fine => succeed(),
-        Verdict::Refused(refusal) => refuse(refusal),
-        Verdict::Failed => fail(b""),
-    }
 }
 
 // The capture behind a descriptor.

@@ -1,8 +1,8 @@
--- `show_word::frame_search::find_frame` meets its contract. Assumes nothing.
+-- `frame_search::find_frame` meets its contract. Assumes nothing.
 use borrow.Author.Needs.{needs}
 use Rattle.files.specs.Capture.{Inside}
-use Rattle.show_word.proofs.frame_search.find_frame.Statement.{statement}
-use Rattle.show_word.proofs.frame_search.find_frame.Tie as tie
+use Rattle.frame_search.proofs.find_frame.Statement.{statement}
+use Rattle.frame_search.proofs.find_frame.Tie as tie
 
 abbrev Inv-loop : tie.InvT-loop
 Inv-loop block₀ payload₀ table₀ mpdu₀ source₀ aim₀ block payload table mpdu source aim = Inside block source

@@ -1,8 +1,8 @@
--- `show_word::frame_search::search_item` meets its contract, by the laws of the crate. Assumes nothing.
+-- `frame_search::search_item` meets its contract, by the laws of the crate. Assumes nothing.
 use Rattle.files.proofs.append.Laws.{front-count}
 use borrow.Author.Needs.{needs}
-use Rattle.show_word.proofs.frame_search.search_item.Statement.{statement}
-use Rattle.show_word.proofs.frame_search.search_item.Tie as tie
+use Rattle.frame_search.proofs.search_item.Statement.{statement}
+use Rattle.frame_search.proofs.search_item.Tie as tie
 
 pub search-item-spec : {M : Type 1} → statement M
 search-item-spec =

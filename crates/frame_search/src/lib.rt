@@ -1,23 +1,28 @@
 // One frame of a capture, by its number as `tap frames` counts.
 use files::append::append;
 use files::capture::Item;
+use files::capture::Opened;
 use files::capture::Source;
 use files::capture::next_item;
+use libc::STDERR_FILENO;
+use output::outcome::fail;
 use pti::parse_payload;
 use pti::payload::Frames;
 use pti::payload::ROW_WIDTH;
 use pti::reading_by;
 use readers::cells::part;
+use readers::numeral::Numeral;
+use readers::numeral::read_numeral;
 use screen::FrameRecord;
 use screen::record_at;
 use std::num::wrapping_add_u64;
 ghost use Prim.Native.Nat.{_≤_};
 ghost use lib.ListN.{length};
 ghost use Rattle.files.specs.Capture.{Inside};
-ghost use Rattle.show_word.specs.Search.{Holds};
+ghost use Rattle.frame_search.specs.Search.{Holds};
 
 // The table of a payload's frames: 3,000 rows, more than a payload has frames.
-pub type Table = [u16; 3000 * ROW_WIDTH];
+type Table = [u16; 3000 * ROW_WIDTH];
 
 // A frame that was found, how many bytes of its MPDU stand in a lent slice, and in which of the capture's payloads it stands, from 1.
 pub struct Hit {
@@ -105,7 +110,7 @@ fn search_item(
 }
 
 // The same of all that a source gives.
-pub fn find_frame(
+fn find_frame(
     start: Source,
     sought: Aim,
     block: &mut [u8; 4096],
@@ -129,4 +134,39 @@ pub fn find_frame(
         aim = more;
     }
     Search::Left(aim)
+}
+
+// The frame that is sought in the capture behind a descriptor.
+pub fn search_capture(fd: i32, aim: Aim, mpdu: &mut [u8; 4096]) -> Search
+    ensures { λ r. ⌜ Holds (now (mpdu .exit)) r ⌝ }
+{
+    let mut block = io::buffer();
+    let Opened::At(source) = files::capture::open(fd, &mut block) else {
+        return Search::Unreadable;
+    };
+    let mut payload = io::large_buffer();
+    let mut table: Table = [0u16; 3000 * ROW_WIDTH];
+    find_frame(source, aim, &mut block, &mut payload, &mut table, mpdu)
+}
+
+// A capture with fewer frames.
+pub fn fail_number(name: &[u8], number: u64, frames: u64) {
+    io::write_all(STDERR_FILENO, b"tap: there is no frame ");
+    io::print_decimal(STDERR_FILENO, number);
+    io::write_all(STDERR_FILENO, b" in ");
+    io::write_all(STDERR_FILENO, name);
+    if frames == 0 {
+        fail(b", nor any other\n");
+        return;
+    }
+    io::write_all(STDERR_FILENO, b": frames go from 1 to ");
+    io::print_decimal(STDERR_FILENO, frames);
+    fail(b"\n");
+}
+
+// The number that argument k says, from 1.
+pub fn read_number(k: usize) -> Numeral {
+    let mut bytes = io::buffer();
+    let n = os::arg(k, &mut bytes);
+    read_numeral(&bytes[..n])
 }

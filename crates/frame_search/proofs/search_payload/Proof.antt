@@ -1,8 +1,8 @@
--- `show_word::frame_search::search_payload` meets its contract, by the laws of the crate. Assumes nothing.
-use Rattle.show_word.proofs.frame_search.Laws.{row-there}
+-- `frame_search::search_payload` meets its contract, by the laws of the crate. Assumes nothing.
+use Rattle.frame_search.proofs.Laws.{row-there}
 use borrow.Author.Needs.{needs}
-use Rattle.show_word.proofs.frame_search.search_payload.Statement.{statement}
-use Rattle.show_word.proofs.frame_search.search_payload.Tie as tie
+use Rattle.frame_search.proofs.search_payload.Statement.{statement}
+use Rattle.frame_search.proofs.search_payload.Tie as tie
 
 pub search-payload-spec : {M : Type 1} → statement M
 search-payload-spec =

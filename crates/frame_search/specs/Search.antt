@@ -2,8 +2,8 @@
 use Prim.Native.Nat.{ℕ, _≤_}
 use mathlib.Core.List.{List}
 use lib.ListN.{length}
-use Rattle.show_word.specs.declared.frame_search.Search.{Search}
-use Rattle.show_word.specs.declared.frame_search.Search.the-variants.{Found, Left, NoCapture, Unreadable}
+use Rattle.frame_search.specs.declared.Search.{Search}
+use Rattle.frame_search.specs.declared.Search.the-variants.{Found, Left, NoCapture, Unreadable}
 
 abbrev pub Holds : List ℕ → Search → Type 0
 Holds mpdu (Found hit) = hit .count ≤ length mpdu
