@@ -20,8 +20,7 @@ use frame_text::check_frame_text;
 use libc::STDERR_FILENO;
 use output::outcome::fail;
 use output::outcome::fail_file;
-use output::outcome::refuse;
-use refusal::Refusal;
+use output::outcome::refuse_text;
 use text::Verdict;
 ghost use mathlib.Core.Path.{_≡_};
 ghost use Rattle.text.specs.declared.Verdict.the-variants.{Accepted};
@@ -127,20 +126,10 @@ fn cover(text: &[u8], options: Options)
     end(day);
 }
 
-fn say_refused(name: &[u8], refusal: Refusal) {
-    io::write_all(STDERR_FILENO, b"tap: ");
-    io::write_all(STDERR_FILENO, name);
-    io::write_all(
-        STDERR_FILENO,
-        b" is no frame text that is accepted: 'tap check --frame' says why\n",
-    );
-    refuse(refusal);
-}
-
 fn judge(name: &[u8], text: &[u8], options: Options) {
     match check_frame_text(text) {
         Verdict::Accepted => cover(text, options),
-        Verdict::Refused(refusal) => say_refused(name, refusal),
+        Verdict::Refused(refusal) => refuse_text(name, b"frame", refusal),
     }
 }
 

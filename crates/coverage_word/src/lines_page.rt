@@ -3,9 +3,11 @@ use coverage::COUNTS;
 use coverage::ENTRY;
 use coverage::PARAM;
 use coverage::REFUSED;
+use output::refusals::put_name;
 use readers::line_fields::field_of;
 use readers::lines::line;
 use readers::lines::next_line;
+use refusal::Refusal;
 use std::num::wrapping_add_u64;
 use std::num::wrapping_add_usize;
 use writer::Buffer;
@@ -158,19 +160,24 @@ fn put_line(out: &mut Buffer, at: usize, kind: u8, row: &[u8], n: u64) -> usize 
     }
 }
 
-// What a refusal means.
-fn put_words(out: &mut Buffer, at: usize, number: usize) -> usize {
+// The refusal of a number from 5 to 7.
+fn refusal_of(number: usize) -> Refusal {
     match number {
-        5 => put(out, at, b"refused by 5: under 2 bytes\n"),
-        6 => put(out, at, b"refused by 6: no base header\n"),
-        _ => put(out, at, b"refused by 7: no header holds\n"),
+        5 => Refusal::TooShort(0),
+        6 => Refusal::NoBase(0),
+        _ => Refusal::NoCandidate,
     }
 }
 
 // The line of a refusal.
 pub fn put_refusal(out: &mut Buffer, at: usize, number: usize, n: u64) -> usize {
-    let place = put_count(out, at, n);
-    put_words(out, place, number)
+    let refusal = refusal_of(number);
+    let mut place = put_count(out, at, n);
+    place = put(out, place, b"refused by ");
+    place = put_number(out, place, refusal.number() as u64);
+    place = put(out, place, b": ");
+    place = put_name(out, place, refusal);
+    put_byte(out, place, b'\n')
 }
 
 pub fn refusal_count(counts: &[u64; COUNTS], number: usize) -> u64 {

@@ -6,7 +6,7 @@ use libc::STDOUT_FILENO;
 use output::outcome::fail;
 use output::outcome::fail_capture;
 use output::outcome::fail_file;
-use output::refusals::put_reason;
+use output::refusals::put_payload_reason;
 use refusal::Refusal;
 use std::num::wrapping_add_u64;
 use writer::Buffer;
@@ -161,7 +161,7 @@ pub fn put_empty(out: &mut Buffer, sheet: Sheet) -> Sheet {
 
 pub fn put_refused(refusal: Refusal, out: &mut Buffer, sheet: Sheet) -> Sheet {
     let mut at = put_note(out, sheet, b" is refused by ");
-    at = put_reason(out, at, refusal);
+    at = put_payload_reason(out, at, refusal);
     at = put(out, at, b"\n");
     sheet.gathered(at).refused(refusal)
 }

@@ -8,7 +8,7 @@ use listing::Judgement;
 use listing::judge_listing;
 use output::outcome::refuse;
 use output::outcome::succeed;
-use output::refusals::put_reason;
+use output::refusals::put_mpdu_reason;
 use readers::cells::part;
 use readers::lines::numbered_line;
 use refusal::Refusal;
@@ -92,7 +92,7 @@ fn say_refused(number: u64, refusal: Refusal) {
     let mut out = io::buffer();
     let mut at = put_frame(&mut out, 0, number);
     at = put(&mut out, at, b"refused by ");
-    at = put_reason(&mut out, at, refusal);
+    at = put_mpdu_reason(&mut out, at, refusal);
     at = put(&mut out, at, b"\n");
     flush(&out, at);
     refuse(refusal);

@@ -1,5 +1,4 @@
 // The word `overlaps`: which headers of one base cannot be told apart, and whether the order of the H blocks matters.
-use crate::sort_file::say_refused;
 use files::input::File;
 use files::input::Got;
 use files::input::open_argument;
@@ -7,6 +6,7 @@ use frame_text::check_frame_text;
 use libc::STDOUT_FILENO;
 use output::outcome::fail;
 use output::outcome::fail_file;
+use output::outcome::refuse_text;
 use output::outcome::succeed;
 use overlaps::NextHeader;
 use overlaps::all_apart;
@@ -164,7 +164,7 @@ fn show_overlaps(text: &[u8])
 fn judge_text(name: &[u8], text: &[u8]) {
     match check_frame_text(text) {
         Verdict::Accepted => show_overlaps(text),
-        Verdict::Refused(refusal) => say_refused(name, refusal),
+        Verdict::Refused(refusal) => refuse_text(name, b"frame", refusal),
     }
 }
 

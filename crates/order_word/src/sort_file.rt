@@ -4,24 +4,12 @@ use buffer::Written;
 use files::input::File;
 use files::input::Got;
 use files::input::open_argument;
-use libc::STDERR_FILENO;
 use libc::STDOUT_FILENO;
 use output::outcome::fail;
 use output::outcome::fail_file;
-use output::outcome::refuse;
+use output::outcome::refuse_text;
 use output::outcome::succeed;
-use refusal::Refusal;
 use sorting::sort_headers;
-
-pub fn say_refused(name: &[u8], refusal: Refusal) {
-    io::write_all(STDERR_FILENO, b"tap: ");
-    io::write_all(STDERR_FILENO, name);
-    io::write_all(
-        STDERR_FILENO,
-        b" is no frame text that is accepted: 'tap check --frame' says why\n",
-    );
-    refuse(refusal);
-}
 
 fn write_text(text: &[u8], sorted: &[u8]) {
     if io::write_all(STDOUT_FILENO, sorted) {
@@ -35,7 +23,7 @@ fn write_text(text: &[u8], sorted: &[u8]) {
 fn sort_text(name: &[u8], text: &[u8], buffer: &mut [u8]) {
     match sort_headers(text, buffer) {
         Written::Length(n) => write_text(text, &buffer[..n]),
-        Written::Refused(refusal) => say_refused(name, refusal),
+        Written::Refused(refusal) => refuse_text(name, b"frame", refusal),
     }
 }
 

@@ -1,5 +1,6 @@
 // How a run of tap ends. The last line of its output is `ok`, `refused N V` (a refusal of docs/RULES.md: its number and what it
-// carries) or `failed`. Where it failed, one line on standard error says why.
+// carries) or `failed`; `overlaps` and `judge` have lines of their own besides, `overlaps N` and `differs L`. Where it failed, one line on standard
+// error says why.
 use libc::STDERR_FILENO;
 use libc::STDOUT_FILENO;
 use refusal::Refusal;
@@ -14,6 +15,18 @@ pub fn refuse(refusal: Refusal) {
     io::write_all(STDOUT_FILENO, b" ");
     io::print_decimal(STDOUT_FILENO, refusal.carried() as u64);
     io::write_all(STDOUT_FILENO, b"\n");
+}
+
+// A file whose text is not accepted, of the kind that it ought to be: `frame` or `command`.
+pub fn refuse_text(name: &[u8], kind: &[u8], refusal: Refusal) {
+    io::write_all(STDERR_FILENO, b"tap: ");
+    io::write_all(STDERR_FILENO, name);
+    io::write_all(STDERR_FILENO, b" is no ");
+    io::write_all(STDERR_FILENO, kind);
+    io::write_all(STDERR_FILENO, b" text that is accepted: 'tap check --");
+    io::write_all(STDERR_FILENO, kind);
+    io::write_all(STDERR_FILENO, b"' says why\n");
+    refuse(refusal);
 }
 
 // Ends a line on standard error with these bytes.

@@ -1,9 +1,9 @@
 // What `tap help` and `tap help WORD` print, with the last line of the output.
+use crate::words::word_number;
 use output::outcome::fail;
 use output::outcome::fail_word;
 use output::outcome::succeed;
 use output::prose::say;
-use readers::line_fields::find_field;
 
 // The words, and what holds for all of them.
 fn help_all() {
@@ -283,10 +283,7 @@ FILE or one CAPTURE may be -.
 
 // The page of a word.
 fn help_word(word: &[u8]) {
-    match find_field(
-        b"frames\tshow\tcheck\ttidy\tlist\tjudge\ttotals\txml\ttext\toverlaps\tsort\tcoverage\thelp",
-        word,
-    ) {
+    match word_number(word) {
         0 => help_frames(),
         1 => help_show(),
         2 => help_check(),

@@ -2,6 +2,7 @@
 // `refused N V` (a refusal of docs/RULES.md: its number and what it carries), `differs L` (of `judge`), `overlaps N` (of `overlaps`) or `failed`.
 // A program has no exit status here; bin/tap makes one of that line.
 mod help_page;
+mod words;
 
 use check_word::check_file::check_definition;
 use coverage_word::coverage_file::show_coverage;
@@ -13,19 +14,16 @@ use order_word::overlaps_file::tell_overlaps;
 use order_word::sort_file::sort_definition;
 use output::outcome::fail;
 use output::outcome::fail_word;
-use readers::line_fields::find_field;
 use show_word::show_file::show_frame;
 use tidy_word::tidy_file::tidy_definition;
 use totals_word::totals_file::show_totals;
+use words::word_number;
 use xml_word::text_file::write_text;
 use xml_word::xml_file::write_xml;
 
 // Does what a word asks for.
 fn obey(word: &[u8]) {
-    match find_field(
-        b"frames\tshow\tcheck\ttidy\tlist\tjudge\ttotals\txml\ttext\toverlaps\tsort\tcoverage\thelp",
-        word,
-    ) {
+    match word_number(word) {
         0 => show_frames(),
         1 => show_frame(),
         2 => check_definition(),

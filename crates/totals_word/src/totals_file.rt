@@ -23,20 +23,13 @@ ghost use Rattle.frame_text.specs.Rules.{verdict};
 // The bytes of the longest page.
 const ROOM: usize = 32768;
 
-// Writes the first n bytes, or all where there are fewer.
-fn write_first(bytes: &[u8], n: usize) {
-    if n < bytes.len() {
-        io::write_all(STDOUT_FILENO, &bytes[..n]);
-        return;
-    }
-    io::write_all(STDOUT_FILENO, bytes);
-}
-
 // The page, line by line.
 fn print_page(totals: &[u64; TOTALS]) {
     let mut page = [0u8; ROOM];
     match print_totals(totals, &mut page) {
-        Written::Length(n) => write_first(&page, n),
+        Written::Length(n) => {
+            io::write_all(STDOUT_FILENO, &page[..n]);
+        }
         Written::Refused(_) => {}
     }
 }

@@ -12,6 +12,7 @@ judge-spec =
     (λ c. search (needs, laws))
     (λ c κs. search (needs, laws))
     (λ c. search (needs, laws))
+    (λ c. search (needs, laws))
     (λ c κs. search (needs, laws))
     (λ c. search (needs, laws))
     (λ c. search (needs, laws)))

@@ -12,6 +12,7 @@ judge-text-spec =
     (λ c. search (needs, checked))
     (λ c κs. search (needs, checked))
     (λ c. search (needs, checked))
+    (λ c. search (needs, checked))
     (λ c κs. search (needs, checked))
     (λ c. search (needs, checked))
     (λ c. search (needs, checked)))

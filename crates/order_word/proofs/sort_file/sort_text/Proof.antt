@@ -15,6 +15,7 @@ sort-text-spec =
     (λ c. search (needs, front-count, length-sorted))
     (λ c κs. search (needs, front-count, length-sorted))
     (λ c. search (needs, front-count, length-sorted))
+    (λ c. search (needs, front-count, length-sorted))
     (λ c κs. search (needs, front-count, length-sorted))
     (λ c. search (needs, front-count, length-sorted))
     (λ c. search (needs, front-count, length-sorted))

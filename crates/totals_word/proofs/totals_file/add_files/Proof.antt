@@ -14,45 +14,18 @@ Inv-loop text options totals₀ end day₀ k₀ totals day k = verdict text ≡ 
 abbrev μ-loop : tie.MeasureT-loop
 μ-loop text options totals₀ end day₀ k₀ totals day k = end - k
 
-arg-count-requires : tie.Need-arg-count-requires Inv-loop μ-loop
-arg-count-requires c κs = search (needs, laws)
-
-new-requires : tie.Need-new-requires Inv-loop μ-loop
-new-requires c κs = search (needs, laws)
-
-loop-holds : tie.Need-loop-holds Inv-loop μ-loop
-loop-holds c = search (needs, laws)
-
-next-file-requires : tie.Need-next-file-requires Inv-loop μ-loop
-next-file-requires c κs = search (needs, laws)
-
-add-file-requires : tie.Need-add-file-requires Inv-loop μ-loop
-add-file-requires c κs = search (needs, laws)
-
-add-k : tie.Need-add-k Inv-loop μ-loop
-add-k c = search (needs, laws)
-
-loop-less : tie.Need-loop-less Inv-loop μ-loop
-loop-less c = search (needs, laws)
-
-loop-again : tie.Need-loop-again Inv-loop μ-loop
-loop-again c = search (needs, laws)
-
-returns : tie.Need-returns Inv-loop μ-loop
-returns c = search (needs, laws)
-
 pub add-files-spec : {M : Type 1} → statement M
 add-files-spec =
     tie.close
     (tie.spec
     Inv-loop
     μ-loop
-    arg-count-requires
-    new-requires
-    loop-holds
-    next-file-requires
-    add-file-requires
-    add-k
-    loop-less
-    loop-again
-    returns)
+    (λ c κs. search (needs, laws))
+    (λ c κs. search (needs, laws))
+    (λ c. search (needs, laws))
+    (λ c κs. search (needs, laws))
+    (λ c κs. search (needs, laws))
+    (λ c. search (needs, laws))
+    (λ c. search (needs, laws))
+    (λ c. search (needs, laws))
+    (λ c. search (needs, laws)))
