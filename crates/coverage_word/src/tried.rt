@@ -18,7 +18,6 @@ use frame::reading_by;
 use pti::payload::beams_number;
 use readers::cells::part;
 use readers::line_fields::field_of;
-use readers::lines::find_line;
 use readers::lines::line;
 use readers::lines::next_line;
 use readers::region::frame_code;
@@ -29,31 +28,50 @@ use text::is_same;
 ghost use mathlib.Core.Path.{_≡_};
 ghost use Rattle.text.specs.declared.Verdict.the-variants.{Accepted};
 ghost use Rattle.frame_text.specs.Rules.{verdict};
+ghost use lib.Seq.{sets as fill};
+ghost use Rattle.readers.specs.Lines.{linesIn, ofKind};
 ghost use Rattle.files.specs.Capture.{Inside};
+ghost use Rattle.coverage_word.specs.Sets.{setOf, setsOf};
 
 // The number of the first D line of a name.
-fn set_number(text: &[u8], name: &[u8]) -> u8 {
+fn set_number(text: &[u8], name: &[u8]) -> u8
+    ensures { λ r. ⌜ r ≡ setOf (now (text .entry)) (now (name .entry)) ⌝ }
+{
+    let mut at: usize = 0;
     let mut k: u8 = 0;
-    while k < NO_SET {
-        if is_same(field_of(find_line(text, b'D', k as usize), 1), name) {
+    while at < text.len() {
+        if text[at] != b'D' {
+            at = next_line(text, at);
+            continue;
+        }
+        if k == NO_SET {
+            return NO_SET;
+        }
+        if is_same(field_of(line(text, at), 1), name) {
             return k;
         }
         k += 1;
+        at = next_line(text, at);
     }
     NO_SET
 }
 
-// Says for each P line of an accepted text which D line its set is.
-pub fn find_sets(text: &[u8], sets: &mut [u8; PARAMS]) {
+// Says for each P line of a text which D line its set is, as far as there is room.
+pub fn find_sets(text: &[u8], sets: &mut [u8])
+    ensures { λ r. ⌜ now (sets .exit) ≡ fill (now (sets .entry)) 0 (setsOf (now (text .entry)) (ofKind 0x50 (linesIn (now (text .entry))))) ⌝ }
+{
     let mut at: usize = 0;
     let mut k: usize = 0;
     while at < text.len() {
-        if text[at] == b'P' {
-            if k < PARAMS {
-                sets[k] = set_number(text, field_of(line(text, at), 6));
-                k += 1;
-            }
+        if text[at] != b'P' {
+            at = next_line(text, at);
+            continue;
         }
+        if sets.len() <= k {
+            return;
+        }
+        sets[k] = set_number(text, field_of(line(text, at), 6));
+        k += 1;
         at = next_line(text, at);
     }
 }

@@ -7,8 +7,10 @@ use refusal::Refusal;
 use text::Verdict;
 use writer::print_number;
 ghost use Prim.Native.Nat.{_≤_};
-ghost use lib.ListN.{length};
-ghost use Rattle.files.specs.Accepted.{Accepts};
+ghost use mathlib.Core.Path.{_≡_};
+ghost use lib.ListN.{length, take};
+ghost use Rattle.frame_text.specs.Rules.{verdict};
+ghost use Rattle.files.specs.Accepted.{judged, Finds, Accepts};
 
 // How it was found.
 pub enum State {
@@ -38,7 +40,7 @@ fn say_refused(refusal: Refusal) {
 // The frame text in the first n bytes, if it is accepted.
 fn judge(text: &[u8], n: usize) -> FrameText
     requires { ⌜ n ≤ length (now text) ⌝ }
-    ensures { λ r. ⌜ Accepts (now (text .entry)) (r .count) ⌝ }
+    ensures { λ r. ⌜ r ≡ judged n (verdict (take n (now (text .entry)))) ⌝ }
 {
     match check_frame_text(&text[..n]) {
         Verdict::Accepted => FrameText {
@@ -57,7 +59,7 @@ fn judge(text: &[u8], n: usize) -> FrameText
 
 // The frame text of the folder that an argument names, in the lent slice.
 pub fn load_frames(folder: usize, text: &mut [u8]) -> FrameText
-    ensures { λ r. ⌜ Accepts (now (text .exit)) (r .count) ⌝ }
+    ensures { λ r. ⌜ Accepts (now (text .exit)) (r .count) × Finds (now (text .exit)) r ⌝ }
 {
     let Loaded::Bytes(n) = load(folder, b"frames.txt", text) else {
         return FrameText {

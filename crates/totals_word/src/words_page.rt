@@ -1,10 +1,12 @@
 // Totals as a table that a person reads: kinds of frame by rate, their shares, and what the rest is.
+use output::refusals::put_meaning;
 use readers::line_fields::field_of;
-use readers::lines::find_line;
+use readers::lines::line;
+use readers::lines::next_line;
+use readers::numeral::is_number;
+use refusal::Refusal;
 use std::num::wrapping_add_u64;
 use std::num::wrapping_add_usize;
-use text::Number;
-use text::read_number;
 use totals::BEAMS;
 use totals::BYTES;
 use totals::RATE_COUNT;
@@ -19,14 +21,14 @@ use writer::put_left;
 use writer::put_marked;
 use writer::put_number;
 use writer::put_spaces;
+ghost use mathlib.Core.Path.{_≡_};
+ghost use Rattle.readers.specs.Lines.{linesIn, ofKind};
+ghost use Rattle.totals_word.specs.Words.{shareOf, nameIn};
 
 // The widths of the column of names and of one of numbers.
 const NAMES: usize = 28;
 
 const NUMBERS: usize = 10;
-
-// The most H lines of a text.
-const HEADERS: usize = 64;
 
 // The keys that there are.
 const KEYS: usize = 256;
@@ -64,7 +66,9 @@ fn frames(totals: &[u64; TOTALS]) -> u64 {
 }
 
 // n of all, in thousandths.
-fn share(n: u64, all: u64) -> u64 {
+fn share(n: u64, all: u64) -> u64
+    ensures { λ r. ⌜ r ≡ shareOf n all ⌝ }
+{
     if all == 0 {
         return 0;
     }
@@ -110,22 +114,20 @@ fn put_all(out: &mut Buffer, at: usize, n: u64, all: u64) -> usize {
     put_byte(out, place, b'\n')
 }
 
-fn says(field: &[u8], key: usize) -> bool {
-    match read_number(field, 255) {
-        Number::Is(n) => n as usize == key,
-        Number::Over => false,
-        Number::Not => false,
-    }
-}
-
 // The name of the first H line with a key.
-fn name_of(text: &[u8], key: usize) -> &[u8] {
-    let mut i: usize = 0;
-    while i < HEADERS {
-        if says(field_of(find_line(text, b'H', i), 1), key) {
-            return field_of(find_line(text, b'H', i), 4);
+fn name_of(text: &[u8], key: usize) -> &[u8]
+    ensures { λ r. ⌜ now r ≡ nameIn key (ofKind 0x48 (linesIn (now (text .entry)))) ⌝ }
+{
+    let mut at: usize = 0;
+    while at < text.len() {
+        if text[at] != b'H' {
+            at = next_line(text, at);
+            continue;
         }
-        i += 1;
+        if is_number(field_of(line(text, at), 1), key) {
+            return field_of(line(text, at), 4);
+        }
+        at = next_line(text, at);
     }
     &text[..0]
 }
@@ -180,28 +182,45 @@ fn put_line(out: &mut Buffer, at: usize, what: &[u8], n: u64, all: u64) -> usize
     put_all(out, place, n, all)
 }
 
-// What was refused, and what that means.
+// A refusal, and what it means.
+fn put_refusal(
+    totals: &[u64; TOTALS],
+    refusal: Refusal,
+    meaning: &[u8],
+    all: u64,
+    out: &mut Buffer,
+    at: usize,
+) -> usize {
+    let place = put_meaning(out, at, refusal, meaning, NAMES + 4 * NUMBERS);
+    let n = total(totals, REFUSED + refusal.number() as usize);
+    put_all(out, place, n, all)
+}
+
+// What was refused.
 fn put_refused(totals: &[u64; TOTALS], all: u64, out: &mut Buffer, at: usize) -> usize {
-    let short = put_line(
+    let short = put_refusal(
+        totals,
+        Refusal::TooShort(0),
+        b": damaged on the air",
+        all,
         out,
         at,
-        b"under 2 bytes (5): damaged on the air",
-        total(totals, REFUSED + 5),
-        all,
     );
-    let unbased = put_line(
+    let unbased = put_refusal(
+        totals,
+        Refusal::NoBase(0),
+        b": no definitions for that region and rate",
+        all,
         out,
         short,
-        b"no base header (6): no definitions for that region and rate",
-        total(totals, REFUSED + 6),
-        all,
     );
-    put_line(
+    put_refusal(
+        totals,
+        Refusal::NoCandidate,
+        b": an unknown kind of frame, or a damaged one",
+        all,
         out,
         unbased,
-        b"no header holds (7): an unknown kind of frame, or a damaged one",
-        total(totals, REFUSED + 7),
-        all,
     )
 }
 

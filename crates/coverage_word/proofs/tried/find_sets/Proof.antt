@@ -1,13 +1,13 @@
 -- `coverage_word::tried::find_sets` meets its contract, by the laws of the crate. Assumes nothing.
+use borrow.Author.Needs.{needs}
 use Prim.Native.Nat.{_-_}
 use lib.ListN.{length}
-use borrow.Author.Needs.{needs}
-use Rattle.coverage_word.proofs.Laws.{laws}
+use Rattle.coverage_word.proofs.tried.Laws.{Fills, fills-laws}
 use Rattle.coverage_word.proofs.tried.find_sets.Statement.{statement}
 use Rattle.coverage_word.proofs.tried.find_sets.Tie as tie
 
 abbrev Inv-loop : tie.InvT-loop
-Inv-loop text sets₀ at₀ k₀ sets at k = Unit {0}
+Inv-loop text sets₀ at₀ k₀ sets at k = Fills text sets sets₀ at k
 
 abbrev μ-loop : tie.MeasureT-loop
 μ-loop text sets₀ at₀ k₀ sets at k = length text - at
@@ -18,14 +18,20 @@ find-sets-spec =
     (tie.spec
     Inv-loop
     μ-loop
-    (λ c. search (needs, laws))
-    (λ c. search (needs, laws))
-    (λ c κs. search (needs, laws))
-    (λ c κs. search (needs, laws))
-    (λ c κs. search (needs, laws))
-    (λ c. search (needs, laws))
-    (λ c. search (needs, laws))
-    (λ c κs. search (needs, laws))
-    (λ c. search (needs, laws))
-    (λ c. search (needs, laws))
-    (λ c. search (needs, laws)))
+    (λ c. search (needs, fills-laws))
+    (λ c. search (needs, fills-laws))
+    (λ c κs. search (needs, fills-laws))
+    (λ c. search (needs, fills-laws))
+    (λ c. search (needs, fills-laws))
+    (λ c. search (needs, fills-laws))
+    (λ c. search (needs, fills-laws))
+    (λ c κs. search (needs, fills-laws))
+    (λ c κs. search (needs, fills-laws))
+    (λ c κs. search (needs, fills-laws))
+    (λ c. search (needs, fills-laws))
+    (λ c. search (needs, fills-laws))
+    (λ c κs. search (needs, fills-laws))
+    (λ c. search (needs, fills-laws))
+    (λ c. search (needs, fills-laws))
+    (λ c. search (needs, fills-laws))
+    (λ c. search (needs, fills-laws)))

@@ -1,15 +1,16 @@
 -- `coverage_word::tried::set_number` meets its contract, by the laws of the crate. Assumes nothing.
-use Prim.Native.Nat.{_-_}
 use borrow.Author.Needs.{needs}
-use Rattle.coverage_word.proofs.Laws.{laws}
+use Prim.Native.Nat.{_-_}
+use lib.ListN.{length}
+use Rattle.coverage_word.proofs.tried.Laws.{Names, names-laws}
 use Rattle.coverage_word.proofs.tried.set_number.Statement.{statement}
 use Rattle.coverage_word.proofs.tried.set_number.Tie as tie
 
 abbrev Inv-loop : tie.InvT-loop
-Inv-loop text name k₀ k = Unit {0}
+Inv-loop text name at₀ k₀ at k = Names text name at k
 
 abbrev μ-loop : tie.MeasureT-loop
-μ-loop text name k₀ k = 16 - k
+μ-loop text name at₀ k₀ at k = length text - at
 
 pub set-number-spec : {M : Type 1} → statement M
 set-number-spec =
@@ -17,13 +18,18 @@ set-number-spec =
     (tie.spec
     Inv-loop
     μ-loop
-    (λ c. search (needs, laws))
-    (λ c. search (needs, laws))
-    (λ c κs. search (needs, laws))
-    (λ c κs. search (needs, laws))
-    (λ c κs. search (needs, laws))
-    (λ c. search (needs, laws))
-    (λ c. search (needs, laws))
-    (λ c. search (needs, laws))
-    (λ c. search (needs, laws))
-    (λ c. search (needs, laws)))
+    (λ c. search (needs, names-laws))
+    (λ c. search (needs, names-laws))
+    (λ c κs. search (needs, names-laws))
+    (λ c. search (needs, names-laws))
+    (λ c. search (needs, names-laws))
+    (λ c. search (needs, names-laws))
+    (λ c κs. search (needs, names-laws))
+    (λ c κs. search (needs, names-laws))
+    (λ c κs. search (needs, names-laws))
+    (λ c. search (needs, names-laws))
+    (λ c. search (needs, names-laws))
+    (λ c κs. search (needs, names-laws))
+    (λ c. search (needs, names-laws))
+    (λ c. search (needs, names-laws))
+    (λ c. search (needs, names-laws)))

@@ -14,23 +14,8 @@ Inv-loop text options block₀ payload₀ totals₀ source₀ day₀ block paylo
 abbrev μ-loop : tie.MeasureT-loop
 μ-loop text options block₀ payload₀ totals₀ source₀ day₀ block payload totals source day = source .left
 
-loop-holds : tie.Need-loop-holds Inv-loop μ-loop
-loop-holds c = search (needs, laws)
-
-next-item-requires : tie.Need-next-item-requires Inv-loop μ-loop
-next-item-requires c κs = search (needs, laws)
-
-take-item-requires : tie.Need-take-item-requires Inv-loop μ-loop
-take-item-requires c κs = search (needs, laws)
-
-loop-less : tie.Need-loop-less Inv-loop μ-loop
-loop-less c = search (needs, laws)
-
 loop-again : tie.Need-loop-again Inv-loop μ-loop
 loop-again c = (search needs, search needs)
-
-returns : tie.Need-returns Inv-loop μ-loop
-returns c = search (needs, laws)
 
 pub add-capture-spec : {M : Type 1} → statement M
 add-capture-spec =
@@ -38,9 +23,9 @@ add-capture-spec =
     (tie.spec
     Inv-loop
     μ-loop
-    loop-holds
-    next-item-requires
-    take-item-requires
-    loop-less
+    (λ c. search (needs, laws))
+    (λ c κs. search (needs, laws))
+    (λ c κs. search (needs, laws))
+    (λ c. search (needs, laws))
     loop-again
-    returns)
+    (λ c. search (needs, laws)))
