@@ -98,13 +98,13 @@ module _ (d b c : ℕ) (r : Digit) (is : r ≡ digitOf b) where
   pub second-wrong : r ≡ Not → To (Wrong c) ≡ secondBy d (digitOf b) c
   second-wrong q = rw (← is, q)
 
-  pub second-fits : (e : ℕ) → d < 16 → r ≡ Is e → Fits w8 (d * 16 + e)
-  second-fits e h q = omega (arith, digit-few b e r is q)
+pub product-fits : (d : ℕ) → d < 16 → Fits w8 (d * 16)
+product-fits d h = omega arith
 
-  pub second-product-fits : d < 16 → Fits w8 (d * 16)
-  second-product-fits h = omega arith
+pub pair-fits : (d e : ℕ) → d < 16 → e < 16 → Fits w8 (d * 16 + e)
+pair-fits d e h l = omega arith
 
-pub ruleset second-laws = (second-digit, second-wrong, second-fits, second-product-fits)
+pub ruleset second-laws = (second-digit, second-wrong, product-fits, pair-fits, digit-few)
 
 -- ---- by the state
 module _ (s : State) where
