@@ -6,6 +6,7 @@ ghost use mathlib.Core.Path.{_≡_};
 ghost use mathlib.Core.Bool.{cond};
 ghost use Prim.Native.Nat.{_<_, _≤_};
 ghost use lib.ListN.{length};
+ghost use Rattle.text.specs.Judge.{mostBytes};
 ghost use Rattle.text.specs.Records.{Readable};
 ghost use Rattle.command_text.specs.Rules.{rules};
 ghost use Rattle.command_rules.specs.Field.{arrayAscii, variantAscii, variantRule, variableRule, ruleOf, isConst, isNamed};
@@ -152,7 +153,7 @@ impl Gathered {
 
 // Gathers the lines under a Q, from the place after it.
 pub fn gather(text: &[u8], start: Place) -> Under
-    requires { ⌜ (Readable rules (now text) start) × (length (now text) ≤ 60000) ⌝ }
+    requires { ⌜ (Readable rules (now text) start) × (length (now text) ≤ mostBytes) ⌝ }
     ensures { λ r. ⌜ Gathers (now (text .entry)) start r ⌝ }
 {
     let mut gathered = nothing();

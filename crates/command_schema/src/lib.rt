@@ -14,6 +14,7 @@ use text::Place;
 ghost use mathlib.Core.Path.{_≡_};
 ghost use Prim.Native.Nat.{_+_, _*_, _<_, _≤_};
 ghost use lib.ListN.{length};
+ghost use Rattle.text.specs.Judge.{mostBytes};
 ghost use Rattle.text.specs.Records.{Readable};
 ghost use Rattle.text.specs.declared.Verdict.the-variants.{Accepted};
 ghost use Rattle.rows.specs.Rows.{put};
@@ -198,7 +199,7 @@ fn load_with_items(
     table: &mut [u16],
     i: usize,
 ) -> Place
-    requires { ⌜ (Readable rules (now text) next) × (length (now text) ≤ 60000) × (place .line < 65536) × (i < 256) ⌝ }
+    requires { ⌜ (Readable rules (now text) next) × (length (now text) ≤ mostBytes) × (place .line < 65536) × (i < 256) ⌝ }
     ensures { λ r. ⌜ Stores (now (text .entry)) place row next i (now (table .entry)) r (now (table .exit)) ⌝ }
 {
     let under = gather(text, next);

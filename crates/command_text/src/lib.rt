@@ -4,6 +4,7 @@ use command_kept::Form;
 use command_kept::Judged;
 use refusal::Refusal;
 use text::Line;
+use text::MOST_BYTES;
 use text::Place;
 use text::Verdict;
 use text::is_same;
@@ -281,7 +282,7 @@ fn read_form(text: &[u8], line: Line) -> Form
 pub fn check_command_text(text: &[u8]) -> Verdict
     ensures { λ r. ⌜ Checks rules (now (text .entry)) r ⌝ }
 {
-    if 60000 < text.len() {
+    if MOST_BYTES < text.len() {
         return Verdict::Refused(Refusal::Limit(0));
     }
     let mut place = Place::start();

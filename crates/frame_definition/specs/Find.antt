@@ -8,6 +8,7 @@ use lib.Dec.{eqb, leb}
 use lib.ListN.{length, drop}
 use Rattle.text.specs.Text.{field, lines, same, value}
 use Rattle.text.specs.Place.{kindOf, left, cells, Marked, partOf, IsPart, IsOptionalPart}
+use Rattle.text.specs.Judge.{mostBytes}
 use Rattle.text.specs.Scan.{cut}
 use Rattle.text.specs.Fields.{fieldsAt}
 use Rattle.text.specs.Records.{rest, Readable}
@@ -200,7 +201,7 @@ pub record IsRead (t : List ℕ) (l : Line) (h n : ℕ) (c : Candidate) : Type 0
 -- a place in an accepted text with h H and n P lines before it
 pub record Counted (t : List ℕ) (p : Place) (h n : ℕ) : Type 0 where
   pub readable : Readable rules t p
-  pub short : length t ≤ 60000
+  pub short : length t ≤ mostBytes
   pub headers-few : h ≤ p .at
   pub params-few : n ≤ p .at
   -- the names of the further H lines are those from there on

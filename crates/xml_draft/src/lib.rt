@@ -1,6 +1,7 @@
 // What the attributes of a tag say, as fields of a line, written into room for a definition text. X5, X6 and X9 of docs/RULES.md.
 use numerals::ROOM as DIGITS;
 use numerals::decimal;
+use text::MOST_BYTES;
 use text::find;
 use xml_schema::FURTHER_FLAG;
 use xml_schema::Next;
@@ -25,11 +26,11 @@ ghost use Rattle.xml_values.specs.Values.{meant, parts, undo, unsigned, strip, 
 ghost use Rattle.xml_tags.specs.Tags.{told, part, fieldsOf};
 ghost use Rattle.xml_draft.specs.Draft.{Laid};
 
-// The most bytes that a definition text may have.
-pub const ROOM: usize = 60000;
+// Room for every definition text.
+pub const ROOM: usize = MOST_BYTES;
 
 // Some place past the room.
-const OVER: usize = 60001;
+const OVER: usize = ROOM + 1;
 
 // Writes b at n, if there is room; answers the place behind it.
 pub fn put_byte(out: &mut [u8; ROOM], n: usize, b: u8) -> usize

@@ -7,6 +7,7 @@ use text::Verdict;
 use xml_elements::append_xml;
 ghost use Prim.Native.Nat.{_≤_};
 ghost use lib.ListN.{length};
+ghost use Rattle.text.specs.Judge.{mostBytes};
 ghost use Rattle.append.specs.Append.{Room};
 ghost use Rattle.buffer.specs.Buffer.{Writes};
 ghost use Rattle.xml_elements.specs.Elements.{xmlOf};
@@ -28,7 +29,7 @@ fn write_all(text: &[u8], buffer: &mut [u8]) -> Written
 
 // The same for a text that may be out of plain form: refusal 15.
 fn write_plain(text: &[u8], buffer: &mut [u8]) -> Written
-    requires { ⌜ length (now text) ≤ 60000 ⌝ }
+    requires { ⌜ length (now text) ≤ mostBytes ⌝ }
     ensures { λ r. ⌜ Plainly (now (text .entry)) (now (buffer .entry)) r (now (buffer .exit)) ⌝ }
 {
     let line = first_misplaced(text);
