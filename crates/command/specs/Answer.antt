@@ -5,7 +5,7 @@ use mathlib.Core.List.{List}
 use Prim.Native.Nat.{ℕ, _/_}
 use lib.Dec.{eqb, leb, ltb}
 use lib.ListN.{length, drop}
-use Rattle.refusal.specs.Refusal.{numberOf, carriedBy}
+use Rattle.refusal.specs.Refusal.{mostFrame, numberOf, carriedBy}
 use Rattle.text.specs.declared.Verdict.{Verdict}
 use Rattle.text.specs.declared.Verdict.the-variants.{Accepted, Refused as NotAccepted}
 use Rattle.command_text.specs.Rules.{verdict}
@@ -60,7 +60,7 @@ within w room = cond (leb (length (w .rows)) (room / rowWidth)) (answered (lengt
 -- R4, R5, R11: a payload that is too long or too short; else the answer by a definition
 unfoldable pub answerBy : Offsets → List Entry → List ℕ → ℕ → Told
 answerBy offsets ds payload room =
-    cond (ltb 2048 (length payload)) (refused 4 (length payload))
+    cond (ltb mostFrame (length payload)) (refused 4 (length payload))
     (cond (ltb (length payload) 2) (refused 5 (length payload))
     (within (walk offsets (bodyOf payload) ds) room))
 

@@ -6,6 +6,7 @@ use command_rows::ROW_WIDTH;
 use command_schema::LOADED_WIDTH;
 use command_walk::walk_params;
 use records::PayloadOffset;
+use refusal::MOST_FRAME;
 use refusal::Refusal;
 use text::Verdict;
 ghost use mathlib.Core.Path.{_≡_};
@@ -120,7 +121,7 @@ pub fn decode_accepted(text: &[u8], payload: &[u8], offsets: Offsets, rows: &mut
     ensures { λ r. ⌜ DecodesBy offsets (now (text .entry)) (now (payload .entry)) (now (rows .entry)) (told r) (now (rows .exit)) ⌝ }
 {
     let size = payload.len();
-    if 2048 < size {
+    if MOST_FRAME < size {
         return Params::Refused(Refusal::TooLong(size));
     }
     if size < 2 {

@@ -4,6 +4,7 @@ use mathlib.Core.Bool.{cond}
 use mathlib.Core.List.{List, [], _∷_}
 use lib.Dec.{ltb}
 use lib.ListN.{length, take, drop}
+use Rattle.refusal.specs.Refusal.{mostFrame}
 use Rattle.refusal.specs.declared.Refusal.the-variants.{TooLong, TooShort, NoSuchField}
 use Rattle.text.specs.declared.Verdict.{Verdict}
 use Rattle.text.specs.declared.Verdict.the-variants as text
@@ -28,7 +29,7 @@ nth k rs = firstFrom k (drop k rs)
 -- BM5, R4, R5: of the rows that the walk gives by a definition
 unfoldable pub rowBy : Offsets → List Entry → List ℕ → ℕ → Found
 rowBy offsets ds payload k =
-    cond (ltb 2048 (length payload)) (Refused (TooLong (length payload)))
+    cond (ltb mostFrame (length payload)) (Refused (TooLong (length payload)))
     (cond (ltb (length payload) 2) (Refused (TooShort (length payload)))
     (nth k (walk offsets (bodyOf payload) ds .rows)))
 

@@ -9,6 +9,7 @@ use command_rules::Offsets;
 use command_rules::Row;
 use command_text::check_command_text;
 use command_walk::walk_params;
+use refusal::MOST_FRAME;
 use refusal::Refusal;
 use text::Verdict;
 ghost use mathlib.Core.Path.{_≡_};
@@ -48,7 +49,7 @@ pub fn row_accepted(text: &[u8], payload: &[u8], offsets: Offsets, row: usize) -
     ensures { λ r. ⌜ r ≡ rowBy offsets (definition (now (text .entry))) (now (payload .entry)) row ⌝ }
 {
     let size = payload.len();
-    if 2048 < size {
+    if MOST_FRAME < size {
         return Found::Refused(Refusal::TooLong(size));
     }
     if size < 2 {

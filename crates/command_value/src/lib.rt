@@ -20,6 +20,7 @@ use text::Verdict;
 ghost use mathlib.Core.Path.{_≡_};
 ghost use Prim.Native.Nat.{_≤_};
 ghost use lib.ListN.{length};
+ghost use Rattle.refusal.specs.Refusal.{mostFrame};
 ghost use Rattle.text.specs.declared.Verdict.the-variants.{Accepted};
 ghost use Rattle.command_text.specs.Rules.{verdict};
 ghost use Rattle.buffer.specs.Buffer.{Writes};
@@ -28,7 +29,7 @@ ghost use Rattle.command_value.specs.Answer.{CommandValue};
 
 // What is shown of a parameter.
 fn param_value(text: &[u8], payload: &[u8], row: Row, buffer: &mut [u8]) -> Written
-    requires { ⌜ (verdict (now text) ≡ Accepted) × (length (now payload) ≤ 2048) ⌝ }
+    requires { ⌜ (verdict (now text) ≡ Accepted) × (length (now payload) ≤ mostFrame) ⌝ }
     ensures { λ r. ⌜ Writes (paramText (now (text .entry)) (now (payload .entry)) row) (now (buffer .entry)) r (now (buffer .exit)) ⌝ }
 {
     let items = find_items(text, row.line);
@@ -47,7 +48,7 @@ fn bit_value(text: &[u8], row: Row, buffer: &mut [u8]) -> Written
 
 // What is shown of a row of a command.
 pub fn row_value(text: &[u8], payload: &[u8], row: Row, buffer: &mut [u8]) -> Written
-    requires { ⌜ (verdict (now text) ≡ Accepted) × (length (now payload) ≤ 2048) ⌝ }
+    requires { ⌜ (verdict (now text) ≡ Accepted) × (length (now payload) ≤ mostFrame) ⌝ }
     ensures { λ r. ⌜ Writes (rowText (now (text .entry)) (now (payload .entry)) row) (now (buffer .entry)) r (now (buffer .exit)) ⌝ }
 {
     if row.kind == 0 {

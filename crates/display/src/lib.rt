@@ -11,6 +11,7 @@ ghost use mathlib.Core.Bool.{_&&_};
 ghost use mathlib.Core.List.{[]};
 ghost use Prim.Native.Nat.{_%_, _≤_};
 ghost use lib.ListN.{length};
+ghost use Rattle.refusal.specs.Refusal.{mostFrame};
 ghost use Rattle.buffer.specs.Buffer.{Writes};
 ghost use Rattle.numerals.specs.Numerals.{decimal as decimalOf, signed as signedOf, hex as hexOf};
 ghost use Rattle.display.specs.Display.{word, some?, valueText, ifValued, inBytes, displayValue, display as displayOf, displayBit};
@@ -115,7 +116,7 @@ pub fn display_value(
     bytes: &[u8],
     buffer: &mut [u8],
 ) -> Written
-    requires { ⌜ length (now bytes) ≤ 2048 ⌝ }
+    requires { ⌜ length (now bytes) ≤ mostFrame ⌝ }
     ensures { λ r. ⌜ Writes (displayValue (now (symbol .entry)) kind value (now (bytes .entry))) (now (buffer .entry)) r (now (buffer .exit)) ⌝ }
 {
     if symbol.len() != 0 {
@@ -129,7 +130,7 @@ pub fn display_value(
 
 // A parameter of a command. A const's name of no bytes is none.
 pub fn display(ascii: bool, name: &[u8], bytes: &[u8], buffer: &mut [u8]) -> Written
-    requires { ⌜ length (now bytes) ≤ 2048 ⌝ }
+    requires { ⌜ length (now bytes) ≤ mostFrame ⌝ }
     ensures { λ r. ⌜ Writes (displayOf ascii (now (name .entry)) (now (bytes .entry))) (now (buffer .entry)) r (now (buffer .exit)) ⌝ }
 {
     if ascii {

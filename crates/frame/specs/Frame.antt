@@ -9,7 +9,7 @@ use lib.ListN.{length, getD, take, drop}
 use mir.Syntax.{w8}
 use mir.Val.{toZ, ofZ}
 use Rattle.refusal.specs.declared.Refusal.the-variants.{TooLong, NotAFrame, Firmware}
-use Rattle.refusal.specs.Refusal.{numberOf, carriedBy}
+use Rattle.refusal.specs.Refusal.{mostFrame, numberOf, carriedBy}
 use Rattle.radio.specs.declared.beam.BeamTarget.{BeamTarget}
 use Rattle.frame.specs.declared.Reading.{Reading}
 use Rattle.frame.specs.declared.Reading.the-variants.{Marker, Family}
@@ -155,7 +155,7 @@ frameOf w b =
 
 -- F16, R11: what `parse_record` answers by these rules
 abbrev pub parsedBy : Rules → List ℕ → Parsed
-parsedBy w b = cond (leb (length b) 2048) (cond (isFrame w b) (Frame (frameOf w b)) (Refused NotAFrame)) (Refused (TooLong (length b)))
+parsedBy w b = cond (leb (length b) mostFrame) (cond (isFrame w b) (Frame (frameOf w b)) (Refused NotAFrame)) (Refused (TooLong (length b)))
 
 -- FV2: the firmware is judged first
 abbrev pub parsedOf : ℕ → Reading → List ℕ → Parsed
@@ -191,7 +191,7 @@ said (Refused x) = (numberOf x, carriedBy x ∷ [])
 
 -- F16, R11: those numbers for a body by these rules
 abbrev pub saidBy : Rules → List ℕ → ℕ × List ℕ
-saidBy w b = cond (leb (length b) 2048) (cond (isFrame w b) (0, frameNumbers (frameOf w b)) (9, 0 ∷ [])) (4, length b ∷ [])
+saidBy w b = cond (leb (length b) mostFrame) (cond (isFrame w b) (0, frameNumbers (frameOf w b)) (9, 0 ∷ [])) (4, length b ∷ [])
 
 -- FV2: and by the firmware
 abbrev pub saidOf : ℕ → Reading → List ℕ → ℕ × List ℕ

@@ -8,12 +8,14 @@ use radio::rssi::signed;
 use radio::speed::RATES;
 use radio::speed::rate_in;
 use records::BodyOffset;
+use refusal::MOST_FRAME;
 use refusal::Refusal;
 ghost use mathlib.Core.Path.{_≡_};
 ghost use mathlib.Core.Bool.{_||_};
 ghost use Prim.Native.Nat.{_≤_, _<_, _%_, _^_};
 ghost use lib.Dec.{leb, ltb};
 ghost use lib.ListN.{length};
+ghost use Rattle.refusal.specs.Refusal.{mostPayload};
 ghost use Rattle.radio.specs.Speed.{RateTable};
 ghost use Rattle.radio.specs.Beam.{beamsOf, noTarget};
 ghost use Rattle.frame.specs.Frame.{headerOf, trailerOf, directionOf, successOf, regionBits, rulesOf, readingBy, fieldsOf, isBeam, holds};
@@ -371,7 +373,7 @@ fn mpdu_length(beam: bool, middle: &[u8]) -> usize
 
 // The repetitions of a beam.
 fn beams_in(beam: bool, rate: u8, middle: &[u8]) -> Beams
-    requires { ⌜ length (now middle) < 65535 ⌝ }
+    requires { ⌜ length (now middle) < mostPayload ⌝ }
     ensures { λ r. ⌜ r ≡ beamsIn beam rate (now (middle .entry)) ⌝ }
 {
     if beam {
@@ -406,7 +408,7 @@ fn target_in(reading: Reading, beam: bool, rate: u8, middle: &[u8]) -> BeamTarge
 // The frame of a body, given its parts.
 pub fn frame_of(body: &[u8], reading: Reading, parts: Parts) -> PtiFrame
     requires { ⌜ Inside (now body) parts ⌝ }
-    requires { ⌜ length (now body) < 65535 ⌝ }
+    requires { ⌜ length (now body) < mostPayload ⌝ }
     ensures { λ r. ⌜ r ≡ framedBy reading (now (body .entry)) parts ⌝ }
 {
     let start = parts.middle;
@@ -438,7 +440,7 @@ pub fn parse_record(body: &[u8], firmware: usize, reading: Reading) -> Parsed
     if rules.width == 0 {
         return Parsed::Refused(Refusal::Firmware(firmware));
     }
-    if 2048 < body.len() {
+    if MOST_FRAME < body.len() {
         return Parsed::Refused(Refusal::TooLong(body.len()));
     }
     let Split::Into(parts) = split_body(&RATES, body, rules) else {

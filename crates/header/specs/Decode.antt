@@ -7,7 +7,7 @@ use mathlib.Core.Option.{some}
 use Prim.Native.Nat.{ℕ, _*_, _/_, _≤_}
 use lib.Dec.{ltb}
 use lib.ListN.{length}
-use Rattle.refusal.specs.Refusal.{numberOf, carriedBy}
+use Rattle.refusal.specs.Refusal.{mostFrame, numberOf, carriedBy}
 use Rattle.refusal.specs.declared.Refusal.the-variants.{TooLong, TooShort, NoBase, NoCandidate, MoreRows}
 use Rattle.rows.specs.Rows.{laid}
 use Rattle.text.specs.Place.{partOf}
@@ -49,7 +49,7 @@ ofTold t ok (header h) = Header (headerOf t ok h)
 
 -- R4, R5, R11: an MPDU that is too long or too short
 abbrev pub sized : List ℕ → Decoded → Decoded
-sized d r = cond (ltb 2048 (length d)) (Refused (TooLong (length d))) (cond (ltb (length d) 2) (Refused (TooShort (length d))) r)
+sized d r = cond (ltb mostFrame (length d)) (Refused (TooLong (length d))) (cond (ltb (length d) 2) (Refused (TooShort (length d))) r)
 
 -- R1 to R3, R11: the call checks the text itself
 abbrev pub judged : Verdict → Decoded → Decoded
@@ -116,7 +116,7 @@ valuesTold ok (header h) =
 pub record Within (t d : List ℕ) : Type 0 where
   pub accepted : verdict t ≡ text.Accepted
   pub long : 2 ≤ length d
-  pub short : length d ≤ 2048
+  pub short : length d ≤ mostFrame
 
 -- for such: something is told, and it says of the lawful readings what `Says` says
 pub record ByReadings (t d : List ℕ) (region speed : ℕ) (table : List ℕ) (r : Decoded) (table′ : List ℕ) : Type 0 where

@@ -16,6 +16,7 @@ use header_paths::SCRATCH_WIDTH;
 use header_rows::ROW_WIDTH;
 use header_rows::write_row;
 use header_rows::write_rows;
+use refusal::MOST_FRAME;
 use refusal::Refusal;
 use text::Part;
 use text::Place;
@@ -23,6 +24,7 @@ use text::Verdict;
 ghost use mathlib.Core.Path.{_≡_};
 ghost use Prim.Native.Nat.{_*_, _≤_};
 ghost use lib.ListN.{length};
+ghost use Rattle.refusal.specs.Refusal.{mostFrame};
 ghost use Rattle.text.specs.declared.Verdict.the-variants.{Accepted};
 ghost use Rattle.frame_text.specs.Rules.{verdict};
 ghost use Rattle.frame_definition.specs.Find.{FindsBase};
@@ -176,7 +178,7 @@ fn read_header(
     n: usize,
     rows: &mut [u64],
 ) -> Decoded
-    requires { ⌜ (verdict (now text) ≡ Accepted) × (length (now mpdu) ≤ 2048) ⌝ }
+    requires { ⌜ (verdict (now text) ≡ Accepted) × (length (now mpdu) ≤ mostFrame) ⌝ }
     requires { ⌜ FindsBase (now text) (sought .key) (At start n) ⌝ }
     ensures { λ r. ⌜ Reads (now (text .entry)) (now (mpdu .entry)) (sought .speed) (sought .key) (sought .wanted) (now (rows .entry)) r
         (now (rows .exit)) ⌝ }
@@ -199,7 +201,7 @@ fn decode_by(
     requires { ⌜ verdict (now text) ≡ Accepted ⌝ }
     ensures { λ r. ⌜ Answers (now (text .entry)) (now (mpdu .entry)) region speed wanted (now (rows .entry)) r (now (rows .exit)) ⌝ }
 {
-    if 2048 < mpdu.len() {
+    if MOST_FRAME < mpdu.len() {
         return Decoded::Refused(Refusal::TooLong(mpdu.len()));
     }
     if mpdu.len() < 2 {

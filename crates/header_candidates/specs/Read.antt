@@ -3,6 +3,7 @@ use mathlib.Core.Path.{_≡_}
 use mathlib.Core.List.{List, _++_}
 use Prim.Native.Nat.{ℕ, _*_, _≤_}
 use lib.ListN.{length}
+use Rattle.refusal.specs.Refusal.{mostFrame}
 use Rattle.frame_definition.specs.Definition.{Numbered}
 use Rattle.header_fields.specs.Fields.{lineWidth, fieldsIn}
 use Rattle.header_rules.specs.Loaded.{baseWalked, ownWalked}
@@ -11,7 +12,7 @@ use Rattle.header_candidates.specs.declared.Read.{Read}
 
 -- room for 128 lines and for 128 rows, and an MPDU within its limit
 pub record Roomy (d fields scratch : List ℕ) : Type 0 where
-  pub short : length d ≤ 2048
+  pub short : length d ≤ mostFrame
   pub lines : 128 * lineWidth ≤ length fields
   pub rows : 128 * scratchWidth ≤ length scratch
 

@@ -13,6 +13,7 @@ use text::Place;
 ghost use mathlib.Core.Path.{_≡_};
 ghost use Prim.Native.Nat.{_*_, _≤_};
 ghost use lib.ListN.{length};
+ghost use Rattle.refusal.specs.Refusal.{mostFrame};
 ghost use Rattle.text.specs.Records.{Readable};
 ghost use Rattle.text.specs.declared.Verdict.the-variants.{Accepted};
 ghost use Rattle.frame_text.specs.Rules.{rules, verdict};
@@ -82,7 +83,7 @@ fn read_behind(
 
 // Reads a base and a candidate behind it, and writes their rows into the table.
 fn read_rows(text: &[u8], mpdu: &[u8], first: Lines, second: Lines, rows: &mut [u64]) -> usize
-    requires { ⌜ (verdict (now text) ≡ Accepted) × (length (now mpdu) ≤ 2048) × (128 * rowWidth ≤ length (now rows)) ⌝ }
+    requires { ⌜ (verdict (now text) ≡ Accepted) × (length (now mpdu) ≤ mostFrame) × (128 * rowWidth ≤ length (now rows)) ⌝ }
     requires { ⌜ (Readable rules (now text) (first .place)) × (first .params ≤ length (now text))
         × (length (linesAt (now text) (first .place) (first .params)) ≤ 64) ⌝ }
     requires { ⌜ (Readable rules (now text) (second .place)) × (second .params ≤ length (now text))
@@ -101,7 +102,7 @@ fn read_rows(text: &[u8], mpdu: &[u8], first: Lines, second: Lines, rows: &mut [
 
 // Writes the rows of the candidate for a base key that has this number into the table, whether it holds or not.
 pub fn read_named(text: &[u8], mpdu: &[u8], key: u64, number: u64, rows: &mut [u64]) -> Named
-    requires { ⌜ (verdict (now text) ≡ Accepted) × (length (now mpdu) ≤ 2048) × (128 * rowWidth ≤ length (now rows)) ⌝ }
+    requires { ⌜ (verdict (now text) ≡ Accepted) × (length (now mpdu) ≤ mostFrame) × (128 * rowWidth ≤ length (now rows)) ⌝ }
     ensures { λ r. ⌜ ReadsNamed (now (text .entry)) (now (mpdu .entry)) key number (now (rows .entry)) r (now (rows .exit)) ⌝ }
 {
     let Found::At { place, params } = find_base(text, key) else {

@@ -28,6 +28,7 @@ ghost use mathlib.Core.Path.{_≡_};
 ghost use mathlib.Core.Option.{some};
 ghost use Prim.Native.Nat.{_≤_};
 ghost use lib.ListN.{length};
+ghost use Rattle.refusal.specs.Refusal.{mostFrame};
 ghost use Rattle.text.specs.declared.Verdict.the-variants.{Accepted};
 ghost use Rattle.frame_text.specs.Rules.{verdict};
 ghost use Rattle.frame_definition.specs.Find.{meant};
@@ -72,7 +73,7 @@ fn bytes_of(mpdu: &[u8], start: u64, bits: u64) -> &[u8]
 
 // What is shown of a field.
 fn field_value(text: &[u8], mpdu: &[u8], field: Field, shown: Shown, buffer: &mut [u8]) -> Written
-    requires { ⌜ (verdict (now text) ≡ Accepted) × (length (now mpdu) ≤ 2048) ⌝ }
+    requires { ⌜ (verdict (now text) ≡ Accepted) × (length (now mpdu) ≤ mostFrame) ⌝ }
     ensures { λ r.
         ⌜ Writes (fieldText (now (text .entry)) (now (mpdu .entry)) (some (meant (now (text .entry)) field)) (shown .start) (shown .bits) (shown .valued)
         (shown .value) (shown .symbol)) (now (buffer .entry)) r (now (buffer .exit)) ⌝ }

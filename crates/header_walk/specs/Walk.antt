@@ -3,15 +3,16 @@ use mathlib.Core.Path.{_≡_}
 use mathlib.Core.List.{List}
 use Prim.Native.Nat.{ℕ, _+_, _*_, _≤_}
 use lib.ListN.{length}
+use Rattle.refusal.specs.Refusal.{mostFrame}
 use Rattle.header_rules.specs.Rows.{Row}
 use Rattle.header_rules.specs.Flat as flat
 use Rattle.header_fields.specs.Fields.{lineWidth}
 use Rattle.header_paths.specs.Scratch.{rowsIn}
 use Rattle.header_walk.specs.declared.Walked.{Walked}
 
--- at most 128 lines in the table of fields, at most 2,048 bytes
+-- at most 128 lines in the table of fields, and an MPDU within its limit
 pub record Shaped (d fields : List ℕ) (count : ℕ) : Type 0 where
-  pub short : length d ≤ 2048
+  pub short : length d ≤ mostFrame
   pub few : count ≤ 128
   pub loaded : count * lineWidth ≤ length fields
 

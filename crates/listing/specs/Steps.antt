@@ -4,6 +4,7 @@ use mathlib.Core.List.{List}
 use mathlib.Core.Option.{none, some}
 use Prim.Native.Nat.{ℕ, _≤_}
 use lib.ListN.{length}
+use Rattle.refusal.specs.Refusal.{mostFrame}
 use Rattle.refusal.specs.declared.Refusal.the-variants.{Listing}
 use Rattle.buffer.specs.Buffer.{Writes}
 use Rattle.buffer.specs.declared.Written.{Written}
@@ -28,7 +29,7 @@ use Rattle.listing.specs.Judge.{orLast, Against}
 -- the answer is a header with this number, the first candidate that holds, and the table has so many rows of it
 pub record Own (t d : List ℕ) (key number count : ℕ) (table : List ℕ) : Type 0 where
   pub accepted : verdict t ≡ Accepted
-  pub short : length d ≤ 2048
+  pub short : length d ≤ mostFrame
   pub base : Base
   pub base-is : firstBase key (definition t .bases) ≡ some base
   pub one : Candidate 7

@@ -14,6 +14,7 @@ use refusal::Refusal;
 ghost use mathlib.Core.Path.{_≡_};
 ghost use Prim.Native.Nat.{_*_, _≤_};
 ghost use lib.ListN.{length};
+ghost use Rattle.refusal.specs.Refusal.{mostFrame};
 ghost use Rattle.text.specs.Text.{lines};
 ghost use Rattle.text.specs.declared.Verdict.the-variants.{Accepted};
 ghost use Rattle.frame_text.specs.Rules.{verdict};
@@ -66,7 +67,7 @@ fn judge_other(
     last: usize,
     rows: &mut [u64],
 ) -> Judgement
-    requires { ⌜ (verdict (now text) ≡ Accepted) × (length (now mpdu) ≤ 2048) × (length (now rows) ≡ mostNumbers) ⌝ }
+    requires { ⌜ (verdict (now text) ≡ Accepted) × (length (now mpdu) ≤ mostFrame) × (length (now rows) ≡ mostNumbers) ⌝ }
     ensures { λ r.
         ⌜ Other (now (text .entry)) (now (mpdu .entry)) (keyOf (now (text .entry)) (sent .region) (sent .speed)) (now (listing .entry)) number last r ⌝ }
 {

@@ -7,7 +7,7 @@ use Prim.Native.Nat.{ℕ, suc, _+_, _-_, _/_, _≤_}
 use lib.Dec.{eqb, leb}
 use lib.ListN.{length, getD}
 use Rattle.refusal.specs.declared.Refusal.the-variants.{TooLong, MoreRows, Firmware}
-use Rattle.refusal.specs.Refusal.{numberOf, carriedBy}
+use Rattle.refusal.specs.Refusal.{mostPayload, numberOf, carriedBy}
 use Rattle.rows.specs.Rows.{laid}
 use Rattle.frame.specs.declared.Reading.{Reading}
 use Rattle.frame.specs.declared.Rules.{Rules}
@@ -47,7 +47,7 @@ UnmarkedIn s (b ∷ bs) = Unmarked (bytesOf s b) × UnmarkedIn s bs
 -- F18, R11: how many rows there are by these rules, or the refusal, for a table of `room` numbers
 abbrev pub framesBy : Rules → List ℕ → ℕ → Frames
 framesBy w s room =
-    cond (leb (length s) 65535)
+    cond (leb (length s) mostPayload)
     (cond (leb (length (rowsOf w s)) (room / rowWidth)) (Rows (length (rowsOf w s))) (Refused (MoreRows (length (rowsOf w s)))))
     (Refused (TooLong (length s)))
 
@@ -64,7 +64,7 @@ said (Refused x) = (numberOf x, carriedBy x)
 -- F18, R11: those numbers for a payload by these rules and a table of `room` numbers
 abbrev pub saidBy : Rules → List ℕ → ℕ → ℕ × ℕ
 saidBy w s room =
-    cond (leb (length s) 65535) (cond (leb (length (rowsOf w s)) (room / rowWidth)) (0, length (rowsOf w s)) (8, length (rowsOf w s))) (4, length s)
+    cond (leb (length s) mostPayload) (cond (leb (length (rowsOf w s)) (room / rowWidth)) (0, length (rowsOf w s)) (8, length (rowsOf w s))) (4, length s)
 
 -- FV2: and by the firmware
 abbrev pub saidOf : ℕ → Reading → List ℕ → ℕ → ℕ × ℕ

@@ -4,6 +4,7 @@ use mathlib.Core.Bool.{cond}
 use mathlib.Core.List.{List}
 use Prim.Native.Nat.{ℕ, _+_, _-_, _*_, _≤_, _<_}
 use lib.ListN.{length}
+use Rattle.refusal.specs.Refusal.{mostPayload}
 use Rattle.rows.specs.Rows.{put, laid}
 use Rattle.records.specs.declared.Span.{Span}
 use Rattle.records.specs.Records.{bytesOf}
@@ -28,7 +29,7 @@ pub record Within (s : List ℕ) (b : Span) : Type 0 where
   pub behind : 3 ≤ b .start .0
   pub ordered : b .start .0 ≤ b .end .0
   pub before : b .end .0 < length s
-  pub short : length s ≤ 65535
+  pub short : length s ≤ mostPayload
 
 -- the bytes of a body
 abbrev pub bytesIn : List ℕ → Span → List ℕ

@@ -14,12 +14,14 @@ use records::Next;
 use records::PayloadOffset;
 use records::Span;
 use records::next_body;
+use refusal::MOST_PAYLOAD;
 use refusal::Refusal;
 use rows::put_short_row;
 ghost use mathlib.Core.Path.{_≡_};
 ghost use mathlib.Core.Bool.{cond};
 ghost use Prim.Native.Nat.{_+_, _*_, _≤_, _<_};
 ghost use lib.ListN.{length};
+ghost use Rattle.refusal.specs.Refusal.{mostPayload};
 ghost use Rattle.radio.specs.Speed.{RateTable};
 ghost use Rattle.records.specs.Steps.{Leads};
 ghost use Rattle.frame.specs.Frame.{isFrame, directionNumber, beamsNumber};
@@ -218,7 +220,7 @@ fn write_frames(
 ) -> usize
     requires { ⌜ RateTable (now rates) ⌝ }
     requires { ⌜ rules .width ≤ 5 ⌝ }
-    requires { ⌜ length (now payload) ≤ 65535 ⌝ }
+    requires { ⌜ length (now payload) ≤ mostPayload ⌝ }
     requires { ⌜ Leads (now payload) 1 first ⌝ }
     requires { ⌜ length (rowsOf rules (now payload)) * rowWidth ≤ length (now table) ⌝ }
     ensures { λ r. ⌜ Lays rules (now (payload .entry)) (now (table .entry)) r (now (table .exit)) ⌝ }
@@ -247,7 +249,7 @@ fn parse_bodies(
 ) -> Frames
     requires { ⌜ RateTable (now rates) ⌝ }
     requires { ⌜ rules .width ≤ 5 ⌝ }
-    requires { ⌜ length (now payload) ≤ 65535 ⌝ }
+    requires { ⌜ length (now payload) ≤ mostPayload ⌝ }
     requires { ⌜ Leads (now payload) 1 first ⌝ }
     ensures { λ r. ⌜ ParsesBy rules (now (payload .entry)) (now (table .entry)) r (now (table .exit)) ⌝ }
 {
@@ -262,7 +264,7 @@ fn parse_bodies(
 // The same, with the rates lent once for all frames. A function of its own, so that a payload without a body does not lay them out.
 fn parse_from(payload: &[u8], rules: Rules, first: Span, table: &mut [u16]) -> Frames
     requires { ⌜ rules .width ≤ 5 ⌝ }
-    requires { ⌜ length (now payload) ≤ 65535 ⌝ }
+    requires { ⌜ length (now payload) ≤ mostPayload ⌝ }
     requires { ⌜ Leads (now payload) 1 first ⌝ }
     ensures { λ r. ⌜ ParsesBy rules (now (payload .entry)) (now (table .entry)) r (now (table .exit)) ⌝ }
 {
@@ -278,7 +280,7 @@ pub fn parse_payload(payload: &[u8], firmware: usize, reading: Reading, table: &
     if rules.width == 0 {
         return Frames::Refused(Refusal::Firmware(firmware));
     }
-    if 65535 < payload.len() {
+    if MOST_PAYLOAD < payload.len() {
         return Frames::Refused(Refusal::TooLong(payload.len()));
     }
     let Next::Body(first) = next_body(payload, 1) else {

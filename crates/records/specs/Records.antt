@@ -7,7 +7,7 @@ use denote.Ref.{RefT, ptr, now}
 use lib.Dec.{eqb, leb, ltb}
 use lib.ListN.{length, getD, take, drop}
 use Rattle.refusal.specs.declared.Refusal.the-variants.{TooLong}
-use Rattle.refusal.specs.Refusal.{numberOf, carriedBy}
+use Rattle.refusal.specs.Refusal.{mostPayload, numberOf, carriedBy}
 use Rattle.records.specs.declared.RecordAt.{RecordAt}
 use Rattle.records.specs.declared.RecordAt.the-variants.{Record, Stop}
 use Rattle.records.specs.declared.Counted.{Counted}
@@ -44,7 +44,7 @@ bodies s = bodiesFrom s 1
 
 -- F5: what `count_records` answers
 abbrev pub countedOf : List ℕ → Counted
-countedOf s = cond (leb (length s) 65535) (Records (length (bodies s))) (Refused (TooLong (length s)))
+countedOf s = cond (leb (length s) mostPayload) (Records (length (bodies s))) (Refused (TooLong (length s)))
 
 -- F5: an answer in numbers: 0 and the count, or the number of the refusal and what it carries
 abbrev pub said : Counted → ℕ × ℕ
@@ -53,7 +53,7 @@ said (Refused x) = (numberOf x, carriedBy x)
 
 -- F5: those numbers for a payload
 abbrev pub saidOf : List ℕ → ℕ × ℕ
-saidOf s = cond (leb (length s) 65535) (0, length (bodies s)) (4, length s)
+saidOf s = cond (leb (length s) mostPayload) (0, length (bodies s)) (4, length s)
 
 -- F5: the answer of `count_records`, as a case and in numbers
 pub record Counts (s : List ℕ) (r : Counted) : Type 0 where
@@ -62,7 +62,7 @@ pub record Counts (s : List ℕ) (r : Counted) : Type 0 where
 
 -- F6: where body k lies; nothing, at 0, where there is none
 abbrev pub spanOf : List ℕ → ℕ → ℕ × ℕ
-spanOf s k = cond (leb (length s) 65535) (getD (bodies s) k (0, 0)) (0, 0)
+spanOf s k = cond (leb (length s) mostPayload) (getD (bodies s) k (0, 0)) (0, 0)
 
 -- the bytes of a body
 abbrev pub bytesOf : List ℕ → ℕ × ℕ → List ℕ

@@ -1,12 +1,10 @@
 // The records of a payload (F1 to F6 of docs/RULES.md): how many bodies there are, and each as a part of the payload.
+use refusal::MOST_PAYLOAD;
 use refusal::Refusal;
 ghost use mathlib.Core.Path.{_≡_};
 ghost use Prim.Native.Nat.{_<_, _+_, _^_};
 ghost use Rattle.records.specs.Records.{recordAt, Counts, spanOf, PartOf};
 ghost use Rattle.records.specs.Steps.{Follows, IsBody};
-
-// The most bytes that a payload may have.
-const LONGEST: usize = 65535;
 
 // A byte's place in a payload.
 pub struct PayloadOffset(pub usize);
@@ -96,7 +94,7 @@ pub fn count_records(payload: &[u8]) -> Counted
     ensures { λ r. ⌜ Counts (now (payload .entry)) r ⌝ }
 {
     let length = payload.len();
-    if LONGEST < length {
+    if MOST_PAYLOAD < length {
         return Counted::Refused(Refusal::TooLong(length));
     }
     let mut count: usize = 0;
@@ -114,7 +112,7 @@ pub fn count_records(payload: &[u8]) -> Counted
 pub fn find_body(payload: &[u8], k: usize) -> Span
     ensures { λ r. ⌜ IsBody (now (payload .entry)) k r ⌝ }
 {
-    if LONGEST < payload.len() {
+    if MOST_PAYLOAD < payload.len() {
         return Span {
             start: PayloadOffset(0),
             end: PayloadOffset(0),

@@ -6,7 +6,7 @@ use Prim.Native.Nat.{ℕ, suc, _+_, _*_}
 use lib.Dec.{eqb, leb}
 use lib.ListN.{length, getD, take, drop}
 use Rattle.refusal.specs.declared.Refusal.the-variants.{TooLong, PastLimit, Firmware}
-use Rattle.refusal.specs.Refusal.{numberOf, carriedBy}
+use Rattle.refusal.specs.Refusal.{mostPayload, numberOf, carriedBy}
 use Rattle.text.specs.declared.Verdict.{Verdict}
 use Rattle.text.specs.declared.Verdict.the-variants as text
 use Rattle.frame_text.specs.Rules.{verdict}
@@ -120,7 +120,7 @@ within (x ∷ xs) = leb x most && within xs
 -- TO5, R10: by an accepted text: 4, then 10
 abbrev pub addedIn : Rules → List ℕ → ℕ → List ℕ → List ℕ → Added
 addedIn w t region s totals =
-    cond (leb (length s) 65535) (cond (within (raisedBy w t region s totals)) Counted (Refused PastLimit)) (Refused (TooLong (length s)))
+    cond (leb (length s) mostPayload) (cond (within (raisedBy w t region s totals)) Counted (Refused PastLimit)) (Refused (TooLong (length s)))
 
 -- R1 to R3
 abbrev pub judged : Verdict → Added → Added

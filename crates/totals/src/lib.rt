@@ -16,6 +16,7 @@ use records::Next;
 use records::PayloadOffset;
 use records::Span;
 use records::next_body;
+use refusal::MOST_PAYLOAD;
 use refusal::Refusal;
 use text::Verdict;
 ghost use mathlib.Core.Path.{_≡_};
@@ -26,7 +27,7 @@ ghost use lib.ListN.{length};
 ghost use Rattle.text.specs.declared.Verdict.the-variants.{Accepted};
 ghost use Rattle.frame_text.specs.Rules.{verdict};
 ghost use Rattle.radio.specs.Speed.{RateTable};
-ghost use Rattle.refusal.specs.Refusal.{numberOf};
+ghost use Rattle.refusal.specs.Refusal.{mostPayload, numberOf};
 ghost use Rattle.header_rules.specs.Table.{mostNumbers};
 ghost use Rattle.header.specs.declared.Decoded.the-variants.{Header};
 ghost use Rattle.header.specs.Decode.{decoded};
@@ -158,7 +159,7 @@ fn count_frame(
 // The frame in a body, if it holds one by these rules.
 fn frame_in(rates: &[u8; 512], body: &[u8], rules: Rules) -> Framed
     requires { ⌜ RateTable (now rates) ⌝ }
-    requires { ⌜ (rules .width ≤ 5) × (length (now body) < 65535) ⌝ }
+    requires { ⌜ (rules .width ≤ 5) × (length (now body) < mostPayload) ⌝ }
     ensures { λ r. ⌜ r ≡ framedIn rules (now (body .entry)) ⌝ }
 {
     let Split::Into(parts) = split_body(rates, body, rules) else {
@@ -204,7 +205,7 @@ fn count_frames(
 )
     requires { ⌜ RateTable (now rates) ⌝ }
     requires { ⌜ verdict (now text) ≡ Accepted ⌝ }
-    requires { ⌜ (rules .width ≤ 5) × (length (now payload) ≤ 65535) ⌝ }
+    requires { ⌜ (rules .width ≤ 5) × (length (now payload) ≤ mostPayload) ⌝ }
     requires { ⌜ now sums ≡ zeros ⌝ }
     ensures { λ _.
         ⌜ now (sums .exit) ≡ tallyRows (frameCounts (now (text .entry)) region (now (payload .entry))) zeros (rowsOf rules (now (payload .entry))) ⌝ }
@@ -222,7 +223,7 @@ fn count_frames(
 // The same, with the rates lent once for all frames.
 fn count_payload(text: &[u8], payload: &[u8], region: u64, rules: Rules, sums: &mut [u64; TOTALS])
     requires { ⌜ verdict (now text) ≡ Accepted ⌝ }
-    requires { ⌜ (rules .width ≤ 5) × (length (now payload) ≤ 65535) ⌝ }
+    requires { ⌜ (rules .width ≤ 5) × (length (now payload) ≤ mostPayload) ⌝ }
     requires { ⌜ now sums ≡ zeros ⌝ }
     ensures { λ _.
         ⌜ now (sums .exit) ≡ tallyRows (frameCounts (now (text .entry)) region (now (payload .entry))) zeros (rowsOf rules (now (payload .entry))) ⌝ }
@@ -289,7 +290,7 @@ pub fn add_accepted(
     if rules.width == 0 {
         return Added::Refused(Refusal::Firmware(firmware));
     }
-    if 65535 < payload.len() {
+    if MOST_PAYLOAD < payload.len() {
         return Added::Refused(Refusal::TooLong(payload.len()));
     }
     let mut sums = [0u64; TOTALS];
