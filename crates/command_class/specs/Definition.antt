@@ -7,6 +7,7 @@ use lib.Dec.{eqb}
 use Rattle.text.specs.Text.{lines}
 use Rattle.text.specs.Records.{records}
 use Rattle.text.specs.Listing.{listed}
+use Rattle.command_text.specs.Letters.{letterQ, letterG, letterR, letterA, letterT, letterS, letterU, letterK, letterM}
 use Rattle.command_text.specs.Form.{Param, Group, Record, param, group, item, Detail, variant, array, bitFlag, bitField, const, bitmask, form}
 use Rattle.command_text.specs.Rules.{begins}
 
@@ -62,22 +63,22 @@ definition t = entriesAt 1 (records form (lines t))
 
 -- the letter of an item
 abbrev pub letterOf : Detail → ℕ
-letterOf (variant s) = 0x52
-letterOf (array length ascii) = 0x41
-letterOf (bitFlag mask name) = 0x54
-letterOf (bitField b) = 0x53
-letterOf (const value name) = 0x4b
-letterOf (bitmask length) = 0x4d
+letterOf (variant s) = letterR
+letterOf (array length ascii) = letterA
+letterOf (bitFlag mask name) = letterT
+letterOf (bitField b) = letterS
+letterOf (const value name) = letterK
+letterOf (bitmask length) = letterM
 
 -- the letter of a record
 abbrev pub letter : Record → ℕ
-letter (param q) = 0x51
-letter (group g) = 0x47
+letter (param q) = letterQ
+letter (group g) = letterG
 letter (item d) = letterOf d
 
 -- T27: the letter that a line's letter is read as
 abbrev pub readAs : ℕ → ℕ
-readAs kind = cond (eqb kind 0x55) 0x53 kind
+readAs kind = cond (eqb kind letterU) letterS kind
 
 -- what f tells of an item
 abbrev pub ofItem : {A : Type 0} → (Detail → Option A) → Record → Option A

@@ -5,6 +5,7 @@ use mathlib.Core.Path.{_≡_}
 use mathlib.Core.List.{List, [], _∷_}
 use Rattle.text.specs.Text.{name}
 use Rattle.text.specs.Print.{shown, orDash, Optionally, Writing, IsText}
+use Rattle.command_text.specs.Letters.{letterQ, letterG, letterR, letterA, letterT, letterS, letterU, letterK, letterM}
 use Rattle.command_text.specs.Form.{Param, Record, param, group, item, Detail, variant, array, bitFlag, bitField, const, bitmask, typeName}
 use Rattle.command_text.specs.Rules.{shift, rules}
 
@@ -23,17 +24,17 @@ pub record Spelling : Type 0 where
 
 -- the fields of an item's line
 abbrev pub printItem : Spelling → Detail → List (List ℕ)
-printItem w (variant s) = (0x52 ∷ []) ∷ shown (s .offset) ∷ shown (s .mask) ∷ shiftShown (w .missing) (s .shift) ∷ digit (s .ascii) ∷ []
-printItem w (array length ascii) = (0x41 ∷ []) ∷ shown length ∷ digit ascii ∷ []
-printItem w (bitFlag mask n) = (0x54 ∷ []) ∷ shown mask ∷ n ∷ []
-printItem w (bitField b) = (cond (w .enum) 0x55 0x53 ∷ []) ∷ shown (b .mask) ∷ shiftShown (w .missing) (b .shift) ∷ b .name ∷ []
-printItem w (const value n) = (0x4b ∷ []) ∷ shown value ∷ n ∷ []
-printItem w (bitmask length) = (0x4d ∷ []) ∷ orDash shown length ∷ []
+printItem w (variant s) = (letterR ∷ []) ∷ shown (s .offset) ∷ shown (s .mask) ∷ shiftShown (w .missing) (s .shift) ∷ digit (s .ascii) ∷ []
+printItem w (array length ascii) = (letterA ∷ []) ∷ shown length ∷ digit ascii ∷ []
+printItem w (bitFlag mask n) = (letterT ∷ []) ∷ shown mask ∷ n ∷ []
+printItem w (bitField b) = (cond (w .enum) letterU letterS ∷ []) ∷ shown (b .mask) ∷ shiftShown (w .missing) (b .shift) ∷ b .name ∷ []
+printItem w (const value n) = (letterK ∷ []) ∷ shown value ∷ n ∷ []
+printItem w (bitmask length) = (letterM ∷ []) ∷ orDash shown length ∷ []
 
 -- the fields of a record's line
 abbrev pub print : Spelling → Record → List (List ℕ)
-print w (param q) = (0x51 ∷ []) ∷ shown (q .level) ∷ typeName (q .type) ∷ q .name ∷ orDash shown (q .offset) ∷ orDash shown (q .mask) ∷ []
-print w (group g) = (0x47 ∷ []) ∷ g .name ∷ shown (g .offset) ∷ shown (g .mask) ∷ shown (g .shift) ∷ []
+print w (param q) = (letterQ ∷ []) ∷ shown (q .level) ∷ typeName (q .type) ∷ q .name ∷ orDash shown (q .offset) ∷ orDash shown (q .mask) ∷ []
+print w (group g) = (letterG ∷ []) ∷ g .name ∷ shown (g .offset) ∷ shown (g .mask) ∷ shown (g .shift) ∷ []
 print w (item d) = printItem w d
 
 -- what a Q can say

@@ -12,6 +12,7 @@ ghost use lib.Dec.{eqb};
 ghost use lib.ListN.{length};
 ghost use Rattle.text.specs.Fields.{fieldsAt};
 ghost use Rattle.text.specs.Records.{Readable};
+ghost use Rattle.command_text.specs.Letters.{letterQ, letterG, letterR, letterA, letterT, letterS, letterK, letterM};
 ghost use Rattle.command_text.specs.Form.{typeOf, known};
 ghost use Rattle.command_text.specs.Rules.{rules};
 ghost use Rattle.command_class.specs.Definition.{under, readAs, firstConst, valueIn, constIn};
@@ -44,7 +45,7 @@ struct Condition {
 
 // Is it a kind that begins an entry: a Q or a G?
 pub fn is_entry(kind: u8) -> bool
-    ensures { λ r. ⌜ r ≡ among 81 71 71 kind ⌝ }
+    ensures { λ r. ⌜ r ≡ among letterQ letterG letterG kind ⌝ }
 {
     if kind == b'Q' {
         return true;
@@ -76,7 +77,7 @@ fn type_of(s: &[u8]) -> ParamType
 
 // What a G line says.
 fn read_group(text: &[u8], line: Line) -> Row
-    requires { ⌜ (Good (now text) line) × (line .kind ≡ 71) ⌝ }
+    requires { ⌜ (Good (now text) line) × (line .kind ≡ letterG) ⌝ }
     ensures { λ r. ⌜ Tells (now (text .entry)) line r ⌝ }
 {
     Row {
@@ -93,7 +94,7 @@ fn read_group(text: &[u8], line: Line) -> Row
 
 // What an R line says.
 fn read_variant(text: &[u8], line: Line) -> Row
-    requires { ⌜ (Good (now text) line) × (line .kind ≡ 82) ⌝ }
+    requires { ⌜ (Good (now text) line) × (line .kind ≡ letterR) ⌝ }
     ensures { λ r. ⌜ Tells (now (text .entry)) line r ⌝ }
 {
     Row {
@@ -110,7 +111,7 @@ fn read_variant(text: &[u8], line: Line) -> Row
 
 // What an A line says.
 fn read_array(text: &[u8], line: Line) -> Row
-    requires { ⌜ (Good (now text) line) × (line .kind ≡ 65) ⌝ }
+    requires { ⌜ (Good (now text) line) × (line .kind ≡ letterA) ⌝ }
     ensures { λ r. ⌜ Tells (now (text .entry)) line r ⌝ }
 {
     Row {
@@ -127,7 +128,7 @@ fn read_array(text: &[u8], line: Line) -> Row
 
 // What an M line says.
 fn read_bitmask(text: &[u8], line: Line) -> Row
-    requires { ⌜ (Good (now text) line) × (line .kind ≡ 77) ⌝ }
+    requires { ⌜ (Good (now text) line) × (line .kind ≡ letterM) ⌝ }
     ensures { λ r. ⌜ Tells (now (text .entry)) line r ⌝ }
 {
     Row {
@@ -144,7 +145,7 @@ fn read_bitmask(text: &[u8], line: Line) -> Row
 
 // What a line says that is no T, S, K or Q.
 fn read_row(text: &[u8], line: Line) -> Row
-    requires { ⌜ (Good (now text) line) × (among 84 83 75 (readAs (line .kind)) ≡ false) × (eqb (line .kind) 81 ≡ false) ⌝ }
+    requires { ⌜ (Good (now text) line) × (among letterT letterS letterK (readAs (line .kind)) ≡ false) × (eqb (line .kind) letterQ ≡ false) ⌝ }
     ensures { λ r. ⌜ Tells (now (text .entry)) line r ⌝ }
 {
     let kind = line.kind;
@@ -171,7 +172,7 @@ pub fn kind_at(text: &[u8], place: Place) -> u8
 
 // Is it a kind whose numbers stand in front of its name: a T, S or K?
 fn is_numbered(kind: u8) -> bool
-    ensures { λ r. ⌜ r ≡ among 84 83 75 kind ⌝ }
+    ensures { λ r. ⌜ r ≡ among letterT letterS letterK kind ⌝ }
 {
     if kind == b'T' {
         return true;
@@ -199,7 +200,7 @@ fn read_condition(text: &[u8], at: usize) -> Condition
 
 // A Q line, and the place after it. The level is one digit; of the other fields only those are read that say the type and numbers.
 fn read_param(text: &[u8], place: Place) -> Read
-    requires { ⌜ (Readable rules (now text) place) × (place .at < length (now text)) × (Begins (now text) place 81) ⌝ }
+    requires { ⌜ (Readable rules (now text) place) × (place .at < length (now text)) × (Begins (now text) place letterQ) ⌝ }
     ensures { λ r. ⌜ IsRead (now (text .entry)) place r ⌝ }
 {
     let level = place.at + 2;
@@ -229,7 +230,7 @@ fn read_param(text: &[u8], place: Place) -> Read
 // What a T, S or K line says. Of its fields only the numbers are looked for: they stand behind the kind, and a tab ends each.
 fn read_numbered(text: &[u8], place: Place, kind: u8) -> Row
     requires { ⌜ (Readable rules (now text) place) × (place .at < length (now text)) × (Begins (now text) place kind)
-        × (among 84 83 75 kind ≡ true) ⌝ }
+        × (among letterT letterS letterK kind ≡ true) ⌝ }
     ensures { λ r. ⌜ Numbers (now (text .entry)) place r ⌝ }
 {
     let at = place.at + 2;

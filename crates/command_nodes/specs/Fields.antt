@@ -10,6 +10,7 @@ use Rattle.command_text.specs.declared.ParamType.{ParamType}
 use Rattle.command_text.specs.declared.ParamType.the-variants.{Byte, StructByte, Const, Marker, Word, Bit24, Dword, Array, Variant, Bitmask, MultiArray}
 use Rattle.command_text.specs.declared.Typed.{Typed}
 use Rattle.command_text.specs.declared.Typed.the-variants.{Is, Not}
+use Rattle.command_text.specs.Letters.{letterQ}
 use Rattle.command_class.specs.Definition.{Item, numbered}
 use Rattle.command_class.specs.declared.Row.{Row as Line}
 use Rattle.command_rules.specs.declared.Row.{Row}
@@ -23,7 +24,7 @@ typeSaid (item d) = Not
 
 -- the same by the numbers of the line
 abbrev pub typeRead : Line → Typed
-typeRead r = cond (eqb (r .kind) 0x51) (Is (r .typed)) Not
+typeRead r = cond (eqb (r .kind) letterQ) (Is (r .typed)) Not
 
 -- the type that line k says, among these
 abbrev pub typeAmong : ℕ → List Item → Typed

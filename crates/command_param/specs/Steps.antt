@@ -7,6 +7,7 @@ use lib.Bits.{bitAnd}
 use lib.Dec.{eqb}
 use lib.ListN.{length}
 use Rattle.records.specs.declared.BodyOffset.{BodyOffset}
+use Rattle.command_text.specs.Letters.{letterT}
 use Rattle.command_class.specs.declared.Row.{Row as Line}
 use Rattle.command_lengths.specs.Entries.{earlier}
 use Rattle.command_rules.specs.Lengths.{masked, wanted, Agrees}
@@ -22,7 +23,7 @@ use Rattle.command_param.specs.declared.Param.the-variants.{Read, Absent
 
 -- the value of a T or S line, by the numbers of the line
 abbrev pub bitNumber : ℕ → Line → ℕ
-bitNumber b l = cond (eqb (l .kind) 0x54) (cond (eqb (bitAnd b (l .mask)) 0) 0 1) (masked b (l .mask) (record { 0 = l .shift }))
+bitNumber b l = cond (eqb (l .kind) letterT) (cond (eqb (bitAnd b (l .mask)) 0) 0 1) (masked b (l .mask) (record { 0 = l .shift }))
 
 -- a Q of this length is written, its own row as row n
 pub record WritesParam (body : List ℕ) (q : Field) (at : ℕ) (size : Length) (n parent s : ℕ) (t t′ : List ℕ) (r : Wrote) : Type 0 where

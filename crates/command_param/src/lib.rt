@@ -13,6 +13,7 @@ ghost use mathlib.Core.Path.{_≡_};
 ghost use mathlib.Core.List.{[], _∷_};
 ghost use Prim.Native.Nat.{_+_, _-_, _%_, _^_, _≤_, _<_};
 ghost use lib.ListN.{length};
+ghost use Rattle.command_text.specs.Letters.{letterT, letterS};
 ghost use Rattle.command_class.specs.Definition.{under};
 ghost use Rattle.command_class.specs.Find.{from, among};
 ghost use Rattle.command_lengths.specs.Entries.{entries, earlier};
@@ -196,7 +197,7 @@ fn bit_row(line: Line, number: usize, b: u16, start: PayloadOffset, parent: u64)
 }
 
 fn is_bits(kind: u8) -> bool
-    ensures { λ r. ⌜ r ≡ among 84 83 83 kind ⌝ }
+    ensures { λ r. ⌜ r ≡ among letterT letterS letterS kind ⌝ }
 {
     if kind == b'T' {
         return true;

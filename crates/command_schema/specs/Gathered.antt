@@ -10,6 +10,7 @@ use Rattle.text.specs.declared.Place.{Place}
 use Rattle.command_text.specs.Form.{Record, Size, param, group, item, Detail, variant, array, bitFlag, bitField, const, bitmask}
 use Rattle.command_text.specs.Rules.{rules}
 use Rattle.command_class.specs.Definition.{Item, under}
+use Rattle.command_text.specs.Letters.{letterR, letterA, letterT, letterS, letterM}
 use Rattle.command_class.specs.Find.{from, among, orMissing}
 use Rattle.command_class.specs.declared.Row.{Row}
 use Rattle.command_lengths.specs.Entries.{given}
@@ -75,10 +76,10 @@ noted g (item d) = notedItem g d
 -- the same, by the numbers of a line
 abbrev pub notedRow : Gathered → Row → Gathered
 notedRow g r =
-    cond (eqb (r .kind) 0x52) (withVariant g (r .offset) (r .mask) (r .shift) (r .ascii))
-    (cond (eqb (r .kind) 0x41) (withArray g (r .value) (r .ascii))
-    (cond (eqb (r .kind) 0x4d) (withBitmask g (r .value))
-    (cond (among 0x54 0x53 0x53 (r .kind)) (withBits g) g)))
+    cond (eqb (r .kind) letterR) (withVariant g (r .offset) (r .mask) (r .shift) (r .ascii))
+    (cond (eqb (r .kind) letterA) (withArray g (r .value) (r .ascii))
+    (cond (eqb (r .kind) letterM) (withBitmask g (r .value))
+    (cond (among letterT letterS letterS (r .kind)) (withBits g) g)))
 
 -- with these lines more
 unfoldable pub gathered : Gathered → List Item → Gathered

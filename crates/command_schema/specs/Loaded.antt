@@ -10,6 +10,7 @@ use Rattle.text.specs.Records.{Readable}
 use Rattle.text.specs.declared.Place.{Place}
 use Rattle.command_text.specs.Form.{Group, variant}
 use Rattle.command_text.specs.Rules.{rules}
+use Rattle.command_text.specs.Letters.{letterQ, letterG}
 use Rattle.command_class.specs.Definition.{Parameter, under}
 use Rattle.command_class.specs.Find.{from}
 use Rattle.command_class.specs.declared.Row.{Row}
@@ -70,10 +71,10 @@ ruleIn l = cond (ltb (l .length) 256) (Fixed (l .length)) (cond (eqb (l .length)
 
 -- a Q of a group, a Q of the outer list
 abbrev pub isMember : Loaded → Bool
-isMember l = eqb (l .kind) 0x51 && eqb (l .level) 1
+isMember l = eqb (l .kind) letterQ && eqb (l .level) 1
 
 abbrev pub isOuter : Loaded → Bool
-isOuter l = eqb (l .kind) 0x51 && eqb (l .level) 0
+isOuter l = eqb (l .kind) letterQ && eqb (l .level) 0
 
 -- the place after the line of a Q
 abbrev pub after : Loaded → Place
@@ -99,14 +100,14 @@ pub record Stands (t : List ℕ) (l : Loaded) : Type 0 where
 
 -- a row tells a Q
 pub record TellsQ (t : List ℕ) (l : Loaded) (q : Parameter) : Type 0 where
-  pub kind : l .kind ≡ 0x51
+  pub kind : l .kind ≡ letterQ
   pub level : l .level ≡ q .says .level
   pub field : fieldIn t l ≡ fieldOf q
   pub stands : Stands t l
 
 -- a row tells a G
 pub record TellsG (l : Loaded) (line : ℕ) (g : Group) : Type 0 where
-  pub kind : l .kind ≡ 0x47
+  pub kind : l .kind ≡ letterG
   pub line-is : l .line ≡ line
   pub offset : l .paramoffs ≡ g .offset
   pub mask : l .sizemask ≡ g .mask
@@ -135,7 +136,7 @@ pub record IsLoaded (t d : List ℕ) (n : ℕ) : Type 0 where
 abbrev pub loadedParam : Row → Place → Place → Gathered → Loaded
 loadedParam r p next g =
     record {
-      kind = 0x51;
+      kind = letterQ;
       level = r .level;
       line = p .line;
       at = next .at;
@@ -153,7 +154,7 @@ loadedParam r p next g =
 abbrev pub loadedGroup : Row → Place → Loaded
 loadedGroup r p =
     record {
-      kind = 0x47;
+      kind = letterG;
       level = 0;
       line = p .line;
       at = 0;

@@ -26,9 +26,14 @@ ghost use Rattle.command_schema.specs.Loaded.{Stores};
 // The numbers of a loaded row.
 pub const LOADED_WIDTH: usize = 12;
 
+// The kind of a loaded Q.
+pub const Q_KIND: u16 = b'Q' as u16;
+
+// The kind of a loaded G.
+pub const G_KIND: u16 = b'G' as u16;
+
 // A Q or a G as it is loaded. Offsets, masks and shifts have the source's XML names.
 pub struct Loaded {
-    // b'Q' or b'G'.
     pub kind: u16,
     pub level: u16,
     pub line: u16,
@@ -54,7 +59,7 @@ impl Loaded {
     pub fn is_member(self) -> bool
         ensures { λ r. ⌜ r ≡ isMember self ⌝ }
     {
-        if self.kind != 81 {
+        if self.kind != Q_KIND {
             return false;
         }
         self.level == 1
@@ -64,7 +69,7 @@ impl Loaded {
     pub fn is_outer(self) -> bool
         ensures { λ r. ⌜ r ≡ isOuter self ⌝ }
     {
-        if self.kind != 81 {
+        if self.kind != Q_KIND {
             return false;
         }
         self.level == 0
@@ -154,7 +159,7 @@ fn load_param(row: Row, place: Place, next: Place, g: Gathered) -> Loaded
 {
     let typed = row.typed;
     Loaded {
-        kind: 81,
+        kind: Q_KIND,
         level: row.level,
         line: place.line as u16,
         at: next.at as u16,
@@ -175,7 +180,7 @@ fn load_group(row: Row, place: Place) -> Loaded
     ensures { λ r. ⌜ r ≡ loadedGroup row place ⌝ }
 {
     Loaded {
-        kind: 71,
+        kind: G_KIND,
         level: 0,
         line: place.line as u16,
         at: 0,

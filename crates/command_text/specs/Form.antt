@@ -7,6 +7,7 @@ use lib.Dec.{eqb}
 use lib.ListN.{length}
 use Rattle.text.specs.Text.{field, same, worth, upTo, missing, optionalUpTo, name}
 use Rattle.text.specs.Place.{kindOf}
+use Rattle.command_text.specs.Letters.{letterQ, letterG, letterR, letterA, letterT, letterS, letterU, letterK, letterM}
 use Rattle.command_text.specs.declared.ParamType.{ParamType}
 use Rattle.command_text.specs.declared.ParamType.the-variants.{Byte, StructByte, Const, Marker, Word, Bit24, Dword, Array, Variant, Bitmask, MultiArray}
 use Rattle.command_text.specs.declared.Typed.{Typed}
@@ -183,12 +184,12 @@ paramSaid fs = said (paramForm fs) (ofType fs (typeOf (field 2 fs)))
 -- the record that the fields of a line say, if the line is one of the forms. T27: a U is read as an S
 abbrev pub form : List (List ℕ) → Option Record
 form fs =
-    cond (eqb (kindOf fs) 0x51) (paramSaid fs)
-    (cond (eqb (kindOf fs) 0x47) (said (groupForm fs) (some (group (groupOf fs))))
-    (cond (eqb (kindOf fs) 0x52) (said (variantForm fs) (some (item (variant (sizeOf fs)))))
-    (cond (eqb (kindOf fs) 0x41) (said (arrayForm fs) (some (item (array (value (field 1 fs)) (asciiOf (field 2 fs))))))
-    (cond (eqb (kindOf fs) 0x54) (said (namedForm fs) (some (item (bitFlag (value (field 1 fs)) (field 2 fs)))))
-    (cond (eqb (kindOf fs) 0x53) (said (bitsForm fs) (some (item (bitField (bitsOf fs)))))
-    (cond (eqb (kindOf fs) 0x55) (said (bitsForm fs) (some (item (bitField (bitsOf fs)))))
-    (cond (eqb (kindOf fs) 0x4b) (said (namedForm fs) (some (item (const (value (field 1 fs)) (field 2 fs)))))
-    (cond (eqb (kindOf fs) 0x4d) (said (bitmaskForm fs) (some (item (bitmask (given (field 1 fs)))))) none))))))))
+    cond (eqb (kindOf fs) letterQ) (paramSaid fs)
+    (cond (eqb (kindOf fs) letterG) (said (groupForm fs) (some (group (groupOf fs))))
+    (cond (eqb (kindOf fs) letterR) (said (variantForm fs) (some (item (variant (sizeOf fs)))))
+    (cond (eqb (kindOf fs) letterA) (said (arrayForm fs) (some (item (array (value (field 1 fs)) (asciiOf (field 2 fs))))))
+    (cond (eqb (kindOf fs) letterT) (said (namedForm fs) (some (item (bitFlag (value (field 1 fs)) (field 2 fs)))))
+    (cond (eqb (kindOf fs) letterS) (said (bitsForm fs) (some (item (bitField (bitsOf fs)))))
+    (cond (eqb (kindOf fs) letterU) (said (bitsForm fs) (some (item (bitField (bitsOf fs)))))
+    (cond (eqb (kindOf fs) letterK) (said (namedForm fs) (some (item (const (value (field 1 fs)) (field 2 fs)))))
+    (cond (eqb (kindOf fs) letterM) (said (bitmaskForm fs) (some (item (bitmask (given (field 1 fs)))))) none))))))))

@@ -6,6 +6,7 @@ use lib.Dec.{eqb}
 use Rattle.text.specs.Text.{lines}
 use Rattle.text.specs.Records.{records}
 use Rattle.command_text.specs.Form.{form}
+use Rattle.command_text.specs.Letters.{letterT}
 use Rattle.command_class.specs.Definition.{Item, numbered, under, letter, constIn}
 use Rattle.command_rules.specs.Field.{first, asArray, asVariant, arrayAscii, variantAscii}
 use Rattle.command_rules.specs.declared.Row.{Row}
@@ -42,7 +43,7 @@ constName n is = constIn (since n is)
 
 abbrev pub flagIn : List Item → Bool
 flagIn [] = false
-flagIn (i ∷ is) = eqb (letter (i .says)) 0x54
+flagIn (i ∷ is) = eqb (letter (i .says)) letterT
 
 -- C11: is the line n a T
 abbrev pub isFlag : List ℕ → ℕ → Bool

@@ -12,6 +12,7 @@ ghost use lib.Dec.{eqb};
 ghost use lib.ListN.{length};
 ghost use Rattle.text.specs.Records.{Readable};
 ghost use Rattle.text.specs.declared.Verdict.the-variants.{Accepted};
+ghost use Rattle.command_text.specs.Letters.{letterR, letterA};
 ghost use Rattle.command_text.specs.Rules.{rules, verdict};
 ghost use Rattle.command_class.specs.Definition.{under};
 ghost use Rattle.command_class.specs.Find.{from, among};
@@ -54,7 +55,7 @@ pub fn find_items(text: &[u8], n: u64) -> Place
 
 // Is the line at a place the first of a kind under its Q, if none was seen before, and ascii?
 fn is_ascii_at(text: &[u8], place: Place, letter: u8, seen: bool) -> bool
-    requires { ⌜ (Readable rules (now text) place) × (place .at < length (now text)) × (among 65 82 82 letter ≡ true) ⌝ }
+    requires { ⌜ (Readable rules (now text) place) × (place .at < length (now text)) × (among letterA letterR letterR letter ≡ true) ⌝ }
     ensures { λ r. ⌜ r ≡ asciiHere letter seen (from (now (text .entry)) place) ⌝ }
 {
     if seen {

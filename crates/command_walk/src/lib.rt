@@ -9,6 +9,7 @@ use command_groups::repeats_at;
 use command_param::Param;
 use command_param::Spot;
 use command_rules::Offsets;
+use command_schema::G_KIND;
 use records::BodyOffset;
 ghost use Prim.Native.Nat.{_<_};
 ghost use lib.ListN.{length};
@@ -61,7 +62,7 @@ pub fn walk_params(
             j += 1;
             continue;
         }
-        if q.kind == 71 {
+        if q.kind == G_KIND {
             let group = Group {
                 line: q.line,
                 first: j + 1,

@@ -5,24 +5,25 @@ use mathlib.Core.List.{List, [], _∷_}
 use lib.Dec.{leb, eqb}
 use Rattle.text.specs.Text.{lines, fields}
 use Rattle.text.specs.Place.{kindOf}
+use Rattle.frame_kept.specs.Letters.{letterF, letterB, letterH, letterP, letterV, letterD}
 
 -- X12: how far the lines have come: 0 among the F lines, 1 in a B, 2 in an H and before its V lines, 3 among its V lines, 4 in a D. May a line of this
 -- letter stand there? Which lines may stand under which is for the check of the text to say
 abbrev pub stands : ℕ → ℕ → Bool
 stands far letter =
-    cond (eqb letter 0x46) (eqb far 0)
-    (cond (eqb letter 0x42) (leb far 1)
-    (cond (eqb letter 0x48) (leb far 3)
-    (cond (eqb letter 0x50) (not (eqb far 3)) true)))
+    cond (eqb letter letterF) (eqb far 0)
+    (cond (eqb letter letterB) (leb far 1)
+    (cond (eqb letter letterH) (leb far 3)
+    (cond (eqb letter letterP) (not (eqb far 3)) true)))
 
 -- X12: how far they have come with it
 abbrev pub farther : ℕ → ℕ → ℕ
 farther far letter =
-    cond (eqb letter 0x46) 0
-    (cond (eqb letter 0x42) 1
-    (cond (eqb letter 0x48) 2
-    (cond (eqb letter 0x56) 3
-    (cond (eqb letter 0x44) 4 far))))
+    cond (eqb letter letterF) 0
+    (cond (eqb letter letterB) 1
+    (cond (eqb letter letterH) 2
+    (cond (eqb letter letterV) 3
+    (cond (eqb letter letterD) 4 far))))
 
 -- X2, X12: the first of these lines that is out of plain form, where the first of them has the number n; 0 where none is. What stands behind the last 0x0A is
 -- no line

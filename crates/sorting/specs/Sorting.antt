@@ -13,6 +13,7 @@ use Rattle.text.specs.Scan.{cut}
 use Rattle.text.specs.Print.{Every}
 use Rattle.text.specs.Records.{Readable}
 use Rattle.text.specs.declared.Place.{Place}
+use Rattle.frame_kept.specs.Letters.{letterH}
 use Rattle.frame_text.specs.Rules.{rules, verdict}
 use Rattle.reorder.specs.Blocks.{only, letterOf, ownsMore, untilNext, ended, Line, saysOf}
 use Rattle.reorder.specs.Sorted.{upTo, sortBy, placed, sortedText}
@@ -47,7 +48,7 @@ earlier t p q = upTo (nameAt t p) (nameAt t q)
 
 -- does an H line stand there
 abbrev pub isHeader : List ℕ → ℕ → Bool
-isHeader t p = eqb (letterOf (saysOf (lineAt t p))) 0x48
+isHeader t p = eqb (letterOf (saysOf (lineAt t p))) letterH
 
 -- where the sections begin of lines of which the first begins at a place
 abbrev pub startsFrom : ℕ → List Line → List ℕ

@@ -7,11 +7,12 @@ use lib.Dec.{eqb}
 use lib.ListN.{length}
 use Rattle.buffer.specs.Buffer.{answerIn, answerBy, bufferAfter}
 use Rattle.buffer.specs.declared.Written.{Written}
+use Rattle.command_text.specs.Letters.{letterS, letterU}
 use Rattle.command_text.specs.Rules.{verdict}
 
 -- U2: a byte that is the first of its line, or not: a U with which a line begins becomes an S
 abbrev pub tidyByte : Bool → ℕ → ℕ
-tidyByte first x = cond (first && eqb x 0x55) 0x53 x
+tidyByte first x = cond (first && eqb x letterU) letterS x
 
 -- U2: the same for all bytes of a text, of which the first is that of a line, or not
 abbrev pub tidyFrom : Bool → List ℕ → List ℕ
