@@ -36,18 +36,22 @@ pub record Good (t : List ℕ) (l : Line) : Type 0 where
 abbrev pub among : ℕ → ℕ → ℕ → ℕ → Bool
 among a b c k = eqb k a || (eqb k b || eqb k c)
 
--- a number that may be missing: 256
+-- how a missing offset, mask or length is kept: the others are up to 255
+abbrev pub noNumber : ℕ
+noNumber = 256
+
+-- a number that may be missing
 abbrev pub orMissing : Option ℕ → ℕ
-orMissing none = 256
+orMissing none = noNumber
 orMissing (some n) = n
 
 -- the same, of what a field says
 abbrev pub optionalOr : Optional → ℕ
 optionalOr (Given n) = n
-optionalOr Missing = 256
-optionalOr Wrong = 256
+optionalOr Missing = noNumber
+optionalOr Wrong = noNumber
 
--- the number that a field says, 256 where it is missing
+-- the number that a field says, if it is not missing
 unfoldable pub numberOr : List ℕ → ℕ
 numberOr l = optionalOr (optional 255 l)
 

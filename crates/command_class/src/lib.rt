@@ -18,7 +18,10 @@ ghost use Rattle.command_text.specs.Rules.{rules};
 ghost use Rattle.command_class.specs.Definition.{under, readAs, firstConst, valueIn, constIn};
 ghost use Rattle.command_class.specs.Find.{from, Good, among, numberOr, Tells, Numbers, IsRead, IsCondition, Begins, Follows};
 
-// What a line says, as numbers; 256 for a missing offset, mask or length, 0 where the line has no such number.
+// How a missing offset, mask or length is kept: the others are up to 255.
+pub const NO_NUMBER: u16 = 256;
+
+// What a line says, as numbers; NO_NUMBER for a missing offset, mask or length, 0 where the line has no such number.
 pub struct Row {
     pub kind: u8,
     pub level: u16,
@@ -53,14 +56,14 @@ pub fn is_entry(kind: u8) -> bool
     kind == b'G'
 }
 
-// The number that a field says, or 256 where it is missing.
+// The number that a field says, or NO_NUMBER where it is missing.
 fn or_missing(s: &[u8]) -> u16
     ensures { λ r. ⌜ r ≡ numberOr (now (s .entry)) ⌝ }
 {
     match text::read_optional(s, 255) {
         Optional::Given(n) => n,
-        Optional::Missing => 256,
-        Optional::Wrong => 256,
+        Optional::Missing => NO_NUMBER,
+        Optional::Wrong => NO_NUMBER,
     }
 }
 

@@ -8,8 +8,9 @@ use lib.Dec.{ltb}
 use lib.ListN.{length, set}
 use Rattle.records.specs.declared.BodyOffset.{BodyOffset}
 use Rattle.command_class.specs.Definition.{Parameter}
+use Rattle.command_lengths.specs.Entries.{noEntry}
 use Rattle.command_rows.specs.Rows.{written}
-use Rattle.command_rules.specs.Lengths.{least}
+use Rattle.command_rules.specs.Lengths.{least, mostEntries}
 use Rattle.command_rules.specs.Walk.{Walked, turn, repetitionRow}
 use Rattle.command_rules.specs.declared.Offsets.{Offsets}
 use Rattle.command_rules.specs.declared.Offsets.the-variants.{Answered, Position}
@@ -53,9 +54,9 @@ module _ (body : List ℕ) (line : ℕ) (qs : List Parameter) (number at n s : �
 -- how they stand in their places
 abbrev pub unvaluedKept : Offsets → List ℕ → ℕ → List ℕ
 unvaluedKept Answered kept have = kept
-unvaluedKept Position kept have = set kept have 257
+unvaluedKept Position kept have = set kept have noEntry
 
 -- how many they are
 abbrev pub unvaluedHave : Offsets → ℕ → ℕ → ℕ
-unvaluedHave Answered have times = least (have + times) 256
-unvaluedHave Position have times = least (have + 1) 256
+unvaluedHave Answered have times = least (have + times) mostEntries
+unvaluedHave Position have times = least (have + 1) mostEntries

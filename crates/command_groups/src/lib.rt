@@ -1,9 +1,12 @@
 // A group of a command: its members, its repetitions, and how often it repeats; and the entries that a list keeps.
 // Each function writes the rows for which there is room in its part of the table, and counts all.
+use command_lengths::NO_ENTRY;
 use command_param::Param;
 use command_param::Spot;
 use command_rules::BitShift;
+use command_rules::MOST_ENTRIES;
 use command_rules::Offsets;
+use command_rules::REPETITION_KIND;
 use command_rules::Row;
 use command_schema::Loaded;
 use records::BodyOffset;
@@ -12,18 +15,12 @@ ghost use mathlib.Core.List.{[]};
 ghost use Prim.Native.Nat.{_+_, _-_, _^_, _≤_, _<_};
 ghost use lib.ListN.{length, drop, set};
 ghost use Rattle.command_lengths.specs.Entries.{entries};
-ghost use Rattle.command_rules.specs.Lengths.{least, repeats};
+ghost use Rattle.command_rules.specs.Lengths.{least, mostEntries, repeats};
 ghost use Rattle.command_schema.specs.Heads.{headsOf, membersOf};
 ghost use Rattle.command_schema.specs.Loaded.{fieldIn, Stands, IsLoaded};
 ghost use Rattle.command_param.specs.Steps.{ReadsParam};
 ghost use Rattle.command_rules.specs.Walk.{members, turn, repetitionRow, repetitions};
 ghost use Rattle.command_groups.specs.Steps.{Gives, GivesGroup, Repeats, unvaluedKept, unvaluedHave};
-
-// The entries of a list that an offset can count to.
-const ENTRIES: usize = 256;
-
-// How an entry is kept that no offset finds.
-const NO_ENTRY: u16 = 257;
 
 // A group: the line of its G, the loaded row of its first member, and how many rows are loaded.
 pub struct Group {
@@ -61,10 +58,10 @@ pub struct Repeated {
 
 // Keeps one more entry, while an offset can count to it. Returns how many are kept.
 pub fn keep(kept: &mut [u16], have: usize, entry: u16) -> usize
-    requires { ⌜ (have ≤ 256) × (length (now kept) ≡ 256) ⌝ }
-    ensures { λ r. ⌜ (now (kept .exit) ≡ set (now (kept .entry)) have entry) × (r ≡ least (have + 1) 256) ⌝ }
+    requires { ⌜ (have ≤ mostEntries) × (length (now kept) ≡ mostEntries) ⌝ }
+    ensures { λ r. ⌜ (now (kept .exit) ≡ set (now (kept .entry)) have entry) × (r ≡ least (have + 1) mostEntries) ⌝ }
 {
-    if have < ENTRIES {
+    if have < MOST_ENTRIES {
         kept[have] = entry;
         return have + 1;
     }
@@ -73,19 +70,19 @@ pub fn keep(kept: &mut [u16], have: usize, entry: u16) -> usize
 
 // As many entries without value: the places that follow say so already.
 fn keep_repetitions(have: usize, times: usize) -> usize
-    requires { ⌜ have ≤ 256 ⌝ }
-    ensures { λ r. ⌜ r ≡ least (have + times) 256 ⌝ }
+    requires { ⌜ have ≤ mostEntries ⌝ }
+    ensures { λ r. ⌜ r ≡ least (have + times) mostEntries ⌝ }
 {
-    if times <= ENTRIES - have {
+    if times <= MOST_ENTRIES - have {
         return have + times;
     }
-    ENTRIES
+    MOST_ENTRIES
 }
 
 // Keeps what a group adds that repeats so often, or a Q that does not exist, which has no repetitions: an entry without value for each, or by position one that
 // no offset finds.
 pub fn keep_unvalued(offsets: Offsets, kept: &mut [u16], have: usize, times: usize) -> usize
-    requires { ⌜ (have ≤ 256) × (length (now kept) ≡ 256) ⌝ }
+    requires { ⌜ (have ≤ mostEntries) × (length (now kept) ≡ mostEntries) ⌝ }
     ensures { λ r. ⌜ (now (kept .exit) ≡ unvaluedKept offsets (now (kept .entry)) have) × (r ≡ unvaluedHave offsets have times) ⌝ }
 {
     match offsets {
@@ -131,7 +128,7 @@ fn read_members(
     rows: &mut [u64],
 ) -> Taken
     requires { ⌜ (IsLoaded (now text) (now loaded) (group .count)) × (group .first ≤ group .count) × (length (now body) < 65536)
-        × (length (now kept) ≡ 256) × (spot .row < 2 ^ 49) ⌝ }
+        × (length (now kept) ≡ mostEntries) × (spot .row < 2 ^ 49) ⌝ }
     ensures { λ r. ⌜ Gives (members (now (body .entry)) (membersOf (drop (group .first) (headsOf (now (text .entry))))) (spot .at .0) [] (spot .row)
         (spot .parent)) (spot .skip) (now (rows .entry)) 0 (now (rows .exit)) r ⌝ }
 {
@@ -183,7 +180,7 @@ fn repetition_row(line: u16, at: BodyOffset, end: BodyOffset, number: usize) -> 
     let from = command_param::in_payload(at);
     let to = command_param::in_payload(end);
     Row {
-        kind: 2,
+        kind: REPETITION_KIND,
         line: line as u64,
         parent: 0,
         start: from.0 as u64,
@@ -207,7 +204,7 @@ fn members_at(
     rows: &mut [u64],
 ) -> Taken
     requires { ⌜ (IsLoaded (now text) (now loaded) (group .count)) × (group .first ≤ group .count) × (length (now body) < 65536)
-        × (length (now kept) ≡ 256) × (repetition .row < 2 ^ 48) ⌝ }
+        × (length (now kept) ≡ mostEntries) × (repetition .row < 2 ^ 48) ⌝ }
     ensures { λ r. ⌜ Gives (turn (now (body .entry)) (membersOf (drop (group .first) (headsOf (now (text .entry))))) (repetition .at .0) (repetition .row))
         (repetition .skip) (now (rows .entry)) 1 (now (rows .exit)) r ⌝ }
 {
@@ -234,7 +231,7 @@ fn read_repetition(
     rows: &mut [u64],
 ) -> Repetition
     requires { ⌜ (IsLoaded (now text) (now loaded) (group .count)) × (group .first ≤ group .count) × (length (now body) < 65536)
-        × (length (now kept) ≡ 256) × (repetition .row < 2 ^ 48) ⌝ }
+        × (length (now kept) ≡ mostEntries) × (repetition .row < 2 ^ 48) ⌝ }
     ensures { λ r. ⌜ Repeats (now (body .entry)) (group .line) (membersOf (drop (group .first) (headsOf (now (text .entry))))) (repetition .number)
         (repetition .at .0)
         (repetition .row) (repetition .skip) (now (rows .entry)) 0 (now (rows .exit)) r ⌝ }
@@ -268,7 +265,7 @@ fn repetition_at(
     rows: &mut [u64],
 ) -> Repetition
     requires { ⌜ (IsLoaded (now text) (now loaded) (group .count)) × (group .first ≤ group .count) × (length (now body) < 65536)
-        × (length (now kept) ≡ 256) × (repetition .row < 2 ^ 48) ⌝ }
+        × (length (now kept) ≡ mostEntries) × (repetition .row < 2 ^ 48) ⌝ }
     ensures { λ r. ⌜ Repeats (now (body .entry)) (group .line) (membersOf (drop (group .first) (headsOf (now (text .entry))))) (repetition .number)
         (repetition .at .0)
         (repetition .row) (repetition .skip) (now (rows .entry)) (repetition .row) (now (rows .exit)) r ⌝ }
@@ -308,7 +305,7 @@ pub fn read_group(
     ensures { λ r. ⌜ GivesGroup (repetitions (now (body .entry)) (group .line) (membersOf (drop (group .first) (headsOf (now (text .entry))))) most 0
         (spot .at .0) (spot .row)) (spot .skip) (now (rows .entry)) (spot .row) (now (rows .exit)) r ⌝ }
 {
-    let mut kept = [0u16; 256];
+    let mut kept = [0u16; MOST_ENTRIES];
     let mut from = spot.at;
     let mut next: usize = 0;
     let mut times: usize = 0;

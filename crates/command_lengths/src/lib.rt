@@ -1,7 +1,7 @@
 // What a Q takes and how often a group repeats, by the entries already answered. Counterpart of `is_present` and `variable_len` of
 // command_class/decode.rs.
-// Of an entry later lengths, conditions and counts want only whether it has a value, and its low byte: `es` are the first 256 entries of a list,
-// one number each, 256 for an entry without value. A number of a definition that may be missing is 256 where it is.
+// Of an entry later lengths, conditions and counts want only whether it has a value, and its low byte: `es` are the first entries of a list, one number
+// each. A number of a definition that may be missing is NO_NUMBER of command_class where it is.
 use command_rules::BitShift;
 use command_rules::Earlier;
 use command_rules::Length;
@@ -12,13 +12,19 @@ ghost use mathlib.Core.Path.{_≡_};
 ghost use Rattle.command_lengths.specs.Entries.{earlier, entries, given};
 ghost use Rattle.command_rules.specs.Lengths.{meets, holds, masked, byEntry, wanted, cut, sizeOf, counted, repeats, entryAt};
 
+// How an entry without value is kept: one with a value by its low byte.
+pub const NO_VALUE: u16 = 256;
+
+// How an entry is kept that no offset finds.
+pub const NO_ENTRY: u16 = 257;
+
 fn earlier_of(e: u16) -> Earlier
     ensures { λ r. ⌜ r ≡ earlier e ⌝ }
 {
-    if e < 256 {
+    if e < NO_VALUE {
         return Earlier::Value(e);
     }
-    if e == 256 {
+    if e == NO_VALUE {
         return Earlier::NoValue;
     }
     Earlier::NoEntry

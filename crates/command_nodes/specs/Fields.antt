@@ -13,6 +13,7 @@ use Rattle.command_text.specs.declared.Typed.the-variants.{Is, Not}
 use Rattle.command_text.specs.Letters.{letterQ}
 use Rattle.command_class.specs.Definition.{Item, numbered}
 use Rattle.command_class.specs.declared.Row.{Row as Line}
+use Rattle.command_rules.specs.Rows.{paramKind}
 use Rattle.command_rules.specs.declared.Row.{Row}
 use Rattle.command_row.specs.Answer.{bytesOf}
 
@@ -54,7 +55,7 @@ isTyped Not = false
 
 -- BM2: a parameter's row, of a Q whose type is BITMASK
 unfoldable pub isMask : List ℕ → ℕ → ℕ → Bool
-isMask t kind line = eqb kind 0 && isTyped (paramType t line)
+isMask t kind line = eqb kind paramKind && isTyped (paramType t line)
 
 -- BM2: is it the row of such a parameter
 abbrev pub isMaskRow : List ℕ → Row → Bool

@@ -7,6 +7,7 @@ use command_row::row_accepted;
 use command_rows::ROW_WIDTH;
 use command_rows::read_row;
 use command_rules::Offsets;
+use command_rules::PARAM_KIND;
 use command_rules::Row;
 use command_text::ParamType;
 use command_text::Typed;
@@ -82,7 +83,7 @@ fn is_mask(text: &[u8], kind: u64, line: u64) -> bool
     requires { ⌜ verdict (now text) ≡ Accepted ⌝ }
     ensures { λ r. ⌜ r ≡ isMask (now (text .entry)) kind line ⌝ }
 {
-    if kind != 0 {
+    if kind != PARAM_KIND {
         return false;
     }
     is_typed(param_type(text, line))

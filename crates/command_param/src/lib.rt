@@ -1,8 +1,11 @@
 // One Q of a command: whether it exists, its value, its row and its bit children. Counterpart of `read_uint`, `decode_bits` and `decode_param` of
 // command_class/decode.rs.
 use command_class::Row as Line;
+use command_lengths::NO_VALUE;
+use command_rules::BIT_KIND;
 use command_rules::BitShift;
 use command_rules::Length;
+use command_rules::PARAM_KIND;
 use command_rules::Row;
 use command_rules::Size;
 use command_rules::Uint;
@@ -95,12 +98,12 @@ fn low_byte(v: u64) -> u16
     (v % 256) as u16
 }
 
-// The entry that a value is for those after it: its low byte, or 256 without value.
+// The entry that a value is for those after it: its low byte, or that there is none.
 fn entry_of(value: Uint) -> u16
     ensures { λ r. ⌜ earlier r ≡ entryOf value ⌝ }
 {
     let Uint::Is(v) = value else {
-        return 256;
+        return NO_VALUE;
     };
     low_byte(v)
 }
@@ -151,7 +154,7 @@ fn param_row(
 {
     let value = read_uint(bytes);
     Row {
-        kind: 0,
+        kind: PARAM_KIND,
         line: q.line as u64,
         parent,
         start: start.0 as u64,
@@ -183,7 +186,7 @@ fn bit_row(line: Line, number: usize, b: u16, start: PayloadOffset, parent: u64)
     ensures { λ r. ⌜ r ≡ bitRow number parent (start .0) (bitNumber b line) ⌝ }
 {
     Row {
-        kind: 1,
+        kind: BIT_KIND,
         line: number as u64,
         parent,
         start: start.0 as u64,

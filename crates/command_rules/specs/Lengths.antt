@@ -18,9 +18,13 @@ use Rattle.command_rules.specs.declared.Length.{Length}
 use Rattle.command_rules.specs.declared.Size.{Size}
 use Rattle.command_rules.specs.declared.Size.the-variants.{Bytes, Missing}
 
--- C2: the entry that an offset of 0 to 255 means
+-- C2: how many entries of a list an offset can count to
+abbrev pub mostEntries : ℕ
+mostEntries = 256
+
+-- C2: the entry that an offset means
 abbrev pub entryAt : List Earlier → ℕ → Earlier
-entryAt es k = cond (ltb k 256) (getD es k NoEntry) NoEntry
+entryAt es k = cond (ltb k mostEntries) (getD es k NoEntry) NoEntry
 
 -- ---- conditions
 

@@ -15,6 +15,7 @@ use Rattle.command_rules.specs.declared.Length.{Length}
 use Rattle.command_rules.specs.declared.Size.{Size}
 use Rattle.command_rules.specs.Field.{Field}
 use Rattle.command_rules.specs.declared.Row.{Row}
+use Rattle.command_rules.specs.Rows.{paramKind, bitKind}
 use Rattle.command_rules.specs.declared.Uint.{Uint}
 use Rattle.command_rules.specs.declared.Uint.the-variants.{Is, Not}
 
@@ -66,7 +67,7 @@ bitValue b (bitmask length) = none
 -- C16: the row of a bit child
 abbrev pub bitRow : ℕ → ℕ → ℕ → ℕ → Row
 bitRow line parent start v =
-    record { kind = 1; line = line; parent = parent; start = start; end = start + 1; valued = 1; value = v; named = 0; number = 0; lacking = 0 }
+    record { kind = bitKind; line = line; parent = parent; start = start; end = start + 1; valued = 1; value = v; named = 0; number = 0; lacking = 0 }
 
 -- its row, if a line has one, in front of others
 abbrev pub bitOnto : ℕ → ℕ → ℕ → Option ℕ → List Row → List Row
@@ -88,7 +89,7 @@ childRows q parent start bs = cond (eqb (length bs) 1) (bitRows (getD bs 0 0) pa
 abbrev pub rowOf : Field → ℕ → ℕ → List ℕ → ℕ → Row
 rowOf q parent start bs lacking =
     record {
-      kind = 0;
+      kind = paramKind;
       line = q .line;
       parent = parent;
       start = start;

@@ -9,6 +9,16 @@ use Rattle.command_rules.specs.declared.Row.{Row}
 abbrev pub rowWidth : ℕ
 rowWidth = 10
 
+-- C16: the kind of a row: a parameter's, a bit child's, a repetition's
+abbrev pub paramKind : ℕ
+paramKind = 0
+
+abbrev pub bitKind : ℕ
+bitKind = 1
+
+abbrev pub repetitionKind : ℕ
+repetitionKind = 2
+
 -- C16: the nine numbers that zniff-rs gives, in their order
 abbrev pub nine : Row → List ℕ
 nine r = r .kind ∷ r .line ∷ r .parent ∷ r .start ∷ r .end ∷ r .valued ∷ r .value ∷ r .named ∷ r .number ∷ []

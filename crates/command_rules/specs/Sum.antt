@@ -12,6 +12,7 @@ use Rattle.command_rules.specs.declared.Earlier.the-variants.{Value, NoV
 use Rattle.command_rules.specs.declared.Offsets.{Offsets}
 use Rattle.command_rules.specs.declared.Offsets.the-variants.{Answered, Position}
 use Rattle.command_rules.specs.declared.Row.{Row}
+use Rattle.command_rules.specs.Rows.{paramKind, bitKind}
 
 -- the rows with this parent; 0 for those of the outer list
 unfoldable pub childrenOf : ℕ → List Row → List Row
@@ -31,12 +32,12 @@ bytes (r ∷ rs) = r .end - r .start + bytes rs
 -- parameters
 unfoldable pub AllParams : List Row → Type 0
 AllParams [] = Unit {0}
-AllParams (r ∷ rs) = (r .kind ≡ 0) × AllParams rs
+AllParams (r ∷ rs) = (r .kind ≡ paramKind) × AllParams rs
 
 -- bit children, all on the one byte of their parent
 unfoldable pub OnByte : Row → List Row → Type 0
 OnByte p [] = Unit {0}
-OnByte p (r ∷ rs) = (r .kind ≡ 1) × (r .start ≡ p .start) × (r .end ≡ p .end) × (p .end ≡ p .start + 1) × OnByte p rs
+OnByte p (r ∷ rs) = (r .kind ≡ bitKind) × (r .start ≡ p .start) × (r .end ≡ p .end) × (p .end ≡ p .start + 1) × OnByte p rs
 
 -- how its children lie in a row of a kind: bit children on a parameter's byte, none in a bit child, members in a repetition one after the other
 abbrev pub Inside : ℕ → Row → List Row → Type 0
@@ -52,7 +53,7 @@ Placed n (r ∷ rs) = (r .parent ≤ n) × Inside (r .kind) r (childrenOf (n + 1
 -- L4: only a parameter lacks bytes, and only one that ends with the command
 unfoldable pub CutAtEnd : ℕ → List Row → Type 0
 CutAtEnd size [] = Unit {0}
-CutAtEnd size (r ∷ rs) = (0 < r .lacking → (r .kind ≡ 0) × (r .end ≡ size)) × CutAtEnd size rs
+CutAtEnd size (r ∷ rs) = (0 < r .lacking → (r .kind ≡ paramKind) × (r .end ≡ size)) × CutAtEnd size rs
 
 -- C2: the entry that an answered row is for those after it
 abbrev pub entryIn : Row → Earlier
@@ -93,7 +94,7 @@ pub record Meets (offsets : Offsets) (ds : List Entry) (before : List Row) (r : 
 -- L4: so does each parameter's row, behind the rows before
 unfoldable pub AllMeet : Offsets → List Entry → List Row → List Row → Type 0
 AllMeet offsets ds before [] = Unit {0}
-AllMeet offsets ds before (r ∷ rs) = (r .kind ≡ 0 → Meets offsets ds before r) × AllMeet offsets ds (before ++ (r ∷ [])) rs
+AllMeet offsets ds before (r ∷ rs) = (r .kind ≡ paramKind → Meets offsets ds before r) × AllMeet offsets ds (before ++ (r ∷ [])) rs
 
 -- C19, demand 3: the outer rows follow one another from the body's start to the remainder, and all bytes add up
 pub record Adds (offsets : Offsets) (ds : List Entry) (size : ℕ) (rows : List Row) (remainder : ℕ) : Type 0 where

@@ -16,6 +16,7 @@ use Rattle.command_rules.specs.declared.Size.{Size}
 use Rattle.command_rules.specs.declared.Size.the-variants.{Bytes, Missing}
 use Rattle.command_rules.specs.Field.{fieldOf}
 use Rattle.command_rules.specs.declared.Row.{Row}
+use Rattle.command_rules.specs.Rows.{repetitionKind}
 use Rattle.command_rules.specs.Param.{inPayload, sizeAt, paramRows, paramEntry}
 
 -- what a walk gives: its rows, where it ends in the body, and how many repetitions it has
@@ -59,7 +60,18 @@ turn body qs at n = members body qs at [] (n + 1) (n + 1)
 -- C16, L3: a repetition's row; its line is its G's, and it has a number from 0
 unfoldable pub repetitionRow : ℕ → ℕ → ℕ → ℕ → Row
 repetitionRow line at end k =
-    record { kind = 2; line = line; parent = 0; start = inPayload at; end = inPayload end; valued = 0; value = 0; named = 0; number = k; lacking = 0 }
+    record {
+      kind = repetitionKind;
+      line = line;
+      parent = 0;
+      start = inPayload at;
+      end = inPayload end;
+      valued = 0;
+      value = 0;
+      named = 0;
+      number = k;
+      lacking = 0;
+    }
 
 -- C15: the repetitions of a group from number k on, at most so many; one without a byte ends the group
 unfoldable pub repetitions : List ℕ → ℕ → List Parameter → ℕ → ℕ → ℕ → ℕ → Walked

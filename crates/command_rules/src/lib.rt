@@ -1,8 +1,11 @@
-// What the parameters of a command are, by its definition, and what holds of their rows: each byte in one outer row or in the remainder. The types that
-// the rules speak of; no code.
+// What the parameters of a command are, by its definition, and what holds of their rows: each byte in one outer row or in the remainder. The types and
+// numbers that the rules speak of; no code.
 
 // A bit's place in a byte, from its lowest.
 pub struct BitShift(pub u16);
+
+// C2: how many entries of a list an offset can count to.
+pub const MOST_ENTRIES: usize = 256;
 
 // What an offset finds: an entry's low byte, an entry without value, or no such entry.
 pub enum Earlier {
@@ -52,9 +55,18 @@ pub enum Uint {
     Not,
 }
 
+// C16: the kind of a parameter's row.
+pub const PARAM_KIND: u64 = 0;
+
+// C16: the kind of a bit child's.
+pub const BIT_KIND: u64 = 1;
+
+// C16: the kind of a repetition's.
+pub const REPETITION_KIND: u64 = 2;
+
 // C16, L3: a row of the table, ten numbers.
 pub struct Row {
-    // 0 parameter, 1 bit child, 2 repetition.
+    // One of the three kinds.
     pub kind: u64,
     // Its line in the text, the first being 1. Of a repetition it is the G's.
     pub line: u64,

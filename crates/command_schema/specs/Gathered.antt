@@ -11,7 +11,7 @@ use Rattle.command_text.specs.Form.{Record, Size, param, group, item, Detail, v
 use Rattle.command_text.specs.Rules.{rules}
 use Rattle.command_class.specs.Definition.{Item, under}
 use Rattle.command_text.specs.Letters.{letterR, letterA, letterT, letterS, letterM}
-use Rattle.command_class.specs.Find.{from, among, orMissing}
+use Rattle.command_class.specs.Find.{from, among, noNumber, orMissing}
 use Rattle.command_class.specs.declared.Row.{Row}
 use Rattle.command_lengths.specs.Entries.{given}
 use Rattle.command_rules.specs.declared.Rule.{Rule}
@@ -22,20 +22,24 @@ use Rattle.command_schema.specs.declared.items.Variant.{Variant}
 use Rattle.command_schema.specs.declared.items.Under.{Under}
 use Rattle.command_schema.specs.Heads.{heads}
 
+-- the length of the first M where there is no M
+abbrev pub noBitmask : ℕ
+noBitmask = 257
+
 -- no M, no A, no R, no T or S
 abbrev pub gatheredNone : Gathered
 gatheredNone =
     record {
-      bitmask = 257;
-      array = record { len = 256; ascii = false };
-      variant = record { paramoffs = 256; sizemask = 0; sizeoffs = 0; ascii = false };
+      bitmask = noBitmask;
+      array = record { len = noNumber; ascii = false };
+      variant = record { paramoffs = noNumber; sizemask = 0; sizeoffs = 0; ascii = false };
       bits = 0;
     }
 
 -- with an R, an A, an M, a T or S
 abbrev pub withVariant : Gathered → ℕ → ℕ → ℕ → Bool → Gathered
 withVariant g offset mask shift ascii =
-    cond (eqb (g .variant .paramoffs) 256)
+    cond (eqb (g .variant .paramoffs) noNumber)
     (record {
       bitmask = g .bitmask;
       array = g .array;
@@ -47,13 +51,13 @@ withVariant g offset mask shift ascii =
 
 abbrev pub withArray : Gathered → ℕ → Bool → Gathered
 withArray g length ascii =
-    cond (eqb (g .array .len) 256)
+    cond (eqb (g .array .len) noNumber)
     (record { bitmask = g .bitmask; array = record { len = length; ascii = ascii }; variant = g .variant; bits = g .bits })
     g
 
 abbrev pub withBitmask : Gathered → ℕ → Gathered
 withBitmask g length =
-    cond (eqb (g .bitmask) 257) (record { bitmask = length; array = g .array; variant = g .variant; bits = g .bits }) g
+    cond (eqb (g .bitmask) noBitmask) (record { bitmask = length; array = g .array; variant = g .variant; bits = g .bits }) g
 
 abbrev pub withBits : Gathered → Gathered
 withBits g = record { bitmask = g .bitmask; array = g .array; variant = g .variant; bits = g .bits + 1 }
@@ -96,22 +100,31 @@ pub record Gathers (t : List ℕ) (p : Place) (r : Under) : Type 0 where
 
 -- the first M, A and R, as they are gathered
 abbrev pub bitmaskIn : Gathered → Option (Option ℕ)
-bitmaskIn g = cond (eqb (g .bitmask) 257) none (some (given (g .bitmask)))
+bitmaskIn g = cond (eqb (g .bitmask) noBitmask) none (some (given (g .bitmask)))
 
 abbrev pub arraySaid : ArrayAttrib → Option (ℕ × Bool)
-arraySaid a = cond (eqb (a .len) 256) none (some (a .len, a .ascii))
+arraySaid a = cond (eqb (a .len) noNumber) none (some (a .len, a .ascii))
 
 abbrev pub arrayIn : Gathered → Option (ℕ × Bool)
 arrayIn g = arraySaid (g .array)
 
 abbrev pub variantSaid : Variant → Option Size
-variantSaid v = cond (eqb (v .paramoffs) 256) none (some (record { offset = v .paramoffs; mask = v .sizemask; shift = v .sizeoffs; ascii = v .ascii }))
+variantSaid v =
+    cond (eqb (v .paramoffs) noNumber) none (some (record { offset = v .paramoffs; mask = v .sizemask; shift = v .sizeoffs; ascii = v .ascii }))
 
 abbrev pub variantIn : Gathered → Option Size
 variantIn g = variantSaid (g .variant)
 
+-- how a row says that a Q's length is the rest: a length that is missing is the rest
+abbrev pub openLength : ℕ
+openLength = noNumber
+
+-- and that an entry counts it
+abbrev pub countedLength : ℕ
+countedLength = 257
+
 -- how a row says a Q's length
 abbrev pub lengthNumber : Rule → ℕ
 lengthNumber (Fixed n) = n
-lengthNumber Open = 256
-lengthNumber (Counted offset mask shift) = 257
+lengthNumber Open = openLength
+lengthNumber (Counted offset mask shift) = countedLength

@@ -23,7 +23,7 @@ use Rattle.command_schema.specs.declared.items.Gathered.{Gathered}
 use Rattle.command_schema.specs.declared.items.Under.{Under}
 use Rattle.command_rules.specs.Field.{Field, fieldOf, ruleOf, isNamed}
 use Rattle.command_schema.specs.Heads.{Head, isQ, isG, headsOf}
-use Rattle.command_schema.specs.Gathered.{Gathers, bitmaskIn, arrayIn, variantIn, lengthNumber}
+use Rattle.command_schema.specs.Gathered.{Gathers, bitmaskIn, arrayIn, variantIn, openLength, lengthNumber}
 
 -- ---- at most 32 T and S lines under each Q
 
@@ -67,7 +67,9 @@ loadedAt d i =
 
 -- what it says of a Q's length
 abbrev pub ruleIn : Loaded → Rule
-ruleIn l = cond (ltb (l .length) 256) (Fixed (l .length)) (cond (eqb (l .length) 256) Open (Counted (l .paramoffs) (l .sizemask) (record { 0 = l .sizeoffs })))
+ruleIn l =
+    cond (ltb (l .length) openLength) (Fixed (l .length))
+    (cond (eqb (l .length) openLength) Open (Counted (l .paramoffs) (l .sizemask) (record { 0 = l .sizeoffs })))
 
 -- a Q of a group, a Q of the outer list
 abbrev pub isMember : Loaded → Bool

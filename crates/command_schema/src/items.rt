@@ -1,4 +1,5 @@
 // What the lines under a Q say of it: its first M, A and R, how many T and S lines there are, and so its length and whether a K names its value.
+use command_class::NO_NUMBER;
 use command_class::Row;
 use command_text::ParamType;
 use text::Place;
@@ -13,13 +14,22 @@ ghost use Rattle.command_rules.specs.Field.{arrayAscii, variantAscii, variantRu
 ghost use Rattle.command_schema.specs.Gathered.{gatheredNone, withVariant, withArray, withBitmask, withBits, notedRow, Gathers, bitmaskIn, arraySaid};
 ghost use Rattle.command_schema.specs.Gathered.{arrayIn, variantSaid, variantIn, lengthNumber};
 
-// The first A under a Q; 256 for its length where there is none.
+// A Q's length, as a row says it: up to 255 bytes, or the rest. A length that is missing is the rest.
+pub const OPEN: u16 = NO_NUMBER;
+
+// The same where an entry counts it.
+const COUNTED: u16 = 257;
+
+// The length of the first M where there is no M.
+const NO_BITMASK: u16 = 257;
+
+// The first A under a Q; NO_NUMBER for its length where there is none.
 pub struct ArrayAttrib {
     pub len: u16,
     pub ascii: bool,
 }
 
-// The first R under a Q; 256 for its offset where there is none.
+// The first R under a Q; NO_NUMBER for its offset where there is none.
 pub struct Variant {
     pub paramoffs: u16,
     pub sizemask: u16,
@@ -27,8 +37,7 @@ pub struct Variant {
     pub ascii: bool,
 }
 
-// What is gathered of the lines under a Q: the first M's length (256 where it is missing, 257 where there is no M), the first A, the first R, and how
-// many T and S lines there are.
+// What is gathered of the lines under a Q: the first M's length, the first A, the first R, and how many T and S lines there are.
 pub struct Gathered {
     pub bitmask: u16,
     pub array: ArrayAttrib,
@@ -46,13 +55,13 @@ fn nothing() -> Gathered
     ensures { λ r. ⌜ r ≡ gatheredNone ⌝ }
 {
     Gathered {
-        bitmask: 257,
+        bitmask: NO_BITMASK,
         array: ArrayAttrib {
-            len: 256,
+            len: NO_NUMBER,
             ascii: false,
         },
         variant: Variant {
-            paramoffs: 256,
+            paramoffs: NO_NUMBER,
             sizemask: 0,
             sizeoffs: 0,
             ascii: false,
@@ -66,7 +75,7 @@ impl Gathered {
     fn with_variant(self, row: Row) -> Gathered
         ensures { λ r. ⌜ r ≡ withVariant self (row .offset) (row .mask) (row .shift) (row .ascii) ⌝ }
     {
-        if self.variant.paramoffs != 256 {
+        if self.variant.paramoffs != NO_NUMBER {
             return self;
         }
         let array = self.array;
@@ -87,7 +96,7 @@ impl Gathered {
     fn with_array(self, row: Row) -> Gathered
         ensures { λ r. ⌜ r ≡ withArray self (row .value) (row .ascii) ⌝ }
     {
-        if self.array.len != 256 {
+        if self.array.len != NO_NUMBER {
             return self;
         }
         let variant = self.variant;
@@ -106,7 +115,7 @@ impl Gathered {
     fn with_bitmask(self, row: Row) -> Gathered
         ensures { λ r. ⌜ r ≡ withBitmask self (row .value) ⌝ }
     {
-        if self.bitmask != 257 {
+        if self.bitmask != NO_BITMASK {
             return self;
         }
         let array = self.array;
@@ -184,22 +193,22 @@ pub fn gather(text: &[u8], start: Place) -> Under
 fn variant_length(variant: Variant) -> u16
     ensures { λ r. ⌜ r ≡ lengthNumber (variantRule (variantSaid variant)) ⌝ }
 {
-    if variant.paramoffs == 256 {
-        return 256;
+    if variant.paramoffs == NO_NUMBER {
+        return OPEN;
     }
     if variant.paramoffs == 255 {
-        return 256;
+        return OPEN;
     }
     if variant.sizemask == 0 {
-        return 256;
+        return OPEN;
     }
-    257
+    COUNTED
 }
 
 fn variable_length(g: Gathered) -> u16
     ensures { λ r. ⌜ r ≡ lengthNumber (variableRule (bitmaskIn g) (variantIn g)) ⌝ }
 {
-    if g.bitmask < 256 {
+    if g.bitmask < NO_NUMBER {
         return g.bitmask;
     }
     let variant = g.variant;
@@ -246,7 +255,7 @@ fn is_const(typed: ParamType) -> bool
 fn is_array_ascii(array: ArrayAttrib) -> bool
     ensures { λ r. ⌜ r ≡ arrayAscii (arraySaid array) ⌝ }
 {
-    if array.len == 256 {
+    if array.len == NO_NUMBER {
         return false;
     }
     array.ascii
@@ -255,7 +264,7 @@ fn is_array_ascii(array: ArrayAttrib) -> bool
 fn is_variant_ascii(variant: Variant) -> bool
     ensures { λ r. ⌜ r ≡ variantAscii (variantSaid variant) ⌝ }
 {
-    if variant.paramoffs == 256 {
+    if variant.paramoffs == NO_NUMBER {
         return false;
     }
     variant.ascii

@@ -3,6 +3,7 @@
 mod items;
 
 use crate::items::Gathered;
+use crate::items::OPEN;
 use crate::items::gather;
 use crate::items::length_of;
 use crate::items::named_of;
@@ -39,10 +40,10 @@ pub struct Loaded {
     pub line: u16,
     // Where the line after a Q begins.
     pub at: u16,
-    // A Q's condition; 256 where one is missing.
+    // A Q's condition; NO_NUMBER where one is missing.
     pub optionaloffs: u16,
     pub optionalmask: u16,
-    // A Q's length: up to 255 bytes, 256 for the rest, 257 where an entry counts it.
+    // A Q's length: up to 255 bytes, OPEN or COUNTED.
     pub length: u16,
     // The entry that counts a Q's length or a G's repetitions, its mask and its shift.
     pub paramoffs: u16,
@@ -79,10 +80,10 @@ impl Loaded {
     pub fn rule(self) -> Rule
         ensures { λ r. ⌜ r ≡ ruleIn self ⌝ }
     {
-        if self.length < 256 {
+        if self.length < OPEN {
             return Rule::Fixed(self.length);
         }
-        if self.length == 256 {
+        if self.length == OPEN {
             return Rule::Open;
         }
         Rule::Counted {

@@ -9,6 +9,7 @@ use Rattle.command_text.specs.Form.{form}
 use Rattle.command_text.specs.Letters.{letterT}
 use Rattle.command_class.specs.Definition.{Item, numbered, under, letter, constIn}
 use Rattle.command_rules.specs.Field.{first, asArray, asVariant, arrayAscii, variantAscii}
+use Rattle.command_rules.specs.Rows.{paramKind, bitKind}
 use Rattle.command_rules.specs.declared.Row.{Row}
 use Rattle.command_row.specs.Answer.{bytesOf}
 use Rattle.display.specs.Display.{display, displayBit}
@@ -60,4 +61,4 @@ unfoldable pub bitText : List ℕ → Row → List ℕ
 bitText t r = displayBit (isFlag t (r .line)) (r .value)
 
 unfoldable pub rowText : List ℕ → List ℕ → Row → List ℕ
-rowText t p r = cond (eqb (r .kind) 0) (paramText t p r) (cond (eqb (r .kind) 1) (bitText t r) [])
+rowText t p r = cond (eqb (r .kind) paramKind) (paramText t p r) (cond (eqb (r .kind) bitKind) (bitText t r) [])

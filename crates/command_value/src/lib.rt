@@ -5,7 +5,9 @@ use buffer::Written;
 use command_row::Found;
 use command_row::bytes_of;
 use command_row::row_accepted;
+use command_rules::BIT_KIND;
 use command_rules::Offsets;
+use command_rules::PARAM_KIND;
 use command_rules::Row;
 use command_text::check_command_text;
 use display::display;
@@ -51,10 +53,10 @@ pub fn row_value(text: &[u8], payload: &[u8], row: Row, buffer: &mut [u8]) -> Wr
     requires { ⌜ (verdict (now text) ≡ Accepted) × (length (now payload) ≤ mostFrame) ⌝ }
     ensures { λ r. ⌜ Writes (rowText (now (text .entry)) (now (payload .entry)) row) (now (buffer .entry)) r (now (buffer .exit)) ⌝ }
 {
-    if row.kind == 0 {
+    if row.kind == PARAM_KIND {
         return param_value(text, payload, row, buffer);
     }
-    if row.kind == 1 {
+    if row.kind == BIT_KIND {
         return bit_value(text, row, buffer);
     }
     write_nothing(buffer)

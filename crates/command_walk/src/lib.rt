@@ -6,8 +6,10 @@ use command_groups::keep_unvalued;
 use command_groups::param_at;
 use command_groups::read_group;
 use command_groups::repeats_at;
+use command_lengths::NO_VALUE;
 use command_param::Param;
 use command_param::Spot;
+use command_rules::MOST_ENTRIES;
 use command_rules::Offsets;
 use command_schema::G_KIND;
 use records::BodyOffset;
@@ -32,7 +34,7 @@ pub fn walk_params(
     ensures { λ r. ⌜ Gives (walk offsets (now (body .entry)) (entriesOf (headsOf (now (text .entry))))) skip
         (now (rows .entry)) 0 (now (rows .exit)) r ⌝ }
 {
-    let mut kept = [256u16; 256];
+    let mut kept = [NO_VALUE; MOST_ENTRIES];
     let mut have: usize = 0;
     let mut at = BodyOffset(0);
     let mut next: usize = 0;
