@@ -5,7 +5,7 @@ use mathlib.Core.List.{List, [], _∷_, _++_}
 use lib.Dec.{eqb}
 use lib.ListN.{getD, drop}
 use Rattle.text.specs.Text.{fields, field, missing}
-use Rattle.xml_schema.specs.Schema.{formOf, nameOf, optionalWords, optionalNumber, hexNumber, flag, furtherFlag, isDropped}
+use Rattle.xml_schema.specs.Schema.{formOf, nameOf, optionalWords, optionalNumber, hexNumber, flag, furtherFlag, isDropped, quote}
 use Rattle.xml_spelling.specs.Spelling.{escaped, hexed, flagged}
 
 -- X13: the value of an attribute of the form f, by the fields fs of a line: k is the number of the next field, and j that of the next digit of the field before
@@ -23,11 +23,11 @@ isAbsent f fs k = (eqb f optionalWords || eqb f optionalNumber) && missing (fiel
 
 -- X13: a space, the name, `="`
 abbrev pub label : List ℕ → List ℕ
-label n = (0x20 ∷ []) ++ (n ++ (0x3d ∷ 0x22 ∷ []))
+label n = (0x20 ∷ []) ++ (n ++ (0x3d ∷ quote ∷ []))
 
 -- X13: an attribute, with its value in quotes
 abbrev pub attribute : List ℕ → List ℕ → List ℕ
-attribute n v = label n ++ (v ++ (0x22 ∷ []))
+attribute n v = label n ++ (v ++ (quote ∷ []))
 
 -- X13: what is written for an entry
 abbrev pub written : List ℕ → List (List ℕ) → ℕ → ℕ → List ℕ

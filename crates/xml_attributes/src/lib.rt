@@ -4,7 +4,13 @@ use append::append_byte;
 use numerals::less;
 use readers::line_fields::field_of;
 use text::is_missing;
+use xml_schema::FLAG;
+use xml_schema::FURTHER_FLAG;
+use xml_schema::HEX_NUMBER;
 use xml_schema::Next;
+use xml_schema::OPTIONAL_NUMBER;
+use xml_schema::OPTIONAL_WORDS;
+use xml_schema::PAST_DIGITS;
 use xml_schema::form_of;
 use xml_schema::name_start;
 use xml_schema::next_entry;
@@ -21,6 +27,9 @@ ghost use Rattle.append.specs.Append.{Room, Laid};
 ghost use Rattle.xml_schema.specs.Schema.{nameOf, optionalWords, optionalNumber};
 ghost use Rattle.xml_attributes.specs.Attributes.{valueFor, isAbsent, label, written, fieldAfter, digitAfter, attributesBy};
 
+// The form that says field 0 again.
+const ZERO_DIGIT: usize = b'0' as usize;
+
 // Byte j of a field, or 0.
 fn digit_of(s: &[u8], j: usize) -> u8
     ensures { λ r. ⌜ r ≡ getD (now (s .entry)) j 0 ⌝ }
@@ -33,13 +42,13 @@ fn digit_of(s: &[u8], j: usize) -> u8
 
 // The value of an attribute that a line has a place for: k is the next field, and j the next digit of the field before it.
 fn append_field(buffer: &mut [u8], at: usize, form: u8, line: &[u8], k: usize, j: usize) -> usize
-    requires { ⌜ (Room at (valueFor form (fields (now line)) k j)) × (58 ≤ form) ⌝ }
+    requires { ⌜ (Room at (valueFor form (fields (now line)) k j)) × (0x3a ≤ form) ⌝ }
     ensures { λ r. ⌜ Laid (valueFor form (fields (now (line .entry))) k j) (now (buffer .entry)) at r (now (buffer .exit)) ⌝ }
 {
     match form {
-        b'f' => append_flag(buffer, at, digit_of(field_of(line, k), 0)),
-        b'g' => append_flag(buffer, at, digit_of(field_of(line, less(k, 1)), j)),
-        b'x' => append_hex(buffer, at, field_of(line, k)),
+        FLAG => append_flag(buffer, at, digit_of(field_of(line, k), 0)),
+        FURTHER_FLAG => append_flag(buffer, at, digit_of(field_of(line, less(k, 1)), j)),
+        HEX_NUMBER => append_hex(buffer, at, field_of(line, k)),
         _ => append_escaped(buffer, at, field_of(line, k)),
     }
 }
@@ -49,8 +58,8 @@ fn append_value(buffer: &mut [u8], at: usize, form: u8, line: &[u8], k: usize, j
     requires { ⌜ Room at (valueFor form (fields (now line)) k j) ⌝ }
     ensures { λ r. ⌜ Laid (valueFor form (fields (now (line .entry))) k j) (now (buffer .entry)) at r (now (buffer .exit)) ⌝ }
 {
-    if form < 58 {
-        let again = field_of(line, less(form as usize, 48));
+    if form < PAST_DIGITS {
+        let again = field_of(line, less(form as usize, ZERO_DIGIT));
         return append_escaped(buffer, at, again);
     }
     append_field(buffer, at, form, line, k, j)
@@ -60,10 +69,10 @@ fn append_value(buffer: &mut [u8], at: usize, form: u8, line: &[u8], k: usize, j
 fn may_miss(form: u8) -> bool
     ensures { λ r. ⌜ r ≡ (eqb form optionalWords || eqb form optionalNumber) ⌝ }
 {
-    if form == b'o' {
+    if form == OPTIONAL_WORDS {
         return true;
     }
-    form == b'm'
+    form == OPTIONAL_NUMBER
 }
 
 // Is it missing?
@@ -113,10 +122,10 @@ fn field_after(form: u8, k: usize) -> usize
     requires { ⌜ k < 1000 ⌝ }
     ensures { λ r. ⌜ r ≡ fieldAfter form k ⌝ }
 {
-    if form < 58 {
+    if form < PAST_DIGITS {
         return k;
     }
-    if form == b'g' { k } else { k + 1 }
+    if form == FURTHER_FLAG { k } else { k + 1 }
 }
 
 // The next digit of the field before that.
@@ -124,7 +133,7 @@ fn digit_after(form: u8, j: usize) -> usize
     requires { ⌜ j < 1000 ⌝ }
     ensures { λ r. ⌜ r ≡ digitAfter form j ⌝ }
 {
-    if form == b'g' { j + 1 } else { 1 }
+    if form == FURTHER_FLAG { j + 1 } else { 1 }
 }
 
 // The attributes of a row, for a line whose field `first` is the first that they say.

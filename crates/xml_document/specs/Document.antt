@@ -5,6 +5,7 @@ use mathlib.Core.List.{List, [], _∷_, _++_}
 use lib.ListN.{length, getD, take, drop}
 use lib.Dec.{leb, eqb}
 use Rattle.text.specs.Text.{same}
+use Rattle.frame_kept.specs.Letters.{letterF, letterB, letterH, letterP, letterV, letterD, letterE}
 use Rattle.xml_schema.specs.Schema.{root, param, letterOf, hasLine, entriesOf, before, behind, nowhere, parentOf}
 use Rattle.xml_values.specs.Scan.{isWhite, lead}
 use Rattle.xml_tags.specs.Tags.{chunks, tagOf, piecesOf, last, closed, fieldsOf}
@@ -105,7 +106,7 @@ letter l = getD l 0 0
 
 -- X10: does a line of this letter own what follows: an F, B, H or D line
 abbrev pub owns : ℕ → Bool
-owns w = eqb w 0x46 || (eqb w 0x42 || (eqb w 0x48 || eqb w 0x44))
+owns w = eqb w letterF || (eqb w letterB || (eqb w letterH || eqb w letterD))
 
 -- X10: the lines of a letter up to the next line that owns what follows
 abbrev pub picked : ℕ → List (List ℕ) → List (List ℕ)
@@ -114,7 +115,7 @@ picked w (l ∷ ls) = cond (owns (letter l)) [] (cond (eqb (letter l) w) (l ∷ 
 
 -- X10: what a line owns: its P lines, then its V lines, then its E lines
 abbrev pub owned : List (List ℕ) → List (List ℕ)
-owned ls = picked 0x50 ls ++ (picked 0x56 ls ++ picked 0x45 ls)
+owned ls = picked letterP ls ++ (picked letterV ls ++ picked letterE ls)
 
 -- X10: each line of a letter with what it owns
 abbrev pub blocks : ℕ → List (List ℕ) → List (List ℕ)
@@ -123,7 +124,7 @@ blocks w (l ∷ ls) = cond (eqb (letter l) w) (l ∷ (owned ls ++ blocks w ls)) 
 
 -- X10: the same lines in plain form: all F, then the blocks of B, of H and of D
 abbrev pub arranged : List (List ℕ) → List (List ℕ)
-arranged ls = blocks 0x46 ls ++ (blocks 0x42 ls ++ (blocks 0x48 ls ++ blocks 0x44 ls))
+arranged ls = blocks letterF ls ++ (blocks letterB ls ++ (blocks letterH ls ++ blocks letterD ls))
 
 -- X10: lines, each ended by 0x0A
 abbrev pub ended : List (List ℕ) → List ℕ

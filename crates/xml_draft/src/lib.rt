@@ -4,7 +4,13 @@ use numerals::decimal;
 use text::MOST_BYTES;
 use text::find;
 use xml_schema::FURTHER_FLAG;
+use xml_schema::HEX_NUMBER;
+use xml_schema::NUMBER;
 use xml_schema::Next;
+use xml_schema::OPTIONAL_NUMBER;
+use xml_schema::OPTIONAL_WORDS;
+use xml_schema::PAST_DIGITS;
+use xml_schema::WORDS;
 use xml_schema::form_of;
 use xml_schema::name_start;
 use xml_schema::next_entry;
@@ -21,7 +27,7 @@ ghost use lib.ListN.{drop};
 ghost use Rattle.text.specs.Text.{split, fields};
 ghost use Rattle.text.specs.Scan.{cut};
 ghost use Rattle.numerals.specs.Numerals.{decimal as decimalOf};
-ghost use Rattle.xml_schema.specs.Schema.{formOf, nameOf};
+ghost use Rattle.xml_schema.specs.Schema.{formOf, nameOf, quote, ampersand, semicolon};
 ghost use Rattle.xml_values.specs.Values.{meant, parts, undo, unsigned, strip, numeral, inDecimal, says, unsaid};
 ghost use Rattle.xml_tags.specs.Tags.{told, part, fieldsOf};
 ghost use Rattle.xml_draft.specs.Draft.{Laid};
@@ -60,7 +66,7 @@ pub fn put_all(out: &mut [u8; ROOM], n: usize, s: &[u8]) -> usize
 
 // Writes what stands behind an `&`: the byte that is named, and the rest.
 fn put_part(out: &mut [u8; ROOM], n: usize, p: &[u8]) -> usize
-    ensures { λ r. let p = now (p .entry) in ⌜ Laid (now (out .entry)) (now (out .exit)) n r (meant p ∷ drop (cut 59 p + 1) p) ⌝ }
+    ensures { λ r. let p = now (p .entry) in ⌜ Laid (now (out .entry)) (now (out .exit)) n r (meant p ∷ drop (cut semicolon p + 1) p) ⌝ }
 {
     let k = find(p, b';');
     let m = put_byte(out, n, entity(&p[..k]));
@@ -72,7 +78,7 @@ fn put_part(out: &mut [u8; ROOM], n: usize, p: &[u8]) -> usize
 
 // Writes what stands behind the first `&` of a value, and behind each other.
 fn put_parts(out: &mut [u8; ROOM], n: usize, s: &[u8]) -> usize
-    ensures { λ r. ⌜ Laid (now (out .entry)) (now (out .exit)) n r (parts (split 38 (now (s .entry)))) ⌝ }
+    ensures { λ r. ⌜ Laid (now (out .entry)) (now (out .exit)) n r (parts (split ampersand (now (s .entry)))) ⌝ }
 {
     let mut next = n;
     let mut at = 0;
@@ -135,11 +141,11 @@ fn put_said(out: &mut [u8; ROOM], n: usize, f: u8, v: &[u8]) -> usize
     ensures { λ r. ⌜ Laid (now (out .entry)) (now (out .exit)) n r (says f (now (v .entry))) ⌝ }
 {
     match f {
-        b'w' => put_words(out, n, v),
-        b'o' => put_words(out, n, v),
-        b'x' => put_numeral(out, n, v),
-        b'n' => put_count(out, n, v),
-        b'm' => put_count(out, n, v),
+        WORDS => put_words(out, n, v),
+        OPTIONAL_WORDS => put_words(out, n, v),
+        HEX_NUMBER => put_numeral(out, n, v),
+        NUMBER => put_count(out, n, v),
+        OPTIONAL_NUMBER => put_count(out, n, v),
         _ => put_byte(out, n, digit_for(v)),
     }
 }
@@ -149,15 +155,15 @@ fn put_unsaid(out: &mut [u8; ROOM], n: usize, f: u8) -> usize
     ensures { λ r. ⌜ Laid (now (out .entry)) (now (out .exit)) n r (unsaid f) ⌝ }
 {
     match f {
-        b'o' => put_byte(out, n, b'-'),
-        b'm' => put_byte(out, n, b'-'),
+        OPTIONAL_WORDS => put_byte(out, n, b'-'),
+        OPTIONAL_NUMBER => put_byte(out, n, b'-'),
         _ => put_byte(out, n, b'0'),
     }
 }
 
 // Writes what the attribute of this name and form says in the body of a tag.
 fn put_told(out: &mut [u8; ROOM], n: usize, f: u8, name: &[u8], body: &[u8]) -> usize
-    ensures { λ r. ⌜ Laid (now (out .entry)) (now (out .exit)) n r (told f (now (name .entry)) (split 34 (now (body .entry)))) ⌝ }
+    ensures { λ r. ⌜ Laid (now (out .entry)) (now (out .exit)) n r (told f (now (name .entry)) (split quote (now (body .entry)))) ⌝ }
 {
     if has(body, name) {
         let value = value_of(body, name);
@@ -171,11 +177,11 @@ fn put_told(out: &mut [u8; ROOM], n: usize, f: u8, name: &[u8], body: &[u8]) -> 
 // Writes what the attribute of an entry says, behind a tab if it begins a field; nothing, if no line has a place for it.
 fn put_attribute(out: &mut [u8; ROOM], n: usize, entry: &[u8], body: &[u8]) -> usize
     ensures { λ r. let e = now (entry .entry) in
-        ⌜ Laid (now (out .entry)) (now (out .exit)) n r (part (formOf e) (nameOf e) (split 34 (now (body .entry)))) ⌝ }
+        ⌜ Laid (now (out .entry)) (now (out .exit)) n r (part (formOf e) (nameOf e) (split quote (now (body .entry)))) ⌝ }
 {
     let f = form_of(entry);
     let a = name_start(entry);
-    if f < 58 {
+    if f < PAST_DIGITS {
         return n;
     }
     if f == FURTHER_FLAG {
@@ -187,7 +193,7 @@ fn put_attribute(out: &mut [u8; ROOM], n: usize, entry: &[u8], body: &[u8]) -> u
 
 // Writes the fields of a line, by the row of an element and the body of its tag.
 pub fn put_fields(out: &mut [u8; ROOM], n: usize, row: &[u8], body: &[u8]) -> usize
-    ensures { λ r. ⌜ Laid (now (out .entry)) (now (out .exit)) n r (fieldsOf (drop 1 (fields (now (row .entry)))) (split 34 (now (body .entry)))) ⌝ }
+    ensures { λ r. ⌜ Laid (now (out .entry)) (now (out .exit)) n r (fieldsOf (drop 1 (fields (now (row .entry)))) (split quote (now (body .entry)))) ⌝ }
 {
     let mut next = n;
     let mut at = 0;

@@ -8,7 +8,8 @@ use lib.ListN.{getD}
 use Rattle.text.specs.Text.{split, lines, fields, field, value}
 use Rattle.text.specs.Scan.{cut}
 use Rattle.text.specs.Place.{kindOf}
-use Rattle.xml_schema.specs.Schema.{elements, root, param, entriesOf, parentOf}
+use Rattle.frame_kept.specs.Letters.{letterF, letterB, letterH, letterP, letterV, letterD, letterE}
+use Rattle.xml_schema.specs.Schema.{elements, root, param, noLetter, entriesOf, parentOf}
 use Rattle.xml_attributes.specs.Attributes.{attributes}
 
 -- the name of element k
@@ -52,7 +53,7 @@ closings (suc n) d = shut d ++ closings n (up d)
 
 -- X13: the element of a line, by its letter: `FBHPVDE` are 1 to 7
 abbrev pub elementFor : ℕ → ℕ
-elementFor letter = cut letter (0x2d ∷ 0x46 ∷ 0x42 ∷ 0x48 ∷ 0x50 ∷ 0x56 ∷ 0x44 ∷ 0x45 ∷ [])
+elementFor letter = cut letter (noLetter ∷ letterF ∷ letterB ∷ letterH ∷ letterP ∷ letterV ∷ letterD ∷ letterE ∷ [])
 
 -- the level that a P says; 0 for any other line
 abbrev pub levelIn : ℕ → List (List ℕ) → ℕ

@@ -5,6 +5,7 @@ use mathlib.Core.Bool.{Bool, true, false, cond}
 use mathlib.Core.List.{List, [], _∷_, _++_}
 use lib.ListN.{drop}
 use lib.Dec.{eqb}
+use Rattle.frame_kept.specs.Letters.{letterP, letterV, letterE}
 use Rattle.xml_schema.specs.Schema.{letterOf}
 use Rattle.xml_tags.specs.Tags.{chunks, tagOf, piecesOf}
 use Rattle.xml_tags.specs.declared.Tag.{Tag}
@@ -44,7 +45,7 @@ Tagged t u n d c w tag (On m) = (halts tag ≡ false) × Laid t u n m (bytesOf w
 
 -- ---- what a line owns: three passes
 abbrev pub ownedAt : List ℕ → ℕ → ℕ → List ℕ
-ownedAt x d at = pickedAt 0x50 x d at ++ (pickedAt 0x56 x d at ++ pickedAt 0x45 x d at)
+ownedAt x d at = pickedAt letterP x d at ++ (pickedAt letterV x d at ++ pickedAt letterE x d at)
 
 -- ---- the blocks of a letter
 abbrev pub blocksAt : ℕ → List ℕ → ℕ → ℕ → List ℕ

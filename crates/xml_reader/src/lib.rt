@@ -23,7 +23,7 @@ ghost use lib.Dec.{eqb};
 ghost use lib.ListN.{length, drop};
 ghost use Rattle.text.specs.Text.{split};
 ghost use Rattle.xml_values.specs.Scan.{skip, after};
-ghost use Rattle.xml_schema.specs.Schema.{letterOf, entriesOf};
+ghost use Rattle.xml_schema.specs.Schema.{letterOf, noLetter, entriesOf, quote, before};
 ghost use Rattle.xml_tags.specs.Tags.{tagOf, fieldsOf};
 ghost use Rattle.xml_tags.specs.declared.Fault.the-variants.{Fine};
 ghost use Rattle.xml_document.specs.Document.{verdict, moved, level, lineOf, owns, textOf};
@@ -72,7 +72,7 @@ fn put_start(out: &mut [u8; ROOM], n: usize, k: usize, e: usize) -> usize
 
 // Writes the fields of the line of element k, by the body of its tag.
 fn put_values(out: &mut [u8; ROOM], n: usize, k: usize, body: &[u8]) -> usize
-    ensures { λ r. ⌜ Laid (now (out .entry)) (now (out .exit)) n r (fieldsOf (entriesOf k) (split 34 (now (body .entry)))) ⌝ }
+    ensures { λ r. ⌜ Laid (now (out .entry)) (now (out .exit)) n r (fieldsOf (entriesOf k) (split quote (now (body .entry)))) ⌝ }
 {
     let row = row_of(k);
     let a = row.start;
@@ -82,7 +82,7 @@ fn put_values(out: &mut [u8; ROOM], n: usize, k: usize, body: &[u8]) -> usize
 
 // Writes the line of element k, which leads to the place e, by the body of its tag.
 fn put_line(out: &mut [u8; ROOM], n: usize, k: usize, e: usize, body: &[u8]) -> usize
-    ensures { λ r. ⌜ Laid (now (out .entry)) (now (out .exit)) n r (lineOf k e (split 34 (now (body .entry))) ++ (10 ∷ [])) ⌝ }
+    ensures { λ r. ⌜ Laid (now (out .entry)) (now (out .exit)) n r (lineOf k e (split quote (now (body .entry))) ++ (0x0a ∷ [])) ⌝ }
 {
     let start = put_start(out, n, k, e);
     let end = put_values(out, start, k, body);
@@ -135,7 +135,7 @@ fn put_tag(out: &mut [u8; ROOM], n: usize, d: usize, c: &[u8], w: u8) -> Wrote
 
 // Writes the lines of the letter w from `at` on, where the first tag stands in d, up to the next that owns what follows.
 fn put_picked(x: &[u8], d: usize, at: usize, w: u8, out: &mut [u8; ROOM], n: usize) -> usize
-    requires { ⌜ Standing (now x) d at × (eqb w 45 ≡ false) ⌝ }
+    requires { ⌜ Standing (now x) d at × (eqb w noLetter ≡ false) ⌝ }
     ensures { λ r. ⌜ Laid (now (out .entry)) (now (out .exit)) n r (pickedAt w (now (x .entry)) d at) ⌝ }
 {
     let mut here = d;
@@ -201,8 +201,8 @@ fn put_block(
 
 // Writes the blocks of the letter w, of a document whose first tag stands at `at`.
 fn put_blocks(x: &[u8], at: usize, w: u8, out: &mut [u8; ROOM], n: usize) -> usize
-    requires { ⌜ Standing (now x) 13 at × (eqb w 45 ≡ false) ⌝ }
-    ensures { λ r. ⌜ Laid (now (out .entry)) (now (out .exit)) n r (blocksAt w (now (x .entry)) 13 at) ⌝ }
+    requires { ⌜ Standing (now x) before at × (eqb w noLetter ≡ false) ⌝ }
+    ensures { λ r. ⌜ Laid (now (out .entry)) (now (out .exit)) n r (blocksAt w (now (x .entry)) before at) ⌝ }
 {
     let mut here = BEFORE;
     let mut from = at;

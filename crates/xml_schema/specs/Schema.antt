@@ -84,9 +84,13 @@ rowOf k = fields (getD (lines table) k [])
 abbrev pub letterOf : ℕ → ℕ
 letterOf k = getD (getD (rowOf k) 0 []) 0 0
 
+-- X3: the letter of an element that has no line
+abbrev pub noLetter : ℕ
+noLetter = 0x2d
+
 -- X3: has it a line
 abbrev pub hasLine : ℕ → Bool
-hasLine k = not (eqb (letterOf k) 0x2d)
+hasLine k = not (eqb (letterOf k) noLetter)
 
 -- X3: the entries of its attributes
 abbrev pub entriesOf : ℕ → List (List ℕ)
@@ -142,6 +146,18 @@ isOptional f = eqb f optionalWords || (eqb f optionalNumber || (eqb f flag || eq
 -- X3: has the line no place for it: its form is then a digit, the number of the field that is said again when it is written
 abbrev pub isDropped : ℕ → Bool
 isDropped f = ltb f 0x3a
+
+-- ---- the bytes that part a value
+-- X4: on both sides of it
+abbrev pub quote : ℕ
+quote = 0x22
+
+-- X5: on both sides of the name of a byte
+abbrev pub ampersand : ℕ
+ampersand = 0x26
+
+abbrev pub semicolon : ℕ
+semicolon = 0x3b
 
 -- ---- where elements stand
 -- X7: the places of a document that are in no element but the root's: before it, after it, and nowhere

@@ -28,8 +28,29 @@ pub const BEHIND: usize = 14;
 
 pub const NOWHERE: usize = 15;
 
+// The form of words.
+pub const WORDS: u8 = b'w';
+
+// The form of words that may be missing.
+pub const OPTIONAL_WORDS: u8 = b'o';
+
+// The form of a number in decimal.
+pub const NUMBER: u8 = b'n';
+
+// The form of such a number that may be missing.
+pub const OPTIONAL_NUMBER: u8 = b'm';
+
+// The form of a number in hexadecimal or decimal.
+pub const HEX_NUMBER: u8 = b'x';
+
+// The form of a flag whose digit begins a field.
+pub const FLAG: u8 = b'f';
+
 // The form of a flag whose digit goes on with the field before it.
 pub const FURTHER_FLAG: u8 = b'g';
+
+// The forms below it are digits: no line has a place for the attribute.
+pub const PAST_DIGITS: u8 = b'9' + 1;
 
 // The place in which each element stands.
 const PARENTS: [usize; 13] = [13, 0, 0, 0, 15, 3, 0, 6, 2, 2, 2, 2, 2];

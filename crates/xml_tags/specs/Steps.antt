@@ -6,7 +6,7 @@ use mathlib.Core.List.{List, [], _∷_}
 use lib.ListN.{length, take, drop}
 use Rattle.text.specs.Text.{split}
 use Rattle.text.specs.declared.Part.{Part}
-use Rattle.xml_schema.specs.Schema.{formIn}
+use Rattle.xml_schema.specs.Schema.{formIn, quote}
 use Rattle.xml_values.specs.Values.{valid}
 use Rattle.xml_tags.specs.Tags.{nameIn, valueOf, isNew}
 use Rattle.xml_tags.specs.declared.Tag.{Tag}
@@ -26,14 +26,14 @@ pub record Lone (ps : List (List ℕ)) : Type 0 where
 
 -- what stands at the front of the attributes r
 abbrev pub Halved : List ℕ → Pair → Type 0
-Halved r Last = split 0x22 r ≡ r ∷ []
-Halved r Odd = Lone (split 0x22 r)
-Halved r (Two e f) = (e + f + 2 ≤ length r) × (split 0x22 r ≡ take e r ∷ take f (drop (e + 1) r) ∷ split 0x22 (drop (e + f + 2) r))
+Halved r Last = split quote r ≡ r ∷ []
+Halved r Odd = Lone (split quote r)
+Halved r (Two e f) = (e + f + 2 ≤ length r) × (split quote r ≡ take e r ∷ take f (drop (e + 1) r) ∷ split quote (drop (e + f + 2) r))
 
 -- a part of the body of a tag, which is the value of its attribute n
 pub record Spans (body n : List ℕ) (r : Part) : Type 0 where
   pub inside : r .start + r .len ≤ length body
-  pub is : take (r .len) (drop (r .start) body) ≡ valueOf n (split 0x22 body)
+  pub is : take (r .len) (drop (r .start) body) ≡ valueOf n (split quote body)
 
 -- what is wrong with an attribute, if anything
 abbrev pub grade : List (List ℕ) → List ℕ → List ℕ → List (List ℕ) → Grade

@@ -5,7 +5,7 @@ use mathlib.Core.List.{List, [], _∷_, _++_}
 use lib.ListN.{length, getD, drop}
 use lib.Dec.{leb, ltb, eqb}
 use Rattle.text.specs.Text.{onto, split, same}
-use Rattle.xml_schema.specs.Schema.{count, elementOf, entriesOf, formOf, nameOf, formIn, furtherFlag, isOptional, isDropped}
+use Rattle.xml_schema.specs.Schema.{count, elementOf, entriesOf, formOf, nameOf, formIn, furtherFlag, isOptional, isDropped, quote}
 use Rattle.xml_values.specs.Scan.{lead, skip, white, wordLen, word, after}
 use Rattle.xml_values.specs.Values.{valid, says, unsaid}
 use Rattle.xml_tags.specs.declared.Tag.{Tag}
@@ -21,7 +21,7 @@ stops quoted x = not quoted && eqb x 0x3e
 
 -- X4: are we inside quotes after the byte x
 abbrev pub turn : Bool → ℕ → Bool
-turn quoted x = cond (eqb x 0x22) (not quoted) quoted
+turn quoted x = cond (eqb x quote) (not quoted) quoted
 
 -- a byte that ends a tag, or one more of it
 abbrev pub placed : Bool → ℕ → List (List ℕ) → List (List ℕ)
@@ -103,7 +103,7 @@ judged k es place inside ps = unless (fault es inside ps) (cond (whole es ps) (O
 abbrev pub opened : ℕ → List ℕ → Tag
 opened place l =
     cond (ltb (elementOf (word l)) count)
-    (judged (elementOf (word l)) (entriesOf (elementOf (word l))) place (place + 1 + wordLen l) (split 0x22 (after l)))
+    (judged (elementOf (word l)) (entriesOf (elementOf (word l))) place (place + 1 + wordLen l) (split quote (after l)))
     (Bad place)
 
 -- X4: the end of an element whose name begins l
@@ -119,7 +119,7 @@ tagOf c = tagFrom (lead c) (skip c)
 
 -- the attributes of a start tag
 abbrev pub piecesOf : List ℕ → List (List ℕ)
-piecesOf c = split 0x22 (after (drop 1 (skip c)))
+piecesOf c = split quote (after (drop 1 (skip c)))
 
 -- the last byte of l, or 0
 abbrev pub last : List ℕ → ℕ

@@ -3,7 +3,11 @@ use text::Part;
 use text::find;
 use text::is_same;
 use xml_schema::COUNT;
+use xml_schema::FLAG;
+use xml_schema::FURTHER_FLAG;
 use xml_schema::Next;
+use xml_schema::OPTIONAL_NUMBER;
+use xml_schema::OPTIONAL_WORDS;
 use xml_schema::TABLE;
 use xml_schema::element_of;
 use xml_schema::form_in;
@@ -21,7 +25,7 @@ ghost use Prim.Native.Nat.{_+_, _^_, _≤_, _<_};
 ghost use lib.Dec.{eqb};
 ghost use lib.ListN.{length, take, drop};
 ghost use Rattle.text.specs.Text.{split, fields, same};
-ghost use Rattle.xml_schema.specs.Schema.{entriesOf, formOf, nameOf, formIn, isOptional};
+ghost use Rattle.xml_schema.specs.Schema.{entriesOf, formOf, nameOf, formIn, isOptional, quote};
 ghost use Rattle.xml_tags.specs.Tags.{tagEnd, nameIn, isEquals, isName, isEnd, has as hasIn, fault, whole, judged, opened, shutting, tagOf, closed};
 ghost use Rattle.xml_tags.specs.Steps.{Halved, Spans, grade, UpTo, Inside};
 
@@ -136,7 +140,7 @@ fn is_named(p: &[u8], n: &[u8]) -> bool
 
 // Is there an attribute n in the body of a tag?
 pub fn has(body: &[u8], n: &[u8]) -> bool
-    ensures { λ r. ⌜ r ≡ hasIn (now (n .entry)) (split 34 (now (body .entry))) ⌝ }
+    ensures { λ r. ⌜ r ≡ hasIn (now (n .entry)) (split quote (now (body .entry))) ⌝ }
 {
     let mut at = 0;
     loop {
@@ -197,7 +201,7 @@ fn form_at(row: &[u8], p: &[u8]) -> u8
 
 // Does the name in p come again?
 fn is_again(p: &[u8], later: &[u8]) -> bool
-    ensures { λ r. ⌜ r ≡ hasIn (nameIn (now (p .entry))) (split 34 (now (later .entry))) ⌝ }
+    ensures { λ r. ⌜ r ≡ hasIn (nameIn (now (p .entry))) (split quote (now (later .entry))) ⌝ }
 {
     let l = lead(p);
     let s = &p[l..];
@@ -207,7 +211,7 @@ fn is_again(p: &[u8], later: &[u8]) -> bool
 
 // Is p the name of an attribute of this form, if there is one, that does not come again?
 fn is_new(form: u8, p: &[u8], later: &[u8]) -> bool
-    ensures { λ r. let p = now (p .entry) in ⌜ r ≡ isName p && (not (eqb form 0) && not (hasIn (nameIn p) (split 34 (now (later .entry))))) ⌝ }
+    ensures { λ r. let p = now (p .entry) in ⌜ r ≡ isName p && (not (eqb form 0) && not (hasIn (nameIn p) (split quote (now (later .entry))))) ⌝ }
 {
     if is_name(p) {
         if form == 0 {
@@ -223,7 +227,7 @@ fn is_new(form: u8, p: &[u8], later: &[u8]) -> bool
 fn grade_of(row: &[u8], r: &[u8], e: usize, f: usize) -> Grade
     requires { ⌜ e + f + 2 ≤ length (now r) ⌝ }
     ensures { λ g. let r = now (r .entry) in
-        ⌜ g ≡ grade (drop 1 (fields (now (row .entry)))) (take e r) (take f (drop (e + 1) r)) (split 34 (drop (e + f + 2) r)) ⌝ }
+        ⌜ g ≡ grade (drop 1 (fields (now (row .entry)))) (take e r) (take f (drop (e + 1) r)) (split quote (drop (e + f + 2) r)) ⌝ }
 {
     let from = e + 1;
     let to = from + f;
@@ -256,7 +260,7 @@ fn is_end(r: &[u8]) -> bool
 fn fault_of(row: &[u8], body: &[u8], inside: usize) -> Fault
     requires { ⌜ inside + length (now body) < 2 ^ 64 ⌝ }
     ensures { λ r. let body = now (body .entry) in
-        ⌜ (r ≡ fault (drop 1 (fields (now (row .entry)))) inside (split 34 body)) × UpTo (inside + length body) r ⌝ }
+        ⌜ (r ≡ fault (drop 1 (fields (now (row .entry)))) inside (split quote body)) × UpTo (inside + length body) r ⌝ }
 {
     let mut at = 0;
     loop {
@@ -291,17 +295,17 @@ fn is_optional(form: u8) -> bool
     ensures { λ r. ⌜ r ≡ isOptional form ⌝ }
 {
     match form {
-        b'o' => true,
-        b'm' => true,
-        b'f' => true,
-        b'g' => true,
+        OPTIONAL_WORDS => true,
+        OPTIONAL_NUMBER => true,
+        FLAG => true,
+        FURTHER_FLAG => true,
         _ => false,
     }
 }
 
 // Is the attribute of an entry there, or may it be missing?
 fn is_held(entry: &[u8], body: &[u8]) -> bool
-    ensures { λ r. let e = now (entry .entry) in ⌜ r ≡ isOptional (formOf e) || hasIn (nameOf e) (split 34 (now (body .entry))) ⌝ }
+    ensures { λ r. let e = now (entry .entry) in ⌜ r ≡ isOptional (formOf e) || hasIn (nameOf e) (split quote (now (body .entry))) ⌝ }
 {
     let form = form_of(entry);
     if is_optional(form) {
@@ -313,7 +317,7 @@ fn is_held(entry: &[u8], body: &[u8]) -> bool
 
 // Is each attribute of the row there that may not be missing?
 fn is_whole(row: &[u8], body: &[u8]) -> bool
-    ensures { λ r. ⌜ r ≡ whole (drop 1 (fields (now (row .entry)))) (split 34 (now (body .entry))) ⌝ }
+    ensures { λ r. ⌜ r ≡ whole (drop 1 (fields (now (row .entry)))) (split quote (now (body .entry))) ⌝ }
 {
     let mut at = 0;
     loop {
@@ -340,7 +344,7 @@ fn is_whole(row: &[u8], body: &[u8]) -> bool
 fn judge_tag(k: usize, row: &[u8], body: &[u8], place: usize, inside: usize) -> Tag
     requires { ⌜ (inside + length (now body) < 2 ^ 64) × (place ≤ inside) ⌝ }
     ensures { λ r. let body = now (body .entry) in
-        ⌜ (r ≡ judged k (drop 1 (fields (now (row .entry)))) place inside (split 34 body)) × Inside (inside + length body) r ⌝ }
+        ⌜ (r ≡ judged k (drop 1 (fields (now (row .entry)))) place inside (split quote body)) × Inside (inside + length body) r ⌝ }
 {
     match fault_of(row, body, inside) {
         Fault::At(n) => Tag::Bad(n),
@@ -357,7 +361,7 @@ fn judge_tag(k: usize, row: &[u8], body: &[u8], place: usize, inside: usize) -> 
 // The same, by its number.
 fn judge_start(k: usize, body: &[u8], place: usize, inside: usize) -> Tag
     requires { ⌜ (inside + length (now body) < 2 ^ 64) × (place ≤ inside) ⌝ }
-    ensures { λ r. let body = now (body .entry) in ⌜ (r ≡ judged k (entriesOf k) place inside (split 34 body)) × Inside (inside + length body) r ⌝ }
+    ensures { λ r. let body = now (body .entry) in ⌜ (r ≡ judged k (entriesOf k) place inside (split quote body)) × Inside (inside + length body) r ⌝ }
 {
     let row = row_of(k);
     let a = row.start;

@@ -8,7 +8,7 @@ use lib.Dec.{leb, ltb, eqb}
 use Rattle.text.specs.Text.{split, same, within, without, missing}
 use Rattle.text.specs.Scan.{cut, wordIn}
 use Rattle.numerals.specs.Numerals.{decimal}
-use Rattle.xml_schema.specs.Schema.{words, optionalWords, number, optionalNumber, hexNumber, isDropped}
+use Rattle.xml_schema.specs.Schema.{words, optionalWords, number, optionalNumber, hexNumber, isDropped, ampersand, semicolon}
 use Rattle.xml_values.specs.Scan.{skip, white}
 use Rattle.xml_values.specs.declared.Numeral.{Numeral}
 use Rattle.xml_values.specs.declared.Numeral.the-variants.{Is, Not}
@@ -26,12 +26,12 @@ entity n =
 
 -- X5: the byte that the name at the front of p, up to `;`, stands for
 abbrev pub meant : List ℕ → ℕ
-meant p = entity (take (cut 0x3b p) p)
+meant p = entity (take (cut semicolon p) p)
 
 -- X5: what stands behind each `&` of a value, said plainly
 abbrev pub parts : List (List ℕ) → List ℕ
 parts [] = []
-parts (p ∷ ps) = meant p ∷ (drop (cut 0x3b p + 1) p ++ parts ps)
+parts (p ∷ ps) = meant p ∷ (drop (cut semicolon p + 1) p ++ parts ps)
 
 abbrev pub plainly : List (List ℕ) → List ℕ
 plainly [] = []
@@ -39,11 +39,11 @@ plainly (f ∷ ps) = f ++ parts ps
 
 -- X5: what a value says
 abbrev pub undo : List ℕ → List ℕ
-undo v = plainly (split 0x26 v)
+undo v = plainly (split ampersand v)
 
 -- X5: does p begin with a known name and a `;`
 abbrev pub isNamed : List ℕ → Bool
-isNamed p = eqb (getD p (cut 0x3b p) 0) 0x3b && not (eqb (meant p) 0)
+isNamed p = eqb (getD p (cut semicolon p) 0) semicolon && not (eqb (meant p) 0)
 
 abbrev pub named : List (List ℕ) → Bool
 named [] = true
@@ -55,7 +55,7 @@ allNamed (f ∷ ps) = named ps
 
 -- X5: no `<` stands in a value, and `&` only before one of the five names
 abbrev pub loose : List ℕ → Bool
-loose v = without 0x3c v && allNamed (split 0x26 v)
+loose v = without 0x3c v && allNamed (split ampersand v)
 
 -- X5: a value that a line can hold
 abbrev pub isWords : List ℕ → Bool

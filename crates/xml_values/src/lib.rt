@@ -4,12 +4,19 @@ use text::find;
 use text::find_word;
 use text::is_missing;
 use text::is_same;
+use xml_schema::HEX_NUMBER;
+use xml_schema::NUMBER;
+use xml_schema::OPTIONAL_NUMBER;
+use xml_schema::OPTIONAL_WORDS;
+use xml_schema::PAST_DIGITS;
+use xml_schema::WORDS;
 ghost use mathlib.Core.Path.{_≡_};
 ghost use mathlib.Core.Bool.{not, _&&_};
 ghost use Prim.Native.Nat.{_≤_};
 ghost use lib.Dec.{eqb};
 ghost use lib.ListN.{length, drop};
 ghost use Rattle.text.specs.Text.{split, missing};
+ghost use Rattle.xml_schema.specs.Schema.{ampersand};
 ghost use Rattle.xml_values.specs.Scan.{isWhite, isLetter, lead as leadOf, white, wordLen};
 ghost use Rattle.xml_values.specs.Values.{entity as entityOf, isNamed, named, allNamed, loose, isWords, unsigned, isCount, strip, digitOf};
 ghost use Rattle.xml_values.specs.Values.{run as runOf};
@@ -138,7 +145,7 @@ fn is_named(p: &[u8]) -> bool
 
 // Does s begin with a known name and a `;`, and what stands behind each `&` of it?
 fn rest_named(s: &[u8]) -> bool
-    ensures { λ r. ⌜ r ≡ named (split 38 (now (s .entry))) ⌝ }
+    ensures { λ r. ⌜ r ≡ named (split ampersand (now (s .entry))) ⌝ }
 {
     let mut at = 0;
     loop {
@@ -157,7 +164,7 @@ fn rest_named(s: &[u8]) -> bool
 
 // Does a known name and a `;` stand behind each `&` of v?
 fn all_named(v: &[u8]) -> bool
-    ensures { λ r. ⌜ r ≡ allNamed (split 38 (now (v .entry))) ⌝ }
+    ensures { λ r. ⌜ r ≡ allNamed (split ampersand (now (v .entry))) ⌝ }
 {
     let e = find(v, b'&');
     if e == v.len() {
@@ -437,15 +444,15 @@ fn is_flag(v: &[u8]) -> bool
 pub fn is_valid(f: u8, v: &[u8]) -> bool
     ensures { λ r. ⌜ r ≡ valid f (now (v .entry)) ⌝ }
 {
-    if f < 58 {
+    if f < PAST_DIGITS {
         return is_loose(v);
     }
     match f {
-        b'w' => is_words(v),
-        b'o' => is_optional_words(v),
-        b'x' => is_numeral(v),
-        b'n' => is_count(v),
-        b'm' => is_count(v),
+        WORDS => is_words(v),
+        OPTIONAL_WORDS => is_optional_words(v),
+        HEX_NUMBER => is_numeral(v),
+        NUMBER => is_count(v),
+        OPTIONAL_NUMBER => is_count(v),
         _ => is_flag(v),
     }
 }
