@@ -14,11 +14,13 @@ use header_paths::BitOffset;
 use header_paths::SCRATCH_WIDTH;
 use header_walk::Walked;
 use header_walk::walk_from;
+use refusal::MOST_FRAME;
 use text::Place;
 use text::Verdict;
 ghost use mathlib.Core.Path.{_≡_};
 ghost use Prim.Native.Nat.{_+_, _-_, _*_, _/_, _≤_};
 ghost use lib.ListN.{length};
+ghost use Rattle.refusal.specs.Refusal.{mostFrame};
 ghost use Rattle.text.specs.declared.Verdict.the-variants.{Accepted};
 ghost use Rattle.frame_text.specs.Rules.{verdict};
 ghost use Rattle.frame_definition.specs.Find.{FindsBase};
@@ -148,7 +150,7 @@ pub extern "C" fn bench_find(text: &[u8], region: u64, speed: u64, many: u64, ti
 
 // Loads and walks the base header whose P lines follow the place.
 fn read_often(text: &[u8], mpdu: &[u8], key: u64, place: Place, n: usize, times: u64) -> u64
-    requires { ⌜ (verdict (now text) ≡ Accepted) × (length (now mpdu) ≤ 2048) ⌝ }
+    requires { ⌜ (verdict (now text) ≡ Accepted) × (length (now mpdu) ≤ mostFrame) ⌝ }
     requires { ⌜ FindsBase (now text) key (At place n) ⌝ }
 {
     let mut fields = [0u64; 128 * LINE_WIDTH];
@@ -172,7 +174,7 @@ pub extern "C" fn bench_read_base(
     speed: u64,
     times: u64,
 ) -> u64 {
-    if 2048 < mpdu.len() {
+    if MOST_FRAME < mpdu.len() {
         return 0;
     }
     let Verdict::Accepted = check_frame_text(text) else {
@@ -237,7 +239,7 @@ pub extern "C" fn bench_walk(
 ) -> BenchWalked {
     let none = BenchWalked { bit: 0, rows: 0 };
     let count = fields.len() / LINE_WIDTH;
-    if 2048 < mpdu.len() {
+    if MOST_FRAME < mpdu.len() {
         return none;
     }
     if 128 < count {

@@ -23,6 +23,7 @@ use readers::lines::next_line;
 use readers::region::frame_code;
 use records::Next;
 use records::next_body;
+use refusal::MOST_PAYLOAD;
 use refusal::Refusal;
 use text::is_same;
 ghost use mathlib.Core.Path.{_≡_};
@@ -135,9 +136,6 @@ fn count_frames(
     }
 }
 
-// The greatest length of a payload.
-const LONGEST: usize = 65535;
-
 // A payload of so many bytes.
 fn take_payload(
     text: &[u8],
@@ -152,7 +150,7 @@ fn take_payload(
 {
     let next = day.with_payload();
     tell_progress(options, next);
-    if LONGEST < count {
+    if MOST_PAYLOAD < count {
         return refuse_payload(Refusal::TooLong(count), next);
     }
     count_frames(text, options, part(payload, 0, count), sets, counts);

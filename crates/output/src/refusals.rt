@@ -3,6 +3,8 @@
 use crate::outcome::refuse;
 use readers::line_fields::field_of;
 use readers::lines::numbered_line;
+use refusal::MOST_FRAME;
+use refusal::MOST_PAYLOAD;
 use refusal::Refusal;
 use std::num::wrapping_add_usize;
 use writer::Buffer;
@@ -30,11 +32,6 @@ not such XML\tit is outside of what is read at byte \t
 out of plain form\tits line \t stands out of plain form
 not a listing\tline \t is not a line of a listing
 ";
-
-// The greatest lengths of a payload and of an MPDU.
-const PAYLOAD: u64 = 65535;
-
-const MPDU: u64 = 2048;
 
 fn line_of(refusal: Refusal) -> u64 {
     match refusal {
@@ -134,7 +131,7 @@ pub fn put_short(out: &mut Buffer, at: usize, refusal: Refusal, width: usize) ->
 pub fn refuse_capture(refusal: Refusal) {
     let mut out = io::buffer();
     let mut at = put(&mut out, 0, b"the capture is refused by ");
-    at = put_reason(&mut out, at, refusal, PAYLOAD);
+    at = put_reason(&mut out, at, refusal, MOST_PAYLOAD as u64);
     at = put(&mut out, at, b"\n");
     flush(&out, at);
     refuse(refusal);
@@ -158,10 +155,10 @@ fn put_reason(out: &mut Buffer, at: usize, refusal: Refusal, most: u64) -> usize
 
 // By which number a payload is refused, and why.
 pub fn put_payload_reason(out: &mut Buffer, at: usize, refusal: Refusal) -> usize {
-    put_reason(out, at, refusal, PAYLOAD)
+    put_reason(out, at, refusal, MOST_PAYLOAD as u64)
 }
 
 // By which number an MPDU is refused, and why.
 pub fn put_mpdu_reason(out: &mut Buffer, at: usize, refusal: Refusal) -> usize {
-    put_reason(out, at, refusal, MPDU)
+    put_reason(out, at, refusal, MOST_FRAME as u64)
 }

@@ -10,6 +10,7 @@ use header::DecodedHeader;
 use output::paint::Hue;
 use output::paint::put_painted;
 use readers::cells::part;
+use refusal::MOST_FRAME;
 use refusal::Refusal;
 use screen::FrameRecord;
 use trees::field_tree::put_fields;
@@ -110,7 +111,7 @@ fn put_title(out: &mut Buffer, at: usize, name: &[u8], right: bool, colour: bool
 
 // How many bits stand before a byte of an MPDU.
 fn bits_before(offset: u64) -> usize {
-    if 2048 < offset {
+    if (MOST_FRAME as u64) < offset {
         return 0;
     }
     offset as usize * 8

@@ -3,6 +3,7 @@ use buffer::Written;
 use command_rows::read_row;
 use command_text::check_command_text;
 use frame_text::check_frame_text;
+use refusal::MOST_FRAME;
 use text::Verdict;
 use writer::Buffer;
 use writer::put;
@@ -33,7 +34,7 @@ fn put_first(out: &mut Buffer, at: usize, value: &[u8], n: usize) -> usize {
 pub fn show_field(text: &[u8], mpdu: &[u8], rows: &[u64], i: usize, value: &mut [u8]) -> usize
     requires { ⌜ verdict (now text) ≡ Accepted ⌝ }
 {
-    if 2048 < mpdu.len() {
+    if MOST_FRAME < mpdu.len() {
         return 0;
     }
     if rows.len() / header_rows::ROW_WIDTH <= i {
@@ -66,7 +67,7 @@ pub fn put_field(
 
 // The value of row i of a command, and how many bytes it has.
 fn show_param(text: &[u8], payload: &[u8], rows: &[u64], i: usize, value: &mut [u8]) -> usize {
-    if 2048 < payload.len() {
+    if MOST_FRAME < payload.len() {
         return 0;
     }
     if rows.len() / command_rows::ROW_WIDTH <= i {
