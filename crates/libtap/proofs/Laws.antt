@@ -48,13 +48,16 @@ use Rattle.libtap.specs.Answers.{answered, judged, part, ToldBody, aimed
 use Rattle.libtap.specs.Headers.{toldBits, headed, toldHeader, ToldHeader}
 use Rattle.libtap.specs.Commands.{toldBy}
 
--- ---- frames
-pub tells-rows : (f : Frames) (n : ℕ) → f ≡ Rows n → record { refusal = 0; value = n } ≡ answered (saidFrames f)
-tells-rows f n e = rw e refl
+pub refuses : (x : Refusal) (number carried : ℕ) → number ≡ numberOf x → carried ≡ carriedBy x
+    → record { refusal = number; value = carried } ≡ answered (numberOf x, carriedBy x)
+refuses x number carried is-number is-carried = rw (is-number, is-carried) refl
 
-pub tells-refusal : (f : Frames) (x : Refusal) (number carried : ℕ) → f ≡ Refused x → number ≡ numberOf x → carried ≡ carriedBy x
-    → record { refusal = number; value = carried } ≡ answered (saidFrames f)
-tells-refusal f x number carried e is-number is-carried = rw (e, is-number, is-carried) refl
+-- ---- frames
+pub tells-rows : (f : Frames) (n : ℕ) (r : TapAnswer) → f ≡ Rows n → r ≡ answered (0, n) → r ≡ answered (saidFrames f)
+tells-rows f n r e is = rw e is
+
+pub tells-refusal : (f : Frames) (x : Refusal) (r : TapAnswer) → f ≡ Refused x → r ≡ answered (numberOf x, carriedBy x) → r ≡ answered (saidFrames f)
+tells-refusal f x r e is = rw e is
 
 pub told-all : (firmware : ℕ) (reading : Reading) (family : Bool) (s t : List ℕ) (f : Frames) (r : TapAnswer) (t′ : List ℕ)
     → Parses firmware reading s t f t′ → reading ≡ readingBy family → r ≡ answered (saidFrames f) → Told firmware (readingBy family) s t r t′
@@ -62,12 +65,11 @@ told-all firmware reading family s t f r t′ parses is-reading is-r =
     let p : Parses firmware (readingBy family) s t f t′ = rw is-reading at parses in
     record { answer = is-r ∙ ap answered (p .numbers); table = rw (p .answer) at (p .table); located = rw (p .answer) at (p .located) }
 
-pub counts : (c : Counted) (n : ℕ) → c ≡ Records n → record { refusal = 0; value = n } ≡ answered (said c)
-counts c n e = rw e refl
+pub counts : (c : Counted) (n : ℕ) (r : TapAnswer) → c ≡ Records n → r ≡ answered (0, n) → r ≡ answered (said c)
+counts c n r e is = rw e is
 
-pub counts-refusal : (c : Counted) (x : Refusal) (number carried : ℕ) → c ≡ Uncounted x → number ≡ numberOf x → carried ≡ carriedBy x
-    → record { refusal = number; value = carried } ≡ answered (said c)
-counts-refusal c x number carried e is-number is-carried = rw (e, is-number, is-carried) refl
+pub counts-refusal : (c : Counted) (x : Refusal) (r : TapAnswer) → c ≡ Uncounted x → r ≡ answered (numberOf x, carriedBy x) → r ≡ answered (said c)
+counts-refusal c x r e is = rw e is
 
 pub counts-all : (s : List ℕ) (c : Counted) (r : TapAnswer) → Counts s c → r ≡ answered (said c) → r ≡ answered (saidOf s)
 counts-all s c r so is-r = is-r ∙ ap answered (so .numbers)
@@ -119,12 +121,11 @@ pub frames-all : (firmware : ℕ) (reading : Reading) (family : Bool) (b : List 
 frames-all firmware reading family b p r so is-reading is-r = is-r ∙ ap toldFrame (rw is-reading at (so .answer))
 
 -- ---- texts
-pub tells-accepted : (v : Verdict) → v ≡ Accepted → record { refusal = 0; value = 0 } ≡ judged v
-tells-accepted v e = rw e refl
+pub tells-accepted : (v : Verdict) (r : TapAnswer) → v ≡ Accepted → r ≡ answered (0, 0) → r ≡ judged v
+tells-accepted v r e is = rw e is
 
-pub tells-unfit : (v : Verdict) (x : Refusal) (number carried : ℕ) → v ≡ Unfit x → number ≡ numberOf x → carried ≡ carriedBy x
-    → record { refusal = number; value = carried } ≡ judged v
-tells-unfit v x number carried e is-number is-carried = rw (e, is-number, is-carried) refl
+pub tells-unfit : (v : Verdict) (x : Refusal) (r : TapAnswer) → v ≡ Unfit x → r ≡ answered (numberOf x, carriedBy x) → r ≡ judged v
+tells-unfit v x r e is = rw e is
 
 pub tells-verdict : (v w : Verdict) (r : TapAnswer) → v ≡ w → r ≡ judged v → r ≡ judged w
 tells-verdict v w r e is-r = rw e at is-r
@@ -187,6 +188,7 @@ pub command-lies : (n payload speed : ℕ) (p : Part) → p ≡ commandPart n pa
 command-lies n payload speed p e = ap (λ (q : Part). part (span q)) e
 
 pub ruleset laws = (
+  refuses,
   tells-rows,
   tells-refusal,
   told-all,

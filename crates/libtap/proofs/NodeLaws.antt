@@ -1,5 +1,5 @@
 -- Laws of the answers on bit masks as C has them. Assumes nothing.
-use mathlib.Core.Path.{_≡_, refl}
+use mathlib.Core.Path.{_≡_}
 use mathlib.Core.Bool.{Bool}
 use mathlib.Core.List.{List}
 use Prim.Native.Nat.{ℕ}
@@ -13,14 +13,14 @@ use Rattle.command_rules.specs.declared.Offsets.{Offsets}
 use Rattle.command.specs.Answer.{offsetsBy}
 use Rattle.command_nodes.specs.Answer.{CommandNodes}
 use Rattle.libtap.specs.declared.TapAnswer.{TapAnswer}
+use Rattle.libtap.specs.Answers.{answered}
 use Rattle.libtap.specs.Nodes.{toldListed, ToldMask, ToldHeaderNodes, ToldCommandNodes}
 
-pub tells-nodes : (x : Listed) (n : ℕ) → x ≡ Nodes n → record { refusal = 0; value = n } ≡ toldListed x
-tells-nodes x n e = rw e refl
+pub tells-nodes : (x : Listed) (n : ℕ) (r : TapAnswer) → x ≡ Nodes n → r ≡ answered (0, n) → r ≡ toldListed x
+tells-nodes x n r e is = rw e is
 
-pub tells-unlisted : (x : Listed) (y : Refusal) (number carried : ℕ) → x ≡ Refused y → number ≡ numberOf y → carried ≡ carriedBy y
-    → record { refusal = number; value = carried } ≡ toldListed x
-tells-unlisted x y number carried e is-number is-carried = rw (e, is-number, is-carried) refl
+pub tells-unlisted : (x : Listed) (y : Refusal) (r : TapAnswer) → x ≡ Refused y → r ≡ answered (numberOf y, carriedBy y) → r ≡ toldListed x
+tells-unlisted x y r e is = rw e is
 
 pub tells-mask : (mask t : List ℕ) (x : Listed) (r : TapAnswer) (t′ : List ℕ) → Lists mask t x t′ → r ≡ toldListed x → ToldMask mask t r t′
 tells-mask mask t x r t′ so is-r = record { answer = x; lists = so; told-so = is-r }

@@ -1,5 +1,5 @@
 -- Laws of the answers on totals as C has them. Assumes nothing.
-use mathlib.Core.Path.{_≡_, refl}
+use mathlib.Core.Path.{_≡_}
 use mathlib.Core.Bool.{Bool}
 use mathlib.Core.List.{List}
 use Prim.Native.Nat.{ℕ}
@@ -14,15 +14,15 @@ use Rattle.totals.specs.declared.Added.the-variants.{Counted, Refused}
 use Rattle.totals.specs.Totals.{Adds}
 use Rattle.totals_text.specs.Text.{textOf}
 use Rattle.libtap.specs.declared.TapAnswer.{TapAnswer}
+use Rattle.libtap.specs.Answers.{answered}
 use Rattle.libtap.specs.Values.{toldWritten}
 use Rattle.libtap.specs.Totals.{toldAdded, ToldAdded, ToldTotals}
 
-pub tells-counted : (x : Added) → x ≡ Counted → record { refusal = 0; value = 0 } ≡ toldAdded x
-tells-counted x e = rw e refl
+pub tells-counted : (x : Added) (r : TapAnswer) → x ≡ Counted → r ≡ answered (0, 0) → r ≡ toldAdded x
+tells-counted x r e is = rw e is
 
-pub tells-not-added : (x : Added) (y : Refusal) (number carried : ℕ) → x ≡ Refused y → number ≡ numberOf y → carried ≡ carriedBy y
-    → record { refusal = number; value = carried } ≡ toldAdded x
-tells-not-added x y number carried e is-number is-carried = rw (e, is-number, is-carried) refl
+pub tells-not-added : (x : Added) (y : Refusal) (r : TapAnswer) → x ≡ Refused y → r ≡ answered (numberOf y, carriedBy y) → r ≡ toldAdded x
+tells-not-added x y r e is = rw e is
 
 pub tells-added : (firmware : ℕ) (reading : Reading) (family : Bool) (text : List ℕ) (region : ℕ) (s totals : List ℕ) (x : Added) (r : TapAnswer)
     (totals′ : List ℕ) → Adds firmware reading text region s totals x totals′ → reading ≡ readingBy family → r ≡ toldAdded x

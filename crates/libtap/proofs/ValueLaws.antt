@@ -1,5 +1,5 @@
 -- Laws of the answers on values as C has them. Assumes nothing.
-use mathlib.Core.Path.{_≡_, refl}
+use mathlib.Core.Path.{_≡_}
 use mathlib.Core.Bool.{Bool}
 use mathlib.Core.List.{List}
 use Prim.Native.Nat.{ℕ}
@@ -12,14 +12,14 @@ use Rattle.command_rules.specs.declared.Offsets.{Offsets}
 use Rattle.command.specs.Answer.{offsetsBy}
 use Rattle.command_value.specs.Answer.{CommandValue}
 use Rattle.libtap.specs.declared.TapAnswer.{TapAnswer}
+use Rattle.libtap.specs.Answers.{answered}
 use Rattle.libtap.specs.Values.{toldWritten, ToldHeaderValue, ToldCommandValue}
 
-pub tells-text : (x : Written) (n : ℕ) → x ≡ Length n → record { refusal = 0; value = n } ≡ toldWritten x
-tells-text x n e = rw e refl
+pub tells-text : (x : Written) (n : ℕ) (r : TapAnswer) → x ≡ Length n → r ≡ answered (0, n) → r ≡ toldWritten x
+tells-text x n r e is = rw e is
 
-pub tells-unwritten : (x : Written) (y : Refusal) (number carried : ℕ) → x ≡ Refused y → number ≡ numberOf y → carried ≡ carriedBy y
-    → record { refusal = number; value = carried } ≡ toldWritten x
-tells-unwritten x y number carried e is-number is-carried = rw (e, is-number, is-carried) refl
+pub tells-unwritten : (x : Written) (y : Refusal) (r : TapAnswer) → x ≡ Refused y → r ≡ answered (numberOf y, carriedBy y) → r ≡ toldWritten x
+tells-unwritten x y r e is = rw e is
 
 pub tells-header-value : (text mpdu : List ℕ) (region speed row : ℕ) (b : List ℕ) (x : Written) (r : TapAnswer) (b′ : List ℕ)
     → HeaderValue text mpdu region speed row b x b′ → r ≡ toldWritten x → ToldHeaderValue text mpdu region speed row b r b′

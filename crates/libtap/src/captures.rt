@@ -1,5 +1,7 @@
 // The calls on the totals of a capture.
 use crate::TapAnswer;
+use crate::answer;
+use crate::refuse;
 use crate::values::tell_written;
 use frame::reading_by;
 use totals::Added;
@@ -14,14 +16,8 @@ fn tell_added(added: Added) -> TapAnswer
     ensures { λ r. ⌜ r ≡ toldAdded added ⌝ }
 {
     match added {
-        Added::Counted => TapAnswer {
-            refusal: 0,
-            value: 0,
-        },
-        Added::Refused(refusal) => TapAnswer {
-            refusal: refusal.number() as u64,
-            value: refusal.carried() as u64,
-        },
+        Added::Counted => answer(0),
+        Added::Refused(refusal) => refuse(refusal),
     }
 }
 

@@ -1,5 +1,7 @@
 // The calls on payloads and records.
 use crate::TapAnswer;
+use crate::answer;
+use crate::refuse;
 use frame::Parsed;
 use frame::PtiFrame;
 use pti::parse_payload;
@@ -70,14 +72,8 @@ fn tell_count(count: Counted) -> TapAnswer
     ensures { λ r. ⌜ r ≡ answered (said count) ⌝ }
 {
     match count {
-        Counted::Records(n) => TapAnswer {
-            refusal: 0,
-            value: n as u64,
-        },
-        Counted::Refused(refusal) => TapAnswer {
-            refusal: refusal.number() as u64,
-            value: refusal.carried() as u64,
-        },
+        Counted::Records(n) => answer(n as u64),
+        Counted::Refused(refusal) => refuse(refusal),
     }
 }
 
@@ -173,14 +169,8 @@ fn tell(frames: Frames) -> TapAnswer
     ensures { λ r. ⌜ r ≡ answered (saidFrames frames) ⌝ }
 {
     match frames {
-        Frames::Rows(n) => TapAnswer {
-            refusal: 0,
-            value: n as u64,
-        },
-        Frames::Refused(refusal) => TapAnswer {
-            refusal: refusal.number() as u64,
-            value: refusal.carried() as u64,
-        },
+        Frames::Rows(n) => answer(n as u64),
+        Frames::Refused(refusal) => refuse(refusal),
     }
 }
 

@@ -1,5 +1,7 @@
 // The calls on a listing of a header.
 use crate::TapAnswer;
+use crate::answer;
+use crate::refuse;
 use crate::values::tell_written;
 use listing::Judgement;
 use listing::judge_listing;
@@ -11,18 +13,9 @@ fn tell_judgement(judgement: Judgement) -> TapAnswer
     ensures { λ r. ⌜ r ≡ toldJudgement judgement ⌝ }
 {
     match judgement {
-        Judgement::Yes => TapAnswer {
-            refusal: 0,
-            value: 0,
-        },
-        Judgement::Differs(line) => TapAnswer {
-            refusal: 0,
-            value: line as u64,
-        },
-        Judgement::Refused(refusal) => TapAnswer {
-            refusal: refusal.number() as u64,
-            value: refusal.carried() as u64,
-        },
+        Judgement::Yes => answer(0),
+        Judgement::Differs(line) => answer(line as u64),
+        Judgement::Refused(refusal) => refuse(refusal),
     }
 }
 

@@ -1,5 +1,7 @@
 // The calls on the nodes that a bit mask addresses.
 use crate::TapAnswer;
+use crate::answer;
+use crate::refuse;
 use command::offsets_by;
 use command_nodes::command_nodes;
 use header_nodes::header_nodes;
@@ -13,14 +15,8 @@ fn tell_listed(listed: Listed) -> TapAnswer
     ensures { λ r. ⌜ r ≡ toldListed listed ⌝ }
 {
     match listed {
-        Listed::Nodes(n) => TapAnswer {
-            refusal: 0,
-            value: n as u64,
-        },
-        Listed::Refused(refusal) => TapAnswer {
-            refusal: refusal.number() as u64,
-            value: refusal.carried() as u64,
-        },
+        Listed::Nodes(n) => answer(n as u64),
+        Listed::Refused(refusal) => refuse(refusal),
     }
 }
 

@@ -1,5 +1,7 @@
 // The calls on the order of a frame text's headers.
 use crate::TapAnswer;
+use crate::answer;
+use crate::refuse;
 use crate::values::tell_written;
 use overlaps::Harmless;
 use overlaps::is_harmless;
@@ -11,18 +13,9 @@ fn tell_harmless(told: Harmless) -> TapAnswer
     ensures { λ r. ⌜ r ≡ toldHarmless told ⌝ }
 {
     match told {
-        Harmless::Yes => TapAnswer {
-            refusal: 0,
-            value: 1,
-        },
-        Harmless::No => TapAnswer {
-            refusal: 0,
-            value: 0,
-        },
-        Harmless::Refused(refusal) => TapAnswer {
-            refusal: refusal.number() as u64,
-            value: refusal.carried() as u64,
-        },
+        Harmless::Yes => answer(1),
+        Harmless::No => answer(0),
+        Harmless::Refused(refusal) => refuse(refusal),
     }
 }
 

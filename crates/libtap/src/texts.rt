@@ -1,5 +1,7 @@
 // The calls on definition texts.
 use crate::TapAnswer;
+use crate::answer;
+use crate::refuse;
 use crate::values::tell_written;
 use command_text::check_command_text;
 use frame_text::check_frame_text;
@@ -14,14 +16,8 @@ fn tell_verdict(verdict: Verdict) -> TapAnswer
     ensures { λ r. ⌜ r ≡ judged verdict ⌝ }
 {
     match verdict {
-        Verdict::Accepted => TapAnswer {
-            refusal: 0,
-            value: 0,
-        },
-        Verdict::Refused(refusal) => TapAnswer {
-            refusal: refusal.number() as u64,
-            value: refusal.carried() as u64,
-        },
+        Verdict::Accepted => answer(0),
+        Verdict::Refused(refusal) => refuse(refusal),
     }
 }
 

@@ -1,5 +1,7 @@
 // The calls on values as people read them.
 use crate::TapAnswer;
+use crate::answer;
+use crate::refuse;
 use buffer::Written;
 use command::offsets_by;
 use command_value::command_value;
@@ -12,14 +14,8 @@ pub fn tell_written(written: Written) -> TapAnswer
     ensures { λ r. ⌜ r ≡ toldWritten written ⌝ }
 {
     match written {
-        Written::Length(n) => TapAnswer {
-            refusal: 0,
-            value: n as u64,
-        },
-        Written::Refused(refusal) => TapAnswer {
-            refusal: refusal.number() as u64,
-            value: refusal.carried() as u64,
-        },
+        Written::Length(n) => answer(n as u64),
+        Written::Refused(refusal) => refuse(refusal),
     }
 }
 

@@ -1,6 +1,6 @@
 -- `libtap::frames::tell` meets its contract, by the laws of the crate. Assumes nothing.
-use Rattle.libtap.proofs.Laws.{laws}
 use borrow.Author.Needs.{needs}
+use Rattle.libtap.proofs.Laws.{laws}
 use Rattle.libtap.proofs.frames.tell.Statement.{statement}
 use Rattle.libtap.proofs.frames.tell.Tie as tie
 
@@ -8,7 +8,6 @@ pub tell-spec : {M : Type 1} → statement M
 tell-spec =
     tie.close
     (tie.spec
-    (λ c. search (needs, laws))
     (λ c. search (needs, laws))
     (λ c κs. search (needs, laws))
     (λ c. search (needs, laws))

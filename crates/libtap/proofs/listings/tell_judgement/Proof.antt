@@ -1,6 +1,6 @@
 -- `libtap::listings::tell_judgement` meets its contract, by the laws of the crate. Assumes nothing.
-use Rattle.libtap.proofs.ListingLaws.{listing-laws}
 use borrow.Author.Needs.{needs}
+use Rattle.libtap.proofs.ListingLaws.{listing-laws}
 use Rattle.libtap.proofs.listings.tell_judgement.Statement.{statement}
 use Rattle.libtap.proofs.listings.tell_judgement.Tie as tie
 
@@ -9,7 +9,7 @@ tell-judgement-spec =
     tie.close
     (tie.spec
     (λ c. search (needs, listing-laws))
-    (λ c. search (needs, listing-laws))
+    (λ c κs. search (needs, listing-laws))
     (λ c. search (needs, listing-laws))
     (λ c κs. search (needs, listing-laws))
     (λ c. search (needs, listing-laws))
