@@ -56,7 +56,8 @@ refuses x number carried is-number is-carried = rw (is-number, is-carried) refl
 pub tells-rows : (f : Frames) (n : ℕ) (r : TapAnswer) → f ≡ Rows n → r ≡ answered (0, n) → r ≡ answered (saidFrames f)
 tells-rows f n r e is = rw e is
 
-pub tells-refusal : (f : Frames) (x : Refusal) (r : TapAnswer) → f ≡ Refused x → r ≡ answered (numberOf x, carriedBy x) → r ≡ answered (saidFrames f)
+pub tells-refusal : (f : Frames) (x : Refusal) (r : TapAnswer) → f ≡ Refused x → r ≡ answered (numberOf x, carriedBy x)
+    → r ≡ answered (saidFrames f)
 tells-refusal f x r e is = rw e is
 
 pub told-all : (firmware : ℕ) (reading : Reading) (family : Bool) (s t : List ℕ) (f : Frames) (r : TapAnswer) (t′ : List ℕ)

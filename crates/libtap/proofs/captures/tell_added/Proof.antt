@@ -7,4 +7,10 @@ use Rattle.libtap.proofs.captures.tell_added.Tie as tie
 pub tell-added-spec : {M : Type 1} → statement M
 tell-added-spec =
     tie.close
-    (tie.spec (λ c. search (needs, totals-laws)) (λ c κs. search (needs, totals-laws)) (λ c. search (needs, totals-laws)) (λ c κs. search (needs, totals-laws)) (λ c. search (needs, totals-laws)) (λ c. search (needs, totals-laws)))
+    (tie.spec
+    (λ c. search (needs, totals-laws))
+    (λ c κs. search (needs, totals-laws))
+    (λ c. search (needs, totals-laws))
+    (λ c κs. search (needs, totals-laws))
+    (λ c. search (needs, totals-laws))
+    (λ c. search (needs, totals-laws)))

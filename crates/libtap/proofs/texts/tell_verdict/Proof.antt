@@ -7,4 +7,10 @@ use Rattle.libtap.proofs.texts.tell_verdict.Tie as tie
 pub tell-verdict-spec : {M : Type 1} → statement M
 tell-verdict-spec =
     tie.close
-    (tie.spec (λ c. search (needs, laws)) (λ c κs. search (needs, laws)) (λ c. search (needs, laws)) (λ c κs. search (needs, laws)) (λ c. search (needs, laws)) (λ c. search (needs, laws)))
+    (tie.spec
+    (λ c. search (needs, laws))
+    (λ c κs. search (needs, laws))
+    (λ c. search (needs, laws))
+    (λ c κs. search (needs, laws))
+    (λ c. search (needs, laws))
+    (λ c. search (needs, laws)))
