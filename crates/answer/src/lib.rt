@@ -1,10 +1,12 @@
 // The parts of an answer. Answers wait in the writer's buffer, of which `used` bytes are taken.
+#![tactic(auto)]
+
 pub mod table;
 
 use writer::{Buffer, put, put_byte, put_hex, put_number};
 
 // What a request is answered.
-#[derive(Drop)]
+#[derive(Clone, Copy)]
 pub enum Answer {
     // An answer, without the end of its line: so many bytes wait with it.
     Put(usize),

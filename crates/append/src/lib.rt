@@ -1,4 +1,6 @@
 // Text appended to a lent buffer: written as far as there is room, and counted in any case.
+#![tactic(auto)]
+
 ghost use Rattle.std.specs.Prelude.{[], ◌∷◌};
 ghost use Rattle.append.specs.Append.{Room, Laid};
 

@@ -1,4 +1,6 @@
 // The parameter walk for the benchmark, as a static library: each call is made so many times, so that what it costs can be told from what comes before it.
+#![tactic(auto)]
+
 ghost use Rattle.std.specs.Prelude.{◌≡◌, length};
 ghost use Rattle.text.specs.declared.Verdict.TheVariants.{Accepted};
 ghost use Rattle.command_text.specs.Rules.{verdict};

@@ -1,4 +1,6 @@
 // The walks for the benchmark, as a static library: each call is made so many times, so that what it costs can be told from what comes before it.
+#![tactic(auto)]
+
 ghost use Rattle.std.specs.Prelude.{◌≡◌, ◌+◌, ◌-◌, ◌*◌, ◌/◌, ◌≤◌, length};
 ghost use Rattle.refusal.specs.Refusal.{most_frame};
 ghost use Rattle.text.specs.declared.Verdict.TheVariants.{Accepted};
@@ -179,7 +181,7 @@ pub extern "C" fn bench_read_base(
 
 // Where a walk ends, and its rows.
 #[repr(C)]
-#[derive(Drop)]
+#[derive(Clone, Copy)]
 pub struct BenchWalked {
     pub bit: u64,
     pub rows: u64,

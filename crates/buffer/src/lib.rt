@@ -1,4 +1,6 @@
 // Text in a lent buffer: written if there is room, else only counted.
+#![tactic(auto)]
+
 ghost use Rattle.std.specs.Prelude.{◌≡◌, ◌+◌, ◌≤◌, length};
 ghost use Rattle.std.proofs.lemmas.List.Edits.{sets};
 ghost use Rattle.buffer.specs.Buffer.{Writes};
@@ -6,7 +8,7 @@ ghost use Rattle.buffer.specs.Buffer.{Writes};
 use refusal::Refusal;
 
 // What writing a text answers.
-#[derive(Drop)]
+#[derive(Clone, Copy)]
 pub enum Written {
     // So many bytes are written.
     Length(usize),

@@ -15,7 +15,7 @@ use text_faults::advice::{advise_command_line, advise_frame_line};
 use text_faults::line_form::{command_count, frame_count};
 
 // Which of the two texts.
-#[derive(Drop)]
+#[derive(Clone, Copy)]
 pub enum Kind {
     Frame,
     Command,

@@ -2,6 +2,8 @@
 // calls are all to be had here.
 // The definition is loaded once (crate `command_schema`). One walker (crate `command_walk`) writes the rows for which there is room in its part of the
 // table, and counts all. Where the table may be too small it is run first over an empty part, so that nothing is written before all rows are known to fit.
+#![tactic(auto)]
+
 ghost use Rattle.std.specs.Prelude.{◌≡◌, ◌*◌, ◌/◌, ◌<◌, ◌≤◌, length};
 ghost use Rattle.text.specs.declared.Verdict.TheVariants.{Accepted};
 ghost use Rattle.command_text.specs.Rules.{verdict};
@@ -34,7 +36,7 @@ pub const LOADED_SHORT: usize = 48 * LOADED_WIDTH;
 const MOST: usize = 34 * ROW_WIDTH;
 
 // What a command is decoded into: the rows written, and where the remainder starts.
-#[derive(Drop)]
+#[derive(Clone, Copy)]
 pub enum Params {
     Rows {
         count: usize,

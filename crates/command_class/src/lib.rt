@@ -1,5 +1,7 @@
 // The definition that an accepted command text stands for, and looking things up in it: every loop reads on from a place where a line begins.
 // Counterpart of command_class/schema.rs.
+#![tactic(auto)]
+
 ghost use Rattle.std.specs.Prelude.{◌≡◌, true, false, ◌<◌, eqb, length};
 ghost use Rattle.text.specs.Fields.{fields_at};
 ghost use Rattle.text.specs.Records.{Readable};
@@ -16,7 +18,7 @@ use text::{Line, Optional, Place};
 pub const NO_NUMBER: u16 = 256;
 
 // What a line says, as numbers; NO_NUMBER for a missing offset, mask or length, 0 where the line has no such number.
-#[derive(Drop)]
+#[derive(Clone, Copy)]
 pub struct Row {
     pub kind: u8,
     pub level: u16,
@@ -29,14 +31,14 @@ pub struct Row {
 }
 
 // A line, and the place after it.
-#[derive(Drop)]
+#[derive(Clone, Copy)]
 pub struct Read {
     pub row: Row,
     pub next: Place,
 }
 
 // What the last two fields of a Q line say, and where the line ends.
-#[derive(Drop)]
+#[derive(Clone, Copy)]
 struct Condition {
     offset: u16,
     mask: u16,

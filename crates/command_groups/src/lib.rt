@@ -1,5 +1,7 @@
 // A group of a command: its members, its repetitions, and how often it repeats; and the entries that a list keeps.
 // Each function writes the rows for which there is room in its part of the table, and counts all.
+#![tactic(auto)]
+
 ghost use Rattle.std.specs.Prelude.{◌≡◌, [], ◌+◌, ◌-◌, ◌^◌, ◌≤◌, ◌<◌, length, drop, set};
 ghost use Rattle.command_lengths.specs.Entries.{entries};
 ghost use Rattle.command_rules.specs.Lengths.{least, most_entries, repeats};
@@ -16,7 +18,7 @@ use command_schema::Loaded;
 use records::BodyOffset;
 
 // A group: the line of its G, the loaded row of its first member, and how many rows are loaded.
-#[derive(Drop)]
+#[derive(Clone, Copy)]
 pub struct Group {
     pub line: u16,
     pub first: usize,
@@ -24,7 +26,7 @@ pub struct Group {
 }
 
 // A repetition: its number, from 0, its place in the body, the number of its own row, and how many rows the table passes over.
-#[derive(Drop)]
+#[derive(Clone, Copy)]
 pub struct Turn {
     pub number: usize,
     pub at: BodyOffset,
@@ -33,21 +35,21 @@ pub struct Turn {
 }
 
 // What a list takes: where it ends, and how many rows it has.
-#[derive(Drop)]
+#[derive(Clone, Copy)]
 pub struct Taken {
     pub end: BodyOffset,
     pub count: usize,
 }
 
 // What a repetition takes.
-#[derive(Drop)]
+#[derive(Clone, Copy)]
 pub enum Repetition {
     Took { end: BodyOffset, count: usize },
     Nothing,
 }
 
 // What a group takes, and how often it repeats.
-#[derive(Drop)]
+#[derive(Clone, Copy)]
 pub struct Repeated {
     pub end: BodyOffset,
     pub count: usize,

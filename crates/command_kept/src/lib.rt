@@ -1,9 +1,11 @@
 // What the check of a command text keeps of the lines before, and how it judges a line by that.
+#![tactic(auto)]
+
 ghost use Rattle.std.specs.Prelude.{◌≡◌, ◌<◌};
 ghost use Rattle.command_kept.specs.Kept.{nothing, full, begun, far, judged_param, judged_group, judged_item, judged};
 
 // What limits and owners look at in a line: a Q's level, the shift of a G or of an item line, 0 where it has none.
-#[derive(Drop)]
+#[derive(Clone, Copy)]
 pub enum Form {
     Param { level: u16 },
     Group { shift: u16 },
@@ -13,7 +15,7 @@ pub enum Form {
 
 // What is kept of the lines before: how many Q and G lines there were, whether the last of them is a Q, whether a level 1 Q
 // would be a member of a G, and how many lines stand under the last Q or G.
-#[derive(Drop)]
+#[derive(Clone, Copy)]
 pub struct Kept {
     pub count: u16,
     pub owned: bool,
@@ -22,7 +24,7 @@ pub struct Kept {
 }
 
 // The judgement on a line: nothing is wrong, and what is kept after it; a limit is passed; no owner or parent; not a form.
-#[derive(Drop)]
+#[derive(Clone, Copy)]
 pub enum Judged {
     On(Kept),
     Passed,

@@ -2,6 +2,8 @@
 // command_class/decode.rs.
 // Of an entry later lengths, conditions and counts want only whether it has a value, and its low byte: `es` are the first entries of a list, one number
 // each. A number of a definition that may be missing is NO_NUMBER of command_class where it is.
+#![tactic(auto)]
+
 ghost use Rattle.std.specs.Prelude.{◌≡◌};
 ghost use Rattle.command_lengths.specs.Entries.{earlier, entries, given};
 ghost use Rattle.command_rules.specs.Lengths.{meets, holds, masked, by_entry, wanted, cut, size_of, counted, repeats, entry_at};

@@ -1,4 +1,6 @@
 // The nodes that a parameter of a command addresses: BM2, BM4 and BM6 of docs/RULES.md. Such a parameter is the row of a Q whose type is BITMASK.
+#![tactic(auto)]
+
 ghost use Rattle.std.specs.Prelude.{◌≡◌};
 ghost use Rattle.text.specs.declared.Verdict.TheVariants.{Accepted};
 ghost use Rattle.command_text.specs.Rules.{verdict};

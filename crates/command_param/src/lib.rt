@@ -1,5 +1,7 @@
 // One Q of a command: whether it exists, its value, its row and its bit children. Counterpart of `read_uint`, `decode_bits` and `decode_param` of
 // command_class/decode.rs.
+#![tactic(auto)]
+
 ghost use Rattle.std.specs.Prelude.{◌≡◌, [], ◌∷◌, ◌+◌, ◌-◌, ◌%◌, ◌^◌, ◌≤◌, ◌<◌, length};
 ghost use Rattle.command_text.specs.Letters.{letter_t, letter_s};
 ghost use Rattle.command_class.specs.Definition.{under};
@@ -20,7 +22,7 @@ use records::{BodyOffset, PayloadOffset};
 const CMD_HEADER: usize = 2;
 
 // What reading a Q gives: where it ends in the body, the entry that it is for those after it, how many rows it has; or that it does not exist.
-#[derive(Drop)]
+#[derive(Clone, Copy)]
 pub enum Param {
     Read {
         end: BodyOffset,
@@ -31,7 +33,7 @@ pub enum Param {
 }
 
 // Where a Q is read: its place in the body, the number of its own row, its parent's row + 1, or 0, and how many rows the table passes over.
-#[derive(Drop)]
+#[derive(Clone, Copy)]
 pub struct Spot {
     pub at: BodyOffset,
     pub row: usize,
@@ -40,7 +42,7 @@ pub struct Spot {
 }
 
 // What is written of a Q.
-#[derive(Drop)]
+#[derive(Clone, Copy)]
 pub struct Wrote {
     pub entry: u16,
     pub count: usize,

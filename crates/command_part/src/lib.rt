@@ -1,10 +1,12 @@
 // Where the command of an MPDU lies: behind its header, before its checksum (H26 of docs/RULES.md).
+#![tactic(auto)]
+
 ghost use Rattle.std.specs.Prelude.{◌≡◌, ◌+◌, ◌≤◌, length};
 ghost use Rattle.records.specs.Records.{PartOf};
 ghost use Rattle.command_part.specs.Part.{sum_bytes, command_part, span};
 
 // A part of an MPDU.
-#[derive(Drop)]
+#[derive(Clone, Copy)]
 pub struct Part {
     pub start: usize,
     pub length: usize,

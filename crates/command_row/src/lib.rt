@@ -1,5 +1,7 @@
 // One row of a command, by its number and without a table of rows: BM5 of docs/RULES.md. The walk passes over the rows before it, and the table that it is
 // lent has room for that row alone.
+#![tactic(auto)]
+
 ghost use Rattle.std.specs.Prelude.{◌≡◌, ◌*◌, ◌<◌, ◌≤◌, length};
 ghost use Rattle.text.specs.declared.Verdict.TheVariants.{Accepted};
 ghost use Rattle.command_text.specs.Rules.{verdict};
@@ -18,7 +20,7 @@ use refusal::{MOST_FRAME, Refusal};
 use text::Verdict;
 
 // The row that was asked for, or a refusal.
-#[derive(Drop)]
+#[derive(Clone, Copy)]
 pub enum Found {
     Row(Row),
     Refused(Refusal),

@@ -1,6 +1,8 @@
 // Rows of a command's table: C16 and L3 of docs/RULES.md. A function that writes rows is lent the table from its first row on, and
 // hands on the rest as a part; what has no room in its part is counted and not written. Where only later rows are wanted, the first
 // `skip` rows of a part are passed over: the table begins behind them.
+#![tactic(auto)]
+
 ghost use Rattle.std.specs.Prelude.{◌≡◌, [], ◌∷◌, ◌+◌, ◌-◌, ◌*◌, ◌≤◌, ◌<◌, ◌^◌, length};
 ghost use Rattle.command_rules.specs.Rows.{row_width, numbers};
 ghost use Rattle.command_rows.specs.Rows.{written, row_at, left_out, row_in};

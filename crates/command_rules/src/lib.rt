@@ -1,15 +1,16 @@
 // What the parameters of a command are, by its definition, and what holds of their rows: each byte in one outer row or in the remainder. The types and
 // numbers that the rules speak of; no code.
+#![tactic(auto)]
 
 // A bit's place in a byte, from its lowest.
-#[derive(Drop)]
+#[derive(Clone, Copy)]
 pub struct BitShift(pub u16);
 
 // C2: how many entries of a list an offset can count to.
 pub const MOST_ENTRIES: usize = 256;
 
 // What an offset finds: an entry's low byte, an entry without value, or no such entry.
-#[derive(Drop)]
+#[derive(Clone, Copy)]
 pub enum Earlier {
     Value(u16),
     NoValue,
@@ -17,14 +18,14 @@ pub enum Earlier {
 }
 
 // How an offset counts in the outer list: over the entries answered so far, or by the position of a Q or G in the text.
-#[derive(Drop)]
+#[derive(Clone, Copy)]
 pub enum Offsets {
     Answered,
     Position,
 }
 
 // What a Q's own lines say of its length: a number of bytes, the rest, or that an entry counts it.
-#[derive(Drop)]
+#[derive(Clone, Copy)]
 pub enum Rule {
     Fixed(u16),
     Open,
@@ -36,28 +37,28 @@ pub enum Rule {
 }
 
 // How many bytes a Q wants, be they there or not.
-#[derive(Drop)]
+#[derive(Clone, Copy)]
 pub enum Wanted {
     Exactly(u16),
     Rest,
 }
 
 // How many bytes a Q takes, and how many more it wanted that are not there.
-#[derive(Drop)]
+#[derive(Clone, Copy)]
 pub struct Length {
     pub taken: usize,
     pub lacking: usize,
 }
 
 // The length of a Q, if it exists.
-#[derive(Drop)]
+#[derive(Clone, Copy)]
 pub enum Size {
     Bytes(Length),
     Missing,
 }
 
 // A value of 1 to 8 bytes, if it is one.
-#[derive(Drop)]
+#[derive(Clone, Copy)]
 pub enum Uint {
     Is(u64),
     Not,
@@ -73,7 +74,7 @@ pub const BIT_KIND: u64 = 1;
 pub const REPETITION_KIND: u64 = 2;
 
 // C16, L3: a row of the table, ten numbers.
-#[derive(Drop)]
+#[derive(Clone, Copy)]
 pub struct Row {
     // One of the three kinds.
     pub kind: u64,

@@ -21,14 +21,14 @@ const COUNTED: u16 = 257;
 const NO_BITMASK: u16 = 257;
 
 // The first A under a Q; NO_NUMBER for its length where there is none.
-#[derive(Drop)]
+#[derive(Clone, Copy)]
 pub struct ArrayAttrib {
     pub len: u16,
     pub ascii: bool,
 }
 
 // The first R under a Q; NO_NUMBER for its offset where there is none.
-#[derive(Drop)]
+#[derive(Clone, Copy)]
 pub struct Variant {
     pub paramoffs: u16,
     pub sizemask: u16,
@@ -37,7 +37,7 @@ pub struct Variant {
 }
 
 // What is gathered of the lines under a Q: the first M's length, the first A, the first R, and how many T and S lines there are.
-#[derive(Drop)]
+#[derive(Clone, Copy)]
 pub struct Gathered {
     pub bitmask: u16,
     pub array: ArrayAttrib,
@@ -46,7 +46,7 @@ pub struct Gathered {
 }
 
 // What is gathered of the lines under a Q, and the place after them.
-#[derive(Drop)]
+#[derive(Clone, Copy)]
 pub struct Under {
     pub gathered: Gathered,
     pub next: Place,

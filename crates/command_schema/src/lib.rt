@@ -1,5 +1,7 @@
 // The definition of a command, loaded from an accepted text: one row of numbers for each Q or G, with a Q's first M, A and R resolved.
 // Counterpart of `Cmd`, `Param` and `VariantGroup` of command_class/schema.rs. T, S and K lines stay in the text.
+#![tactic(auto)]
+
 mod items;
 
 ghost use Rattle.std.specs.Prelude.{◌≡◌, ◌+◌, ◌*◌, ◌<◌, ◌≤◌, length};
@@ -28,7 +30,7 @@ pub const Q_KIND: u16 = b'Q' as u16;
 pub const G_KIND: u16 = b'G' as u16;
 
 // A Q or a G as it is loaded. Offsets, masks and shifts have the source's XML names.
-#[derive(Drop)]
+#[derive(Clone, Copy)]
 pub struct Loaded {
     pub kind: u16,
     pub level: u16,

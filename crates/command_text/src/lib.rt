@@ -1,5 +1,7 @@
 // The command text: which texts are accepted, and which line of any other is refused by which number.
 // The forms are those of command_class/schema.rs, a line each; a field enum is read as a bit field.
+#![tactic(auto)]
+
 ghost use Rattle.std.specs.Prelude.{◌≡◌};
 ghost use Rattle.text.specs.Text.{field};
 ghost use Rattle.text.specs.Judge.{Checks};
@@ -16,7 +18,7 @@ use refusal::Refusal;
 use text::{Line, MOST_BYTES, Place, Verdict, is_same};
 
 // The type of a parameter, by the XML names of the source.
-#[derive(Drop)]
+#[derive(Clone, Copy)]
 pub enum ParamType {
     Byte,
     StructByte,
@@ -32,7 +34,7 @@ pub enum ParamType {
 }
 
 // What a field says as a type.
-#[derive(Drop)]
+#[derive(Clone, Copy)]
 pub enum Typed {
     Is(ParamType),
     Not,

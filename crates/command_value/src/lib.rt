@@ -1,4 +1,6 @@
 // What is shown of a row of a command: VT2 and VT11 of docs/RULES.md. The row that is asked for is walked to, and names the lines that say how.
+#![tactic(auto)]
+
 mod lookup;
 
 ghost use Rattle.std.specs.Prelude.{◌≡◌, ◌≤◌, length};

@@ -13,7 +13,7 @@ use command_class::{const_name, is_entry, kind_at, pass_at, read_at};
 use text::Place;
 
 // How a parameter is shown by the lines under its Q: as ascii, by the name of the K at a place, or as its bytes.
-#[derive(Drop)]
+#[derive(Clone, Copy)]
 pub enum Shown {
     Ascii,
     Named(Place),

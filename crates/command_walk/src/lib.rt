@@ -1,4 +1,6 @@
 // The walk over a command: it reads a list of Qs and Gs over the body, writes the rows for which there is room in its part of the table, and counts all.
+#![tactic(auto)]
+
 ghost use Rattle.std.specs.Prelude.{◌<◌, length};
 ghost use Rattle.command_schema.specs.Heads.{heads_of, entries_of};
 ghost use Rattle.command_schema.specs.Loaded.{IsLoaded};

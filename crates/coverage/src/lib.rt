@@ -1,5 +1,7 @@
 // What frames have tried of a frame text: CV1 to CV4 of docs/RULES.md. A count for each H, P and E line and for each refusal of a header, raised frame by
 // frame in counts that the caller lends.
+#![tactic(auto)]
+
 ghost use Rattle.std.specs.Prelude.{◌≡◌, ◌+◌, ◌*◌, ◌≤◌, length};
 ghost use Rattle.text.specs.declared.Verdict.TheVariants.{Accepted};
 ghost use Rattle.frame_text.specs.Rules.{verdict};

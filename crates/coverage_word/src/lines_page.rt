@@ -14,7 +14,7 @@ const WIDTH: usize = 10;
 const OF_A_SET: usize = 64;
 
 // Where the counts stand of the next H, P and E line, and of the first E line below the next D line.
-#[derive(Drop)]
+#[derive(Clone, Copy)]
 pub struct Walk {
     header: usize,
     param: usize,
@@ -200,7 +200,7 @@ pub fn put_lines(text: &[u8], counts: &[u64; COUNTS], out: &mut Buffer, before: 
 }
 
 // How many there are of a kind, and how many of them were tried.
-#[derive(Drop)]
+#[derive(Clone, Copy)]
 pub struct Tried {
     pub all: u64,
     pub tried: u64,

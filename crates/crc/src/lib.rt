@@ -1,4 +1,6 @@
 // The checksum and the CRC of ITU-T G.9959, and whether an MPDU ends in the one that its speed asks for.
+#![tactic(auto)]
+
 mod table;
 
 ghost use Rattle.std.specs.Prelude.{◌≡◌, ◌+◌, ◌*◌, ◌<◌};

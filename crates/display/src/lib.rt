@@ -1,5 +1,7 @@
 // Values as people read them: VT1 and VT2 of docs/RULES.md. Counterpart of `display_value` of frame_definition/decode.rs and of `display` of
 // command_class/decode.rs.
+#![tactic(auto)]
+
 ghost use Rattle.std.specs.Prelude.{◌≡◌, ◌&&◌, [], ◌%◌, ◌≤◌, length};
 ghost use Rattle.refusal.specs.Refusal.{most_frame};
 ghost use Rattle.buffer.specs.Buffer.{Writes};
@@ -12,7 +14,7 @@ use lossy::write_lossy;
 use numerals::{ROOM, write_pairs};
 
 // The value of a field, if it has one.
-#[derive(Drop)]
+#[derive(Clone, Copy)]
 pub enum Value {
     Is(u64),
     Not,

@@ -1,5 +1,7 @@
 // The examples of docs/RULES.md: E1 to E11 are proved (specs/Examples.antt); all of them are run here, and what is written is held to the
 // file `stdout`.
+#![tactic(auto)]
+
 use command::{Offsets, Params, decode_params};
 use crc::check_crc;
 use frame::Parsed;

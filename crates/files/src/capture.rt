@@ -11,7 +11,7 @@ use std::num::wrapping_add_u64;
 const PREAMBLE: u8 = 0x5B;
 
 // Where the reading of a capture stands. What was read of it stands in a block that the caller lends.
-#[derive(Drop)]
+#[derive(Clone, Copy)]
 pub struct Source {
     pub fd: i32,
     pub is_raw: bool,
@@ -26,14 +26,14 @@ pub struct Source {
     pub left: u64,
 }
 
-#[derive(Drop)]
+#[derive(Clone, Copy)]
 pub enum Opened {
     At(Source),
     Unreadable,
 }
 
 // The next byte, if there is one.
-#[derive(Drop)]
+#[derive(Clone, Copy)]
 pub enum Read {
     Byte(u8, Source),
     End,
@@ -41,7 +41,7 @@ pub enum Read {
 }
 
 // What stands next in a capture.
-#[derive(Drop)]
+#[derive(Clone, Copy)]
 pub enum Item {
     // A payload of so many bytes. The lent slice holds as many of them as it has room for.
     Payload(usize),
@@ -55,7 +55,7 @@ pub enum Item {
     Unreadable,
 }
 
-#[derive(Drop)]
+#[derive(Clone, Copy)]
 pub struct Next {
     pub item: Item,
     pub source: Source,

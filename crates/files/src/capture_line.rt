@@ -18,7 +18,7 @@ ghost use Rattle.files.specs.declared.capture_line.State.TheVariants.{Bytes};
 use std::num::{wrapping_add_u64, wrapping_add_usize};
 
 // What the characters of a line were so far.
-#[derive(Drop)]
+#[derive(Clone, Copy)]
 pub enum State {
     // Bytes as they are: all of a raw capture is one line.
     Raw,
@@ -34,7 +34,7 @@ pub enum State {
 
 // A line so far, with its count of whole bytes and the column of its next character, from 1. Neither number ever wraps, as no
 // file is that long.
-#[derive(Drop)]
+#[derive(Clone, Copy)]
 pub struct Line {
     pub state: State,
     pub count: usize,
@@ -42,7 +42,7 @@ pub struct Line {
 }
 
 // What a line comes to.
-#[derive(Drop)]
+#[derive(Clone, Copy)]
 pub enum Content {
     // So many bytes.
     Bytes(usize),
@@ -51,13 +51,13 @@ pub enum Content {
 }
 
 // What a character makes of a line: another state, or one more byte.
-#[derive(Drop)]
+#[derive(Clone, Copy)]
 enum Step {
     To(State),
     Byte(u8),
 }
 
-#[derive(Drop)]
+#[derive(Clone, Copy)]
 enum Digit {
     Is(u8),
     Not,

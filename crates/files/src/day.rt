@@ -6,7 +6,7 @@ use refusal::Refusal;
 use std::num::wrapping_add_u64;
 
 // How the reading of captures ended.
-#[derive(Drop)]
+#[derive(Clone, Copy)]
 pub enum Verdict {
     Fine,
     // The first refusal of a payload.
@@ -16,7 +16,7 @@ pub enum Verdict {
 }
 
 // How far it is: payloads so far.
-#[derive(Drop)]
+#[derive(Clone, Copy)]
 pub struct Day {
     pub payloads: u64,
     pub verdict: Verdict,

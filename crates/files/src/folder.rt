@@ -5,7 +5,7 @@ ghost use Rattle.files.specs.Folder.{Loads};
 use crate::append::append;
 use libc::STDERR_FILENO;
 
-#[derive(Drop)]
+#[derive(Clone, Copy)]
 pub enum Loaded {
     // So many bytes: as much of the file as the lent slice has room for.
     Bytes(usize),

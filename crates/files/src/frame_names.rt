@@ -11,7 +11,7 @@ use text::Verdict;
 use writer::print_number;
 
 // How it was found.
-#[derive(Drop)]
+#[derive(Clone, Copy)]
 pub enum State {
     Fine,
     // There is none. That is said already, as is why one is refused.
@@ -20,7 +20,7 @@ pub enum State {
 }
 
 // How many bytes it has: none where it is missing or refused, and no frame has a name then.
-#[derive(Drop)]
+#[derive(Clone, Copy)]
 pub struct FrameText {
     pub count: usize,
     pub state: State,

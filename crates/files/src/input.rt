@@ -5,7 +5,7 @@ ghost use Rattle.files.specs.Input.{Opens, Reaches, Holds};
 use check::same;
 use output::outcome::{fail, fail_file};
 
-#[derive(Drop)]
+#[derive(Clone, Copy)]
 pub enum File {
     // A descriptor, and how many bytes the file's name has, which the lent slice holds.
     Open(i32, usize),
@@ -39,7 +39,7 @@ pub fn open_argument(k: usize, name: &mut [u8]) -> File
     File::Open(fd, n)
 }
 
-#[derive(Drop)]
+#[derive(Clone, Copy)]
 pub enum Got {
     // So many bytes stand in the lent slice.
     Bytes(usize),

@@ -1,4 +1,6 @@
 // The arguments of tap, and the files that they name: captures, and the folder of the definitions.
+#![tactic(auto)]
+
 pub mod append;
 pub mod capture;
 pub mod capture_line;

@@ -9,7 +9,7 @@ use refusal::Refusal;
 use std::num::wrapping_add_usize;
 
 // What the arguments behind the word say. An argument is told by its number.
-#[derive(Drop)]
+#[derive(Clone, Copy)]
 pub struct Options {
     pub colour: bool,
     pub picture: bool,
@@ -57,7 +57,7 @@ const BEAMS: u8 = 3;
 
 const REGION: u8 = 4;
 
-#[derive(Drop)]
+#[derive(Clone, Copy)]
 pub enum Asked {
     Options(Options),
     // They can't be taken: that is said already.

@@ -1,4 +1,6 @@
 // The frame in a record's body: F7 to F12, F16, FV1, FV2, BF1 and BF2 of docs/RULES.md.
+#![tactic(auto)]
+
 ghost use Rattle.std.specs.Prelude.{◌≡◌, ◌||◌, ◌≤◌, ◌<◌, ◌%◌, ◌^◌, leb, ltb, length};
 ghost use Rattle.refusal.specs.Refusal.{most_payload};
 ghost use Rattle.radio.specs.Speed.{RateTable};
@@ -33,28 +35,28 @@ const SHORTEST_MPDU: usize = 9;
 const ZWAVE_PROTOCOL: u8 = 6;
 
 // Which records that start with the marker are beams: all of them, or those alone that repeat or are too short for an ordinary frame.
-#[derive(Drop)]
+#[derive(Clone, Copy)]
 pub enum Reading {
     Marker,
     Family,
 }
 
 // By what a record is read: how many bits of its byte say the region, and which records are beams.
-#[derive(Drop)]
+#[derive(Clone, Copy)]
 pub struct Rules {
     pub width: u8,
     pub reading: Reading,
 }
 
 // The direction a frame was observed in.
-#[derive(Drop)]
+#[derive(Clone, Copy)]
 pub enum Direction {
     Rx,
     Tx,
 }
 
 // The fields of a trailer.
-#[derive(Drop)]
+#[derive(Clone, Copy)]
 pub struct Trailer {
     pub tag: u8,
     pub rssi: u8,
@@ -64,14 +66,14 @@ pub struct Trailer {
 }
 
 // Where a body's header ends and its trailer starts, if at least one byte stands between.
-#[derive(Drop)]
+#[derive(Clone, Copy)]
 pub enum Layout {
     Between(BodyOffset, BodyOffset),
     Nothing,
 }
 
 // The parts of a body that holds a frame: the middle bytes stand from `middle` up to `end`.
-#[derive(Drop)]
+#[derive(Clone, Copy)]
 pub struct Parts {
     pub direction: Direction,
     pub middle: BodyOffset,
@@ -81,21 +83,21 @@ pub struct Parts {
     pub beam: bool,
 }
 
-#[derive(Drop)]
+#[derive(Clone, Copy)]
 pub enum Split {
     Into(Parts),
     Nothing,
 }
 
 // The repetitions of a wake-up beam; other frames have none.
-#[derive(Drop)]
+#[derive(Clone, Copy)]
 pub enum Beams {
     Count(u16),
     NoBeam,
 }
 
 // A Z-Wave frame recovered from a record. Its MPDU stays a part of the body.
-#[derive(Drop)]
+#[derive(Clone, Copy)]
 pub struct PtiFrame {
     pub direction: Direction,
     // The region as PTI numbers it, which is no F code of a definition text.
@@ -113,7 +115,7 @@ pub struct PtiFrame {
 }
 
 // The frame of a single record.
-#[derive(Drop)]
+#[derive(Clone, Copy)]
 pub enum Parsed {
     Frame(PtiFrame),
     Refused(Refusal),

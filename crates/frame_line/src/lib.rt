@@ -1,4 +1,6 @@
 // A frame's line of the table, column by column.
+#![tactic(auto)]
+
 pub mod beam_columns;
 pub mod frame_row;
 pub mod mask_column;

@@ -12,7 +12,7 @@ pub const WIDTH: usize = 16;
 const MOST: usize = 2040;
 
 // How many nodes have room, and how much of it they leave.
-#[derive(Drop)]
+#[derive(Clone, Copy)]
 struct Fitting {
     count: usize,
     left: usize,

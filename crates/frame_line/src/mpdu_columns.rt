@@ -25,7 +25,7 @@ const NAMES: usize = 26;
 const PARAMS: usize = 1024 * ROW_WIDTH;
 
 // Where and how an MPDU was heard.
-#[derive(Drop)]
+#[derive(Clone, Copy)]
 pub struct Radio {
     // Of the PTI, not an F line's code.
     pub region: u64,
@@ -33,7 +33,7 @@ pub struct Radio {
 }
 
 // How a line is shown: in colour or not, by the command texts of which folder, told by its argument's number, and with offsets by position or not.
-#[derive(Drop)]
+#[derive(Clone, Copy)]
 pub struct Look {
     pub colour: bool,
     pub folder: usize,

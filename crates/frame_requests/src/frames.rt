@@ -17,21 +17,21 @@ use writer::{Buffer, put, put_number};
 const NUMBERS: usize = 16384 * ROW_WIDTH;
 
 // A table and a payload: how many numbers the one has, and how many bytes the other, all of them decoded.
-#[derive(Drop)]
+#[derive(Clone, Copy)]
 enum Asked {
     Table(usize, usize),
     Not,
 }
 
 // What a request says of its bytes: the firmware that wrote them, and whether beams are a family of their own.
-#[derive(Drop)]
+#[derive(Clone, Copy)]
 pub struct Capture {
     pub firmware: usize,
     pub family: bool,
 }
 
 // The same, and where the other words of the request start.
-#[derive(Drop)]
+#[derive(Clone, Copy)]
 pub enum By {
     Capture(Capture, usize),
     Not,

@@ -1,4 +1,6 @@
 // The requests on the frames of a capture: on rates, on single records, and on every frame of a payload.
+#![tactic(auto)]
+
 mod frame_table;
 mod frames;
 mod single;

@@ -1,4 +1,6 @@
 // One frame of a capture, by its number as `tap frames` counts.
+#![tactic(auto)]
+
 ghost use Rattle.std.specs.Prelude.{◌≤◌, length};
 ghost use Rattle.files.specs.Capture.{Inside};
 ghost use Rattle.frame_search.specs.Search.{Holds};
@@ -18,7 +20,7 @@ use std::num::wrapping_add_u64;
 type Table = [u16; 3000 * ROW_WIDTH];
 
 // A frame that was found, how many bytes of its MPDU stand in a lent slice, and in which of the capture's payloads it stands, from 1.
-#[derive(Drop)]
+#[derive(Clone, Copy)]
 pub struct Hit {
     pub frame: FrameRecord,
     pub count: usize,
@@ -26,7 +28,7 @@ pub struct Hit {
 }
 
 // What is sought: the frame after so many, of those behind so many payloads, which a firmware wrote, with beams as a family of their own or not.
-#[derive(Drop)]
+#[derive(Clone, Copy)]
 pub struct Aim {
     pub firmware: usize,
     pub family: bool,
@@ -44,7 +46,7 @@ impl Aim {
 }
 
 // What is known of a search.
-#[derive(Drop)]
+#[derive(Clone, Copy)]
 pub enum Search {
     Found(Hit),
     // What is still sought.

@@ -9,7 +9,7 @@ use std::num::wrapping_add_u64;
 use writer::{Buffer, print_number, put, put_number};
 
 // How the reading of a capture ended.
-#[derive(Drop)]
+#[derive(Clone, Copy)]
 pub enum Verdict {
     Fine,
     // The first refusal, of the frame text or of a payload.
@@ -24,7 +24,7 @@ pub enum Verdict {
 }
 
 // What was shown so far.
-#[derive(Drop)]
+#[derive(Clone, Copy)]
 pub struct Sheet {
     // How many bytes have gathered in the buffer.
     pub at: usize,

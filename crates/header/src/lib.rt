@@ -1,4 +1,6 @@
 // The header of an MPDU, by a frame text. Counterpart of `decode_header` of frame_definition/decode.rs.
+#![tactic(auto)]
+
 ghost use Rattle.std.specs.Prelude.{◌≡◌, ◌*◌, ◌≤◌, length};
 ghost use Rattle.refusal.specs.Refusal.{most_frame};
 ghost use Rattle.text.specs.declared.Verdict.TheVariants.{Accepted};
@@ -27,7 +29,7 @@ pub const MOST_NUMBERS: usize = 128 * ROW_WIDTH;
 
 // H20 of docs/RULES.md: which H line it is, its key and flags, where its name stands in the text, where the payload starts in the
 // MPDU, whether the checksum or CRC is right, and how many rows there are.
-#[derive(Drop)]
+#[derive(Clone, Copy)]
 pub struct DecodedHeader {
     pub number: usize,
     pub key: u16,
@@ -38,14 +40,14 @@ pub struct DecodedHeader {
     pub rows: usize,
 }
 
-#[derive(Drop)]
+#[derive(Clone, Copy)]
 pub enum Decoded {
     Header(DecodedHeader),
     Refused(Refusal),
 }
 
 // Which rows of a header are wanted in the table: all of them, none, or the one of a number, from 0. Each stands in its place.
-#[derive(Drop)]
+#[derive(Clone, Copy)]
 pub enum Wanted {
     All,
     Nothing,
@@ -125,7 +127,7 @@ fn show(
 }
 
 // What is sought: the base key, at a speed, and which rows are to be written.
-#[derive(Drop)]
+#[derive(Clone, Copy)]
 struct Sought {
     key: u64,
     speed: u64,

@@ -1,5 +1,7 @@
 // The base header's fields, read once, and behind them each candidate's, until one holds: the loops of `decode_header` of
 // frame_definition/decode.rs. One table has the loaded P lines, one the scratch rows: base first, then the candidate at hand.
+#![tactic(auto)]
+
 ghost use Rattle.std.specs.Prelude.{◌≡◌, ◌≤◌, length};
 ghost use Rattle.text.specs.Records.{Readable};
 ghost use Rattle.text.specs.declared.Verdict.TheVariants.{Accepted};
@@ -15,7 +17,7 @@ use header_walk::{Walked, walk_from};
 use text::Place;
 
 // Fields that were read: how many lines are loaded, where the last field ends, how many rows there are.
-#[derive(Drop)]
+#[derive(Clone, Copy)]
 pub struct Read {
     pub count: usize,
     pub bit: BitOffset,
@@ -23,14 +25,14 @@ pub struct Read {
 }
 
 // A candidate's trial: what was read, if all its V are met.
-#[derive(Drop)]
+#[derive(Clone, Copy)]
 pub enum Held {
     Holds(Read),
     Fails,
 }
 
 // The candidate that is chosen, and what was read.
-#[derive(Drop)]
+#[derive(Clone, Copy)]
 pub enum Choice {
     At { candidate: Candidate, read: Read },
     Nothing,

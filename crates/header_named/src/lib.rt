@@ -1,4 +1,6 @@
 // The rows of one candidate that is named, whether it holds or not.
+#![tactic(auto)]
+
 ghost use Rattle.std.specs.Prelude.{◌≡◌, ◌*◌, ◌≤◌, length};
 ghost use Rattle.refusal.specs.Refusal.{most_frame};
 ghost use Rattle.text.specs.Records.{Readable};
@@ -18,7 +20,7 @@ use header_rows::write_rows;
 use text::Place;
 
 // How many rows the candidate has, or that there is none.
-#[derive(Drop)]
+#[derive(Clone, Copy)]
 pub enum Named {
     Rows(usize),
     Nothing,
@@ -46,7 +48,7 @@ fn find_named(text: &[u8], key: u64, number: u64) -> NextCandidate
 }
 
 // Where P lines begin, and how many P lines come before.
-#[derive(Drop)]
+#[derive(Clone, Copy)]
 struct Lines {
     place: Place,
     params: usize,

@@ -1,5 +1,7 @@
 // The nodes that a field of a header addresses: BM2 and BM4 of docs/RULES.md. The header is read into rows of its own, and the row that is asked
 // for must be a BITMASK of whole bytes at a whole byte.
+#![tactic(auto)]
+
 ghost use Rattle.std.specs.Prelude.{◌≡◌, ◌+◌, ◌*◌, ◌≤◌, length};
 ghost use Rattle.text.specs.declared.Verdict.TheVariants.{Accepted};
 ghost use Rattle.frame_text.specs.Rules.{verdict};

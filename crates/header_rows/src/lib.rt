@@ -1,4 +1,6 @@
 // The rows of a header's answer: what the scratch rows tell, with the P's number for its place, and with the symbol.
+#![tactic(auto)]
+
 ghost use Rattle.std.specs.Prelude.{◌≡◌, List, map, ℕ, ◌+◌, ◌*◌, ◌≤◌, length};
 ghost use Rattle.text.specs.declared.Verdict.TheVariants.{Accepted};
 ghost use Rattle.frame_text.specs.Rules.{verdict};

@@ -1,4 +1,6 @@
 // The validations of a candidate, held against the rows that a walk has read.
+#![tactic(auto)]
+
 ghost use Rattle.std.specs.Prelude.{◌≡◌, ◌*◌, ◌≤◌, length};
 ghost use Rattle.text.specs.Place.{part_of};
 ghost use Rattle.text.specs.Records.{Readable};

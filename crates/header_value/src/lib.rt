@@ -1,5 +1,7 @@
 // What is shown of a field of a header: VT1 and VT9 of docs/RULES.md. The header is read, and of its rows only the one that is asked for is written into a
 // table of our own: it names the P line, whose type and define set say the rest.
+#![tactic(auto)]
+
 mod lookup;
 
 ghost use Rattle.std.specs.Prelude.{◌≡◌, ◌≤◌, length};
@@ -25,7 +27,7 @@ use refusal::Refusal;
 use text::Verdict;
 
 // Numbers of a row that are shown: the start bit, the bits, whether there is a value, the value, and the symbol's number + 1 or 0.
-#[derive(Drop)]
+#[derive(Clone, Copy)]
 struct Shown {
     start: u64,
     bits: u64,

@@ -1,5 +1,7 @@
 // The walk over loaded fields: H9 to H13 of docs/RULES.md. Counterpart of `decode_param` and of the two loops of
 // `decode_header` of frame_definition/decode.rs. What is read goes into scratch rows (crate `header_paths`).
+#![tactic(auto)]
+
 ghost use Rattle.std.specs.Prelude.{◌≡◌, [], ◌∷◌, ◌++◌, ◌+◌, ◌-◌, ◌*◌, ◌<◌, ◌≤◌, length};
 ghost use Rattle.header_fields.specs.Fields.{line_width, level_in, fields_in};
 ghost use Rattle.header_rules.specs.Loaded.{walked_from};
@@ -19,21 +21,21 @@ use rows::put_row;
 const DEEPEST: u64 = 7;
 
 // How wide a field is where it exists.
-#[derive(Drop)]
+#[derive(Clone, Copy)]
 pub enum Extent {
     Bits(u64),
     Missing,
 }
 
 // A field that was read: how many rows there are behind it, and how wide it is.
-#[derive(Drop)]
+#[derive(Clone, Copy)]
 pub enum Field {
     Read { rows: usize, bits: u64 },
     Missing,
 }
 
 // Where a list of fields ends, and how many rows there are behind it.
-#[derive(Drop)]
+#[derive(Clone, Copy)]
 pub struct Walked {
     pub bit: BitOffset,
     pub rows: usize,
@@ -41,7 +43,7 @@ pub struct Walked {
 
 // Where a field is read: its place among the loaded fields, its bit, the row of the field that it is inside + 1 or 0, how many rows there are
 // before it, and how many levels are left below it.
-#[derive(Drop)]
+#[derive(Clone, Copy)]
 pub struct Spot {
     pub place: usize,
     pub start: BitOffset,
@@ -52,7 +54,7 @@ pub struct Spot {
 
 // A field whose inner fields are read: its place among the loaded fields, where it ends, how wide it is, how many rows there are with its own,
 // which is the last of them, and how many levels are left below those inside it.
-#[derive(Drop)]
+#[derive(Clone, Copy)]
 pub struct Outer {
     pub place: usize,
     pub end: BitOffset,

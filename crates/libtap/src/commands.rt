@@ -10,7 +10,7 @@ use command_rules::Row;
 
 // A command's parameters as C has them: where `refusal` is 0, how many rows there are, and where the remainder starts in the payload.
 #[repr(C)]
-#[derive(Drop)]
+#[derive(Clone, Copy)]
 pub struct TapParams {
     pub refusal: u64,
     pub value: u64,
@@ -54,7 +54,7 @@ pub extern "C" fn tap_decode_params(
 
 // One row of a command as C has it: where `refusal` is 0, the ten numbers of C16 and L3 (docs/RULES.md).
 #[repr(C)]
-#[derive(Drop)]
+#[derive(Clone, Copy)]
 pub struct TapRow {
     pub refusal: u64,
     pub carried: u64,

@@ -17,7 +17,7 @@ use records::{Counted, find_body};
 
 // Whom a beam wakes, as C has it: the three numbers of BF2.
 #[repr(C)]
-#[derive(Drop)]
+#[derive(Clone, Copy)]
 pub struct TapTarget {
     pub node: u64,
     pub hash: u64,
@@ -26,7 +26,7 @@ pub struct TapTarget {
 
 // A single record's frame as C has it: where `refusal` is 0, the eight numbers of F16, `start` in the record's body, and whom a beam wakes.
 #[repr(C)]
-#[derive(Drop)]
+#[derive(Clone, Copy)]
 pub struct TapFrame {
     pub refusal: u64,
     pub value: u64,
@@ -43,7 +43,7 @@ pub struct TapFrame {
 
 // A part of the caller's bytes: where it starts in them, and its length.
 #[repr(C)]
-#[derive(Drop)]
+#[derive(Clone, Copy)]
 pub struct TapPart {
     pub start: u64,
     pub length: u64,

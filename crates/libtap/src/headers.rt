@@ -13,7 +13,7 @@ use header::{Decoded, DecodedHeader, decode_header};
 
 // Bits as C has them: `is_read` says whether there is a value.
 #[repr(C)]
-#[derive(Drop)]
+#[derive(Clone, Copy)]
 pub struct TapBits {
     pub is_read: bool,
     pub value: u64,
@@ -22,7 +22,7 @@ pub struct TapBits {
 // A header as C has it: where `refusal` is 0, which H line it is, its key, where its name starts in the text and how long that is, where
 // the payload starts in the MPDU, how many rows there are, whether the checksum or CRC is right, and the H's four flags.
 #[repr(C)]
-#[derive(Drop)]
+#[derive(Clone, Copy)]
 pub struct TapHeader {
     pub refusal: u64,
     pub value: u64,

@@ -1,5 +1,7 @@
 // The tap's calls as a static library, for C and Rust to link. libtap.h declares them for C. The program `replay` answers by the same calls, so that what is
 // compared with the Rust is what C has.
+#![tactic(auto)]
+
 pub mod captures;
 pub mod commands;
 pub mod frames;
@@ -20,7 +22,7 @@ use refusal::Refusal;
 // An answer as C has it: `refusal` is 0 and `value` the number that the call answers, or `refusal` is one of R1 to R9, TO5, BM3, U5, FV2, LS2, X1 and X2
 // (docs/RULES.md) and `value` what it carries.
 #[repr(C)]
-#[derive(Drop)]
+#[derive(Clone, Copy)]
 pub struct TapAnswer {
     pub refusal: u64,
     pub value: u64,

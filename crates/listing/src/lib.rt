@@ -1,4 +1,6 @@
 // A dealer's listing of a header, judged; and our own answer as such a listing.
+#![tactic(auto)]
+
 ghost use Rattle.std.specs.Prelude.{◌≡◌, ◌*◌, ◌≤◌, length};
 ghost use Rattle.refusal.specs.Refusal.{most_frame};
 ghost use Rattle.text.specs.Text.{lines};
@@ -20,7 +22,7 @@ use listing_text::{Form, first_difference, put_lines, read_form};
 use refusal::Refusal;
 
 // What is said of a listing.
-#[derive(Drop)]
+#[derive(Clone, Copy)]
 pub enum Judgement {
     Yes,
     // The first line that differs.
@@ -46,7 +48,7 @@ fn or_last(last: usize, line: usize) -> usize
 }
 
 // Where and how fast the frame was sent.
-#[derive(Drop)]
+#[derive(Clone, Copy)]
 struct Sent {
     region: u64,
     speed: u64,
@@ -73,7 +75,7 @@ fn judge_other(
 }
 
 // The header that was decoded: its number among the H lines, and how many rows it has.
-#[derive(Drop)]
+#[derive(Clone, Copy)]
 struct Answered {
     number: usize,
     rows: usize,

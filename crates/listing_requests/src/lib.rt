@@ -1,4 +1,6 @@
 // The request on a listing.
+#![tactic(auto)]
+
 ghost use Rattle.std.specs.Prelude.{◌-◌, ◌≤◌, length};
 
 use answer::{Answer, put_named, put_refusal};
@@ -9,7 +11,7 @@ use text::find;
 use writer::{Buffer, put};
 
 // A request: the region and the speed, where the text ends, and behind it where the MPDU and the listing end.
-#[derive(Drop)]
+#[derive(Clone, Copy)]
 struct Asked {
     region: u64,
     speed: u64,

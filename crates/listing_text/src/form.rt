@@ -8,7 +8,7 @@ use numerals::numbers::{Value, read_value};
 use text::{Place, find};
 
 // What a listing says by its form.
-#[derive(Drop)]
+#[derive(Clone, Copy)]
 pub enum Form {
     // The last line, of this number, names the header of that number.
     Names { number: u64, line: usize },

@@ -1,4 +1,6 @@
 // The text of a listing: the rows of a header as decimal numbers, a line each, and last the header's number. Read, compared and written.
+#![tactic(auto)]
+
 mod difference;
 mod form;
 mod lines;

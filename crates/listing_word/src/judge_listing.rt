@@ -12,7 +12,7 @@ use trees::field_tree::put_field;
 use writer::{Buffer, flush, print_number, put, put_number};
 
 // A frame whose listing is judged: its number, and the region of the frame text and the rate at which it was sent.
-#[derive(Drop)]
+#[derive(Clone, Copy)]
 pub struct Frame {
     pub number: u64,
     pub region: u64,

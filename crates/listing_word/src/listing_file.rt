@@ -14,7 +14,7 @@ use std::num::wrapping_sub_u64;
 use writer::print_number;
 
 // What is asked for: the number of a frame, and the argument that names the listing, 0 for our own.
-#[derive(Drop)]
+#[derive(Clone, Copy)]
 struct Task {
     number: u64,
     listing: usize,

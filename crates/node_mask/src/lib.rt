@@ -1,5 +1,7 @@
 // The nodes that a bit mask addresses: BM1 of docs/RULES.md. How many they are is counted a word of eight bytes at a time; they are listed
 // from one set bit of a word to the next.
+#![tactic(auto)]
+
 ghost use Rattle.std.specs.Prelude.{◌≡◌, ◌+◌, ◌-◌, ◌*◌, ◌/◌, ◌%◌, ◌^◌, ◌<◌, ◌≤◌, length, take, drop};
 ghost use Rattle.std.proofs.lemmas.List.Edits.{sets};
 ghost use Rattle.node_mask.specs.Nodes.{nodes_of, Lists};
@@ -11,7 +13,7 @@ use refusal::Refusal;
 pub const MOST_BYTES: usize = 8191;
 
 // What listing the nodes of a mask answers: how many it wrote, or why none.
-#[derive(Drop)]
+#[derive(Clone, Copy)]
 pub enum Listed {
     Nodes(usize),
     Refused(Refusal),

@@ -1,4 +1,6 @@
 // The requests on the nodes that a row addresses.
+#![tactic(auto)]
+
 ghost use Rattle.std.specs.Prelude.{◌≤◌, length};
 ghost use Rattle.libtap.specs.Answers.{Stands};
 

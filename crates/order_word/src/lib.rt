@@ -1,4 +1,6 @@
 // The words `overlaps` and `sort` of tap: does the order of a frame text's headers matter, and the text with them sorted.
+#![tactic(auto)]
+
 pub mod moved;
 pub mod overlaps_file;
 pub mod sort_file;

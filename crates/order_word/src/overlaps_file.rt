@@ -59,7 +59,7 @@ fn count_headers(text: &[u8]) -> usize
 }
 
 // Pairs of one base: those that are apart, and those of which it cannot be told.
-#[derive(Drop)]
+#[derive(Clone, Copy)]
 struct Pairs {
     apart: u64,
     open: u64,

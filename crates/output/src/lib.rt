@@ -1,4 +1,6 @@
 // What tap prints besides pages: sentences, colour, and how a run ends.
+#![tactic(auto)]
+
 pub mod outcome;
 pub mod paint;
 pub mod prose;

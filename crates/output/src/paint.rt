@@ -2,7 +2,7 @@
 use writer::{Buffer, put, put_left};
 
 // What is coloured.
-#[derive(Drop)]
+#[derive(Clone, Copy)]
 pub enum Hue {
     // A frame's or a command's name.
     Name,

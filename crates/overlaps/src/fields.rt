@@ -14,7 +14,7 @@ use header_paths::part_of;
 use text::{Place, find, is_same};
 
 // The places behind a P line that both headers have.
-#[derive(Drop)]
+#[derive(Clone, Copy)]
 pub enum Met {
     At { one: Place, other: Place },
     Nothing,

@@ -16,14 +16,14 @@ use header_paths::part_of;
 use text::{Optional, Part, Place};
 
 // A header: its base key, and the place behind its H line.
-#[derive(Drop)]
+#[derive(Clone, Copy)]
 pub struct Head {
     pub base: Optional,
     pub place: Place,
 }
 
 // The next header.
-#[derive(Drop)]
+#[derive(Clone, Copy)]
 pub enum NextHeader {
     At(Head),
     Nothing,

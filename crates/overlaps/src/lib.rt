@@ -1,4 +1,6 @@
 // May two headers of a frame text hold together? Their V lines on one path with other values keep them apart, where the path finds the same field by both.
+#![tactic(auto)]
+
 mod fields;
 mod headers;
 mod lines;
@@ -16,7 +18,7 @@ use refusal::Refusal;
 use text::Verdict;
 
 // What is told of two headers.
-#[derive(Drop)]
+#[derive(Clone, Copy)]
 pub enum Overlap {
     // No MPDU is held by both.
     Apart,
@@ -32,7 +34,7 @@ pub enum Overlap {
 }
 
 // What is told of a text.
-#[derive(Drop)]
+#[derive(Clone, Copy)]
 pub enum Harmless {
     // Every two headers of one base are apart: no order of its H blocks matters.
     Yes,

@@ -1,4 +1,6 @@
 // Plain form, the order of lines that XML keeps: X12 of docs/RULES.md.
+#![tactic(auto)]
+
 ghost use Rattle.std.specs.Prelude.{◌≡◌};
 ghost use Rattle.plain_form.specs.PlainForm.{stands, farther, out_of_order};
 

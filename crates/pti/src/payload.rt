@@ -52,7 +52,7 @@ const SHORTEST_BODY: usize = 18;
 const SHORTEST: usize = SHORTEST_BODY + 4;
 
 // How many rows a payload has, all of them written.
-#[derive(Drop)]
+#[derive(Clone, Copy)]
 pub enum Frames {
     Rows(usize),
     Refused(Refusal),

@@ -10,7 +10,7 @@ const NODES: u16 = 4096;
 
 // Whom a beam wakes: the node, the hash of its home id and, at Long Range, the power. Each is one more than its number, and 0 where the beam ends
 // before it.
-#[derive(Drop)]
+#[derive(Clone, Copy)]
 pub struct BeamTarget {
     pub node: u16,
     pub hash: u16,

@@ -4,7 +4,7 @@ ghost use Rattle.readers.specs.Numeral.{numeral_of, says};
 
 use text::{Number, read_number};
 
-#[derive(Drop)]
+#[derive(Clone, Copy)]
 pub enum Numeral {
     Is(u64),
     // Something else stands there, or it is far too great.

@@ -1,4 +1,6 @@
 // The records of a payload (F1 to F6 of docs/RULES.md): how many bodies there are, and each as a part of the payload.
+#![tactic(auto)]
+
 ghost use Rattle.std.specs.Prelude.{◌≡◌, ◌<◌, ◌+◌, ◌^◌};
 ghost use Rattle.records.specs.Records.{record_at, Counts, span_of, PartOf};
 ghost use Rattle.records.specs.Steps.{Follows, IsBody};
@@ -6,11 +8,11 @@ ghost use Rattle.records.specs.Steps.{Follows, IsBody};
 use refusal::{MOST_PAYLOAD, Refusal};
 
 // A byte's place in a payload.
-#[derive(Drop)]
+#[derive(Clone, Copy)]
 pub struct PayloadOffset(pub usize);
 
 // A byte's place in a record's body.
-#[derive(Drop)]
+#[derive(Clone, Copy)]
 pub struct BodyOffset(pub usize);
 
 impl BodyOffset {
@@ -24,28 +26,28 @@ impl BodyOffset {
 }
 
 // What stands at a place: a record of n, or nothing that goes on.
-#[derive(Drop)]
+#[derive(Clone, Copy)]
 pub enum RecordAt {
     Record(usize),
     Stop,
 }
 
 // Where a body lies in the payload, end excluded.
-#[derive(Drop)]
+#[derive(Clone, Copy)]
 pub struct Span {
     pub start: PayloadOffset,
     pub end: PayloadOffset,
 }
 
 // The next body from a place on, if there is one.
-#[derive(Drop)]
+#[derive(Clone, Copy)]
 pub enum Next {
     Body(Span),
     NoMore,
 }
 
 // How many bodies a payload has.
-#[derive(Drop)]
+#[derive(Clone, Copy)]
 pub enum Counted {
     Records(usize),
     Refused(Refusal),

@@ -6,7 +6,7 @@ use libc::STDIN_FILENO;
 use text::find;
 
 // The bytes that wait in the buffer, from `start` up to `end`. None of them before `seen` ends a line.
-#[derive(Drop)]
+#[derive(Clone, Copy)]
 pub struct Input {
     pub start: usize,
     pub seen: usize,
@@ -15,7 +15,7 @@ pub struct Input {
     pub is_rest: bool,
 }
 
-#[derive(Drop)]
+#[derive(Clone, Copy)]
 pub enum Found {
     // A line, from a place of the buffer up to another, and what waits behind it.
     Line(usize, usize, Input),
@@ -25,7 +25,7 @@ pub enum Found {
     More(Input),
 }
 
-#[derive(Drop)]
+#[derive(Clone, Copy)]
 pub enum Filled {
     More(Input),
     // The line that waits is longer than the buffer.

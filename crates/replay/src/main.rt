@@ -1,5 +1,7 @@
 // Answers the requests of standard input, one a line, each with a line on standard output: the door by which vectors,
 // differential runs and outside checks reach the proved calls.
+#![tactic(auto)]
+
 mod definitions;
 mod input;
 mod mpdu;

@@ -23,7 +23,7 @@ use xml_requests::turned;
 const TURNS: u64 = 0x4000000000000000;
 
 // How it goes on: with what waits of the input and how much of the output, or not at all.
-#[derive(Drop)]
+#[derive(Clone, Copy)]
 enum Turn {
     Next(Input, usize),
     End,

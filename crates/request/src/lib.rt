@@ -1,4 +1,6 @@
 // The words of a request: which one it starts with, decimal numbers, and bytes in hex.
+#![tactic(auto)]
+
 pub mod row;
 
 ghost use Rattle.std.specs.Prelude.{◌≡◌};
@@ -9,7 +11,7 @@ use readers::line_fields::find_field;
 use text::{find, is_missing};
 
 // The words that a request starts with.
-#[derive(Drop)]
+#[derive(Clone, Copy)]
 pub enum Word {
     Rate,
     Count,
@@ -40,28 +42,28 @@ pub enum Word {
 }
 
 // What words say of which the first is a number and others follow it: the number, and where the others start.
-#[derive(Drop)]
+#[derive(Clone, Copy)]
 pub enum Leading {
     Is(u64, usize),
     Not,
 }
 
 // What words say of which the first two are numbers and others follow them: the numbers, and where the others start.
-#[derive(Drop)]
+#[derive(Clone, Copy)]
 pub enum Two {
     Are(u64, u64, usize),
     Not,
 }
 
 // What a word says as bytes: how many, all of them decoded.
-#[derive(Drop)]
+#[derive(Clone, Copy)]
 pub enum Bytes {
     Are(usize),
     Not,
 }
 
 // What two words say as bytes, the second's behind the first's: where the second's start and end, all of them decoded.
-#[derive(Drop)]
+#[derive(Clone, Copy)]
 pub enum Both {
     Are(usize, usize),
     Not,

@@ -4,7 +4,7 @@ ghost use Rattle.request.specs.Row.{AsksHeader, AsksCommand};
 use crate::{Both, Leading, Two, read_both, read_leading, read_two};
 
 // A row of a header: how much room is asked for, its number, the region and the speed, where the MPDU starts behind the text, and where it ends.
-#[derive(Drop)]
+#[derive(Clone, Copy)]
 pub struct HeaderRow {
     pub cap: usize,
     pub row: usize,
@@ -14,14 +14,14 @@ pub struct HeaderRow {
     pub end: usize,
 }
 
-#[derive(Drop)]
+#[derive(Clone, Copy)]
 pub enum HeaderAsked {
     Is(HeaderRow),
     Not,
 }
 
 // A row of a command: how much room is asked for, its number, how offsets are read, where the payload starts behind the text, and where it ends.
-#[derive(Drop)]
+#[derive(Clone, Copy)]
 pub struct CommandRow {
     pub cap: usize,
     pub row: usize,
@@ -30,7 +30,7 @@ pub struct CommandRow {
     pub end: usize,
 }
 
-#[derive(Drop)]
+#[derive(Clone, Copy)]
 pub enum CommandAsked {
     Is(CommandRow),
     Not,

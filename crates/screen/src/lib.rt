@@ -1,4 +1,6 @@
 // Frame records for the screen, filled from the flat rows of `parse_payload`: F19 of docs/RULES.md.
+#![tactic(auto)]
+
 ghost use Rattle.std.specs.Prelude.{◌≡◌, ◌≤◌, ◌+◌, ◌*◌, drop, length};
 ghost use Rattle.screen.specs.Screen.{record_of, fillable_of, Filled};
 ghost use Rattle.pti.specs.Payload.{row_width};
@@ -10,7 +12,7 @@ use pti::payload::{
 use radio::rssi::signed;
 
 #[repr(C)]
-#[derive(Drop)]
+#[derive(Clone, Copy)]
 pub struct FrameRecord {
     // 0 Rx, 1 Tx
     pub direction: u8,

@@ -1,4 +1,6 @@
 // Values of rows of a table as people read them, on their way to standard output. A row that is not there, or a text that isn't accepted, has none.
+#![tactic(auto)]
+
 ghost use Rattle.std.specs.Prelude.{◌≡◌};
 ghost use Rattle.text.specs.declared.Verdict.TheVariants.{Accepted};
 ghost use Rattle.frame_text.specs.Rules.{verdict};

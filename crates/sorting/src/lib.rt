@@ -1,5 +1,7 @@
 // A frame text with its H blocks sorted by name, written into a lent buffer. At most 64 blocks: where they begin is kept, and nothing of the text is copied
 // before it is written.
+#![tactic(auto)]
+
 ghost use Rattle.std.specs.Prelude.{◌≡◌, ◌++◌, ◌+◌, ◌≤◌, ◌<◌, length, get_or, take, drop};
 ghost use Rattle.std.proofs.lemmas.List.Edits.{sets};
 ghost use Rattle.buffer.specs.Buffer.{Writes};
@@ -169,7 +171,7 @@ fn collect_sorted(text: &[u8], starts: &mut [usize]) -> usize
 }
 
 // Where the section begins that stands in the place of the one at `at`: of a block the next of the sorted ones, of which so many are used.
-#[derive(Drop)]
+#[derive(Clone, Copy)]
 struct Chosen {
     start: usize,
     used: usize,

@@ -1,6 +1,8 @@
 // tap: the Z-Wave frames of a capture, and the definitions that name them, for people. The last line of the output is `ok`,
 // `refused N V` (a refusal of docs/RULES.md: its number and what it carries), `differs L` (of `judge`), `overlaps N` (of `overlaps`) or `failed`.
 // A program has no exit status here; bin/tap makes one of that line.
+#![tactic(auto)]
+
 mod help_page;
 mod words;
 

@@ -10,7 +10,7 @@ use readers::line_fields::{count_pieces, find_piece, letter_of};
 use text::find;
 
 // What is wrong with the form of a line.
-#[derive(Drop)]
+#[derive(Clone, Copy)]
 pub enum Advice {
     Fine,
     // Nothing stands on it.

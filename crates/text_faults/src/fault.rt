@@ -6,7 +6,7 @@ ghost use Rattle.text_faults.specs.Fault.{right, is_right, outside, why_number, 
 use text::{find, is_decimal, is_missing, is_name};
 
 // What a field must be.
-#[derive(Drop)]
+#[derive(Clone, Copy)]
 pub enum Want {
     // A number from 0 to this.
     Number(u16),
@@ -26,7 +26,7 @@ pub enum Want {
 }
 
 // What is wrong with a field. A place is that of a byte in the field, from 0.
-#[derive(Drop)]
+#[derive(Clone, Copy)]
 pub enum Fault {
     Right,
     Empty,

@@ -1,4 +1,6 @@
 // Why a line of a definition text isn't of its form, or doesn't belong where it stands.
+#![tactic(auto)]
+
 pub mod advice;
 pub mod fault;
 pub mod line_form;

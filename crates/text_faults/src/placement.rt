@@ -5,7 +5,7 @@ ghost use Rattle.text_faults.specs.Placement.{too_deep, shift_field, frame_mispl
 
 use readers::line_fields::{field_of, letter_of};
 
-#[derive(Drop)]
+#[derive(Clone, Copy)]
 pub enum Misplaced {
     // No line above owns it.
     Owner,

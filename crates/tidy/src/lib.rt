@@ -1,4 +1,6 @@
 // A command text without U lines: each is written as the S that it is read as, and nothing else is moved.
+#![tactic(auto)]
+
 ghost use Rattle.std.specs.Prelude.{◌≡◌, ◌≤◌, length};
 ghost use Rattle.std.proofs.lemmas.List.Edits.{sets};
 ghost use Rattle.buffer.specs.Buffer.{Writes};

@@ -1,2 +1,4 @@
 // The word `tidy` of tap.
+#![tactic(auto)]
+
 pub mod tidy_file;

@@ -1,4 +1,6 @@
 // The totals of a capture: TO1 to TO5 of docs/RULES.md. One payload at a time is added to totals that the caller lends.
+#![tactic(auto)]
+
 ghost use Rattle.std.specs.Prelude.{◌≡◌, true, cond, not, [], ◌∷◌, ◌≤◌, ◌<◌, length};
 ghost use Rattle.text.specs.declared.Verdict.TheVariants.{Accepted};
 ghost use Rattle.frame_text.specs.Rules.{verdict};
@@ -43,7 +45,7 @@ pub const TOTALS: usize = 1031;
 pub const MOST: u64 = 9223372036854775807;
 
 // What adding a payload answers.
-#[derive(Drop)]
+#[derive(Clone, Copy)]
 pub enum Added {
     // Its frames are counted.
     Counted,
@@ -51,7 +53,7 @@ pub enum Added {
 }
 
 // The frame of a body, if there is one.
-#[derive(Drop)]
+#[derive(Clone, Copy)]
 pub enum Framed {
     Is(PtiFrame),
     Nothing,

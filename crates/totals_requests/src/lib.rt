@@ -1,4 +1,6 @@
 // The request on the totals of a capture.
+#![tactic(auto)]
+
 use answer::Answer;
 use answer::table::{BYTE, put_written};
 use libtap::TapAnswer;
@@ -12,7 +14,7 @@ use writer::{Buffer, put, put_byte, put_number};
 const ROOM: usize = 32768;
 
 // How the payloads are read: the firmware that wrote them, whether beams are a family of their own, and the region.
-#[derive(Drop)]
+#[derive(Clone, Copy)]
 struct By {
     firmware: usize,
     family: bool,

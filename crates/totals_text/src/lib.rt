@@ -1,4 +1,6 @@
 // The totals of a capture as a page of lines: TO6 of docs/RULES.md.
+#![tactic(auto)]
+
 ghost use Rattle.std.specs.Prelude.{cond, ◌≡◌, [], ◌*◌, ◌≤◌, eqb, length, take};
 ghost use Rattle.buffer.specs.Buffer.{Writes};
 ghost use Rattle.numerals.specs.Numerals.{room};

@@ -1,4 +1,6 @@
 // The requests on values as people read them.
+#![tactic(auto)]
+
 ghost use Rattle.std.specs.Prelude.{◌≤◌, length};
 
 use answer::Answer;

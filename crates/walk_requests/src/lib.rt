@@ -1,4 +1,6 @@
 // The requests on the header of an MPDU and on the parameters of a command, both by a definition text.
+#![tactic(auto)]
+
 ghost use Rattle.std.specs.Prelude.{◌≤◌, ◌*◌, length};
 ghost use Rattle.answer.specs.Table.{Ample};
 ghost use Rattle.header_rules.specs.Table.{row_width as headerWidth};
@@ -13,14 +15,14 @@ use request::{Both, Leading, Two, read_both, read_leading, read_two};
 use writer::{Buffer, put_number};
 
 // How many numbers a table has, and where the other words start.
-#[derive(Drop)]
+#[derive(Clone, Copy)]
 enum Table {
     Of(usize, usize),
     Not,
 }
 
 // A request for a header: how many numbers the table has, where the MPDU starts behind the text, and where it ends.
-#[derive(Drop)]
+#[derive(Clone, Copy)]
 struct Request {
     numbers: usize,
     region: u64,
@@ -30,7 +32,7 @@ struct Request {
 }
 
 // A request for a command: whether it names the offsets and whether they are by position, where the payload starts behind the text, and where it ends.
-#[derive(Drop)]
+#[derive(Clone, Copy)]
 struct CommandAsked {
     by: bool,
     by_position: bool,
@@ -38,7 +40,7 @@ struct CommandAsked {
     end: usize,
 }
 
-#[derive(Drop)]
+#[derive(Clone, Copy)]
 enum Asked {
     Header(Request),
     Not,

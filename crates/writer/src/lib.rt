@@ -1,6 +1,8 @@
 // Text on its way to standard output. It gathers in a lent buffer, `at` bytes of it so far, and is written whenever the buffer is full: no call of the
 // system for a byte. Each function returns how many bytes have gathered after it. A number past the buffer's length counts as a full buffer, so each
 // of them takes any. Numbers are spelled by `numerals`.
+#![tactic(auto)]
+
 use numerals::{ROOM, decimal, glyph};
 
 // Where text gathers.

@@ -1,4 +1,6 @@
 // A frame text from the XML that other makers exchange: X11 of docs/RULES.md.
+#![tactic(auto)]
+
 ghost use Rattle.std.specs.Prelude.{◌≡◌};
 ghost use Rattle.xml_tags.specs.declared.Fault.TheVariants.{Fine};
 ghost use Rattle.xml_document.specs.Document.{verdict, text_of};

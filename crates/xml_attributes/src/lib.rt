@@ -1,4 +1,6 @@
 // The attributes that are written for a line, by the entries of its element: X13 of docs/RULES.md.
+#![tactic(auto)]
+
 ghost use Rattle.std.specs.Prelude.{◌≡◌, ◌||◌, ◌≤◌, ◌<◌, eqb, length, get_or};
 ghost use Rattle.text.specs.Text.{fields};
 ghost use Rattle.append.specs.Append.{Room, Laid};

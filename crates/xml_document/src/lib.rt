@@ -1,4 +1,6 @@
 // A document: where we are in it, and where its first fault is. X4, X7 and X8 of docs/RULES.md.
+#![tactic(auto)]
+
 ghost use Rattle.std.specs.Prelude.{◌≡◌, cond, ◌+◌, ◌^◌, ◌≤◌, ◌<◌, length};
 ghost use Rattle.xml_tags.specs.Tags.{tag_of, closed};
 ghost use Rattle.xml_document.specs.Document.{deeper as deeperOf, shallower as shallowerOf, enter as enterOf, leave as leaveOf, moved as movedOf};

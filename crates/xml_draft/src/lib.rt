@@ -1,4 +1,6 @@
 // What the attributes of a tag say, as fields of a line, written into room for a definition text. X5, X6 and X9 of docs/RULES.md.
+#![tactic(auto)]
+
 ghost use Rattle.std.specs.Prelude.{[], ◌∷◌, ◌+◌, drop};
 ghost use Rattle.text.specs.Text.{split, fields};
 ghost use Rattle.text.specs.Scan.{cut};

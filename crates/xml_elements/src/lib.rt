@@ -1,4 +1,6 @@
 // The XML that is written for the lines of a text: X13 of docs/RULES.md.
+#![tactic(auto)]
+
 ghost use Rattle.std.specs.Prelude.{◌≡◌, ◌≤◌};
 ghost use Rattle.text.specs.Text.{lines, fields};
 ghost use Rattle.append.specs.Append.{Room, Laid};

@@ -1,4 +1,6 @@
 // The text that a document says, written by passes over its tags: X9 and X10 of docs/RULES.md.
+#![tactic(auto)]
+
 ghost use Rattle.std.specs.Prelude.{◌≡◌, false, [], ◌∷◌, ◌++◌, ◌≤◌, eqb, length, drop};
 ghost use Rattle.text.specs.Text.{split};
 ghost use Rattle.xml_values.specs.Scan.{skip, after};
@@ -17,7 +19,7 @@ use xml_tags::{Tag, tag_end};
 use xml_values::{lead, word_len};
 
 // What a pass does at a tag: it ends, or it goes on behind what is written.
-#[derive(Drop)]
+#[derive(Clone, Copy)]
 pub enum Wrote {
     Stop,
     On(usize),

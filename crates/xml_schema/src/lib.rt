@@ -1,4 +1,6 @@
 // The elements and attributes of the schema: X3 of docs/RULES.md.
+#![tactic(auto)]
+
 ghost use Rattle.std.specs.Prelude.{◌≡◌, ◌≤◌, length, drop};
 ghost use Rattle.text.specs.Text.{fields, same};
 ghost use Rattle.readers.specs.Fields.{IsField};
@@ -70,7 +72,7 @@ E\txKey\twText\t2Name
 -\t0Ref";
 
 // What stands behind the first field of a row: nothing, or an entry that begins at a place and has so many bytes.
-#[derive(Drop)]
+#[derive(Clone, Copy)]
 pub enum Next {
     Last,
     Entry(usize, usize),

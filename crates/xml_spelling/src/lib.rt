@@ -1,4 +1,6 @@
 // The values of attributes as they are written: X13 of docs/RULES.md.
+#![tactic(auto)]
+
 ghost use Rattle.append.specs.Append.{Room, Laid};
 ghost use Rattle.xml_spelling.specs.Spelling.{escape_of, escaped, hexed, flagged};
 

@@ -1,4 +1,6 @@
 // The tags of a document: X4 and X8 of docs/RULES.md.
+#![tactic(auto)]
+
 ghost use Rattle.std.specs.Prelude.{◌≡◌, false, not, ◌&&◌, ◌||◌, ◌+◌, ◌^◌, ◌≤◌, ◌<◌, eqb, length, take, drop};
 ghost use Rattle.text.specs.Text.{split, fields, same};
 ghost use Rattle.xml_schema.specs.Schema.{entries_of, form_of, name_of, form_in, is_optional, quote};
@@ -13,7 +15,7 @@ use xml_schema::{
 use xml_values::{is_blank, is_valid, lead, word_len};
 
 // What a tag is: outside of what is read, at a place counted in the tag; the end of an element; the start of one.
-#[derive(Drop)]
+#[derive(Clone, Copy)]
 pub enum Tag {
     Bad(usize),
     Shut(usize),
@@ -21,14 +23,14 @@ pub enum Tag {
 }
 
 // The first fault, if there is one.
-#[derive(Drop)]
+#[derive(Clone, Copy)]
 pub enum Fault {
     Fine,
     At(usize),
 }
 
 // What stands at the front of the attributes of a tag: the end of the tag; a name with no value that ends; a name of so many bytes and a value of so many.
-#[derive(Drop)]
+#[derive(Clone, Copy)]
 pub enum Pair {
     Last,
     Odd,
@@ -36,7 +38,7 @@ pub enum Pair {
 }
 
 // What is wrong with an attribute, if anything: its name or its value.
-#[derive(Drop)]
+#[derive(Clone, Copy)]
 pub enum Grade {
     Right,
     WrongName,

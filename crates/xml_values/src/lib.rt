@@ -1,4 +1,6 @@
 // Values of attributes: white space, words with escapes, numbers, flags. X4 to X6 of docs/RULES.md.
+#![tactic(auto)]
+
 ghost use Rattle.std.specs.Prelude.{◌≡◌, not, ◌&&◌, ◌≤◌, eqb, length, drop};
 ghost use Rattle.text.specs.Text.{split, missing};
 ghost use Rattle.xml_schema.specs.Schema.{ampersand};
@@ -11,7 +13,7 @@ use text::{all_within, find, find_word, is_missing, is_same};
 use xml_schema::{HEX_NUMBER, NUMBER, OPTIONAL_NUMBER, OPTIONAL_WORDS, PAST_DIGITS, WORDS};
 
 // A number of at most 32 bits, or none.
-#[derive(Drop)]
+#[derive(Clone, Copy)]
 pub enum Numeral {
     Is(u64),
     Not,

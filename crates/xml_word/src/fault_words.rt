@@ -5,7 +5,7 @@ use text::find;
 use xml_tags::{Tag, read_tag, tag_end};
 
 // A place as people find it: its line and its column, in bytes, both from 1. Neither number wraps, as no file has 2^64 bytes.
-#[derive(Drop)]
+#[derive(Clone, Copy)]
 struct Spot {
     line: u64,
     column: u64,
@@ -37,7 +37,7 @@ fn end_of(x: &[u8]) -> Spot {
 }
 
 // Where in an XML one is: between tags, in a tag, or in a value of its.
-#[derive(Drop)]
+#[derive(Clone, Copy)]
 enum Within {
     Between,
     Tag,

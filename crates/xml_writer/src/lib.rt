@@ -1,4 +1,6 @@
 // A frame text as XML: X14 of docs/RULES.md.
+#![tactic(auto)]
+
 ghost use Rattle.std.specs.Prelude.{◌≤◌, length};
 ghost use Rattle.text.specs.Judge.{most_bytes};
 ghost use Rattle.append.specs.Append.{Room};
