@@ -7,7 +7,7 @@ use Rattle.command_part.proofs.command_part.Statement.{statement}
 use Rattle.command_part.proofs.command_part.Tie as tie
 
 returns : tie.Need-returns
-returns c = part-shown _ _ _ _ c.before.before.find-command.result (search (rules, laws)) refl (omega arith) refl
+returns c = part-shown _ _ _ _ c.before.before.find_command-part.result (search (rules, laws)) refl (omega arith) refl
 
 pub command_part_spec : {M : Type 1} → statement M
 command_part_spec =

@@ -8,12 +8,9 @@ pub read_last_type_spec : {M : Type 1} → statement M
 read_last_type_spec =
     tie.close
     (tie.spec
-    (λ c. search (rules, type_laws))
     (λ c κs. search (rules, type_laws))
     (λ c. search (rules, type_laws))
-    (λ c. search (rules, type_laws))
     (λ c κs. search (rules, type_laws))
-    (λ c. search (rules, type_laws))
     (λ c. search (rules, type_laws))
     (λ c κs. search (rules, type_laws))
     (λ c. search (rules, type_laws))

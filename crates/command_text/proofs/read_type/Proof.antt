@@ -8,15 +8,11 @@ pub read_type_spec : {M : Type 1} → statement M
 read_type_spec =
     tie.close
     (tie.spec
+    (λ c κs. search (rules, type_laws))
     (λ c. search (rules, type_laws))
     (λ c κs. search (rules, type_laws))
     (λ c. search (rules, type_laws))
-    (λ c. search (rules, type_laws))
     (λ c κs. search (rules, type_laws))
-    (λ c. search (rules, type_laws))
-    (λ c. search (rules, type_laws))
-    (λ c κs. search (rules, type_laws))
-    (λ c. search (rules, type_laws))
     (λ c. search (rules, type_laws))
     (λ c κs. search (rules, type_laws))
     (λ c. search (rules, type_laws))

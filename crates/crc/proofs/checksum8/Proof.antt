@@ -8,10 +8,10 @@ use Rattle.crc.proofs.Laws.{laws}
 use Rattle.crc.proofs.checksum8.Statement.{statement}
 use Rattle.crc.proofs.checksum8.Tie as tie
 
-abbrev invariant-loop : tie.invariant-loop
+abbrev invariant-loop : tie.invariant-loop-i
 invariant-loop body sum₀ i₀ sum i = (i ≤ length body) × (sum_from sum (drop i body) ≡ checksum body)
 
-abbrev decreases-loop : tie.decreases-loop
+abbrev decreases-loop : tie.decreases-loop-i
 decreases-loop body sum₀ i₀ sum i = length body - i
 
 pub checksum8_spec : {M : Type 1} → statement M

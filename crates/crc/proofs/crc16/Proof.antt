@@ -7,7 +7,7 @@ use borrow.Author.Rules.{rules}
 use Rattle.crc.proofs.crc16.Statement.{statement}
 use Rattle.crc.proofs.crc16.Tie as tie
 
-crc-by-requires : tie.Need-crc-by-requires
+crc-by-requires : tie.Need-crc_by-requires
 unfolding turned turn plus times
 crc-by-requires c κs = turned_right
 

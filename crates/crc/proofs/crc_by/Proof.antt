@@ -10,10 +10,10 @@ use Rattle.crc.proofs.Laws.{laws}
 use Rattle.crc.proofs.crc_by.Statement.{statement}
 use Rattle.crc.proofs.crc_by.Tie as tie
 
-abbrev invariant-loop : tie.invariant-loop
+abbrev invariant-loop : tie.invariant-loop-i
 invariant-loop turned body r₀ i₀ r i = (i ≤ length body) × (crc_from r (drop i body) ≡ register body) × T (are_bytes (take i body))
 
-abbrev decreases-loop : tie.decreases-loop
+abbrev decreases-loop : tie.decreases-loop-i
 decreases-loop turned body r₀ i₀ r i = length body - i
 
 pub crc_by_spec : {M : Type 1} → statement M

@@ -5,8 +5,8 @@ use native.Mathlib.Omega.{arith}
 use Rattle.frame.proofs.mpdu_length.Statement.{statement}
 use Rattle.frame.proofs.mpdu_length.Tie as tie
 
-cast-l : tie.Need-overflow-cast-l
-cast-l c = omega (arith, c.shared-slice-known.given 7)
+cast-l : tie.Need-overflow_cast-l
+cast-l c = omega (arith, c.shared_slice_known-1.given 7)
 
 pub mpdu_length_spec : {M : Type 1} → statement M
 mpdu_length_spec =

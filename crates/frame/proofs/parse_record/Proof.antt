@@ -5,7 +5,7 @@ use Rattle.radio.proofs.SpeedLaws.{rates, rates_right}
 use Rattle.frame.proofs.parse_record.Statement.{statement}
 use Rattle.frame.proofs.parse_record.Tie as tie
 
-split-body-requires : tie.Need-split-body-requires
+split-body-requires : tie.Need-split_body-requires
 unfolding rates
 split-body-requires c κs = (rates_right, search (rules, laws))
 

@@ -6,10 +6,10 @@ use Rattle.node_mask.proofs.Laws.{Laying, laws}
 use Rattle.node_mask.proofs.put_nodes.Statement.{statement}
 use Rattle.node_mask.proofs.put_nodes.Tie as tie
 
-abbrev invariant-loop : tie.invariant-loop
+abbrev invariant-loop : tie.invariant-loop-at
 invariant-loop mask nodes₀ i₀ at₀ nodes i at = Laying mask nodes₀ nodes at i
 
-abbrev decreases-loop : tie.decreases-loop
+abbrev decreases-loop : tie.decreases-loop-at
 decreases-loop mask nodes₀ i₀ at₀ nodes i at = length mask - at
 
 pub put_nodes_spec : {M : Type 1} → statement M

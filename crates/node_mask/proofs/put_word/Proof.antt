@@ -4,10 +4,10 @@ use Rattle.node_mask.proofs.Laws.{Putting, laws}
 use Rattle.node_mask.proofs.put_word.Statement.{statement}
 use Rattle.node_mask.proofs.put_word.Tie as tie
 
-abbrev invariant-loop : tie.invariant-loop
+abbrev invariant-loop : tie.invariant-loop-rest
 invariant-loop mask at n table₀ first end rest₀ i₀ table rest i = Putting mask at n first table₀ table rest i
 
-abbrev decreases-loop : tie.decreases-loop
+abbrev decreases-loop : tie.decreases-loop-rest
 decreases-loop mask at n table₀ first end rest₀ i₀ table rest i = rest
 
 pub put_word_spec : {M : Type 1} → statement M

@@ -8,10 +8,10 @@ use Rattle.node_mask.proofs.Laws.{laws}
 use Rattle.node_mask.proofs.short_word.Statement.{statement}
 use Rattle.node_mask.proofs.short_word.Tie as tie
 
-abbrev invariant-loop : tie.invariant-loop
+abbrev invariant-loop : tie.invariant-loop-i
 invariant-loop bytes word₀ i₀ word i = (i ≤ length bytes) × (word ≡ little (drop i bytes))
 
-abbrev decreases-loop : tie.decreases-loop
+abbrev decreases-loop : tie.decreases-loop-i
 decreases-loop bytes word₀ i₀ word i = i
 
 pub short_word_spec : {M : Type 1} → statement M

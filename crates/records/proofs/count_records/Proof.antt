@@ -6,10 +6,10 @@ use Rattle.records.proofs.Laws.{Counting, laws}
 use Rattle.records.proofs.count_records.Statement.{statement}
 use Rattle.records.proofs.count_records.Tie as tie
 
-abbrev invariant-loop : tie.invariant-loop
+abbrev invariant-loop : tie.invariant-loop-span
 invariant-loop payload length₀ count₀ at₀ count at = Counting payload count at
 
-abbrev decreases-loop : tie.decreases-loop
+abbrev decreases-loop : tie.decreases-loop-span
 decreases-loop payload length₀ count₀ at₀ count at = length payload - at
 
 pub count_records_spec : {M : Type 1} → statement M

@@ -6,10 +6,10 @@ use Rattle.records.proofs.Laws.{Seeking, laws}
 use Rattle.records.proofs.find_body.Statement.{statement}
 use Rattle.records.proofs.find_body.Tie as tie
 
-abbrev invariant-loop : tie.invariant-loop
+abbrev invariant-loop : tie.invariant-loop-span
 invariant-loop payload k left₀ at₀ left at = Seeking payload k left at
 
-abbrev decreases-loop : tie.decreases-loop
+abbrev decreases-loop : tie.decreases-loop-span
 decreases-loop payload k left₀ at₀ left at = length payload - at
 
 pub find_body_spec : {M : Type 1} → statement M

@@ -6,10 +6,10 @@ use Rattle.records.proofs.Laws.{Passing, laws}
 use Rattle.records.proofs.next_body.Statement.{statement}
 use Rattle.records.proofs.next_body.Tie as tie
 
-abbrev invariant-loop : tie.invariant-loop
+abbrev invariant-loop : tie.invariant-loop-n
 invariant-loop payload at place₀ place = Passing payload at place
 
-abbrev decreases-loop : tie.decreases-loop
+abbrev decreases-loop : tie.decreases-loop-n
 decreases-loop payload at place₀ place = length payload - place
 
 pub next_body_spec : {M : Type 1} → statement M

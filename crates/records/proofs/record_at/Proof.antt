@@ -5,11 +5,11 @@ use native.Mathlib.Omega.{arith}
 use Rattle.records.proofs.record_at.Statement.{statement}
 use Rattle.records.proofs.record_at.Tie as tie
 
-cast-n : tie.Need-overflow-cast-n
-cast-n c = omega (arith, c.shared-slice-known.given c.before.before.before.args.at)
+cast-n : tie.Need-overflow_cast-n
+cast-n c = omega (arith, c.shared_slice_known-1.given c.before.before.before.args.at)
 
-add-if3 : tie.Need-overflow-add-if3
-add-if3 c = omega (arith, c.shared-slice-known.given c.before.before.before.args.at)
+add-if3 : tie.Need-overflow_add-at
+add-if3 c = omega (arith, c.shared_slice_known-1.given c.before.before.before.args.at)
 
 pub record_at_spec : {M : Type 1} → statement M
 record_at_spec =

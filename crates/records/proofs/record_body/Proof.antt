@@ -7,7 +7,7 @@ use Rattle.records.proofs.record_body.Statement.{statement}
 use Rattle.records.proofs.record_body.Tie as tie
 
 returns : tie.Need-returns
-returns c = shown _ _ _ c.before.find-body.result (search (rules, laws)) refl (omega arith) refl
+returns c = shown _ _ _ c.before.find_body-span.result (search (rules, laws)) refl (omega arith) refl
 
 pub record_body_spec : {M : Type 1} → statement M
 record_body_spec =

@@ -3,14 +3,14 @@ use borrow.Author.Rules.{rules}
 use Prim.Native.Nat.{◌-◌}
 use lib.ListN.{length}
 use Rattle.radio.proofs.Laws.{laws}
-use Rattle.radio.proofs.BeamLaws.{Beaming}
+use Rattle.radio.proofs.BeamLaws.{Beaming, beaming_miss}
 use Rattle.radio.proofs.beam.beam_count.Statement.{statement}
 use Rattle.radio.proofs.beam.beam_count.Tie as tie
 
-abbrev invariant-loop : tie.invariant-loop
+abbrev invariant-loop : tie.invariant-loop-at
 invariant-loop rate middle width count₀ at₀ count at = Beaming middle width count at
 
-abbrev decreases-loop : tie.decreases-loop
+abbrev decreases-loop : tie.decreases-loop-at
 decreases-loop rate middle width count₀ at₀ count at = length middle - at
 
 pub beam_count_spec : {M : Type 1} → statement M
@@ -28,5 +28,5 @@ beam_count_spec =
     (λ c. search (rules, laws))
     (λ c. search (rules, laws))
     (λ c. search (rules, laws))
-    (λ c. search (rules, laws))
+    (λ c. search (rules, beaming_miss))
     (λ c. search (rules, laws)))

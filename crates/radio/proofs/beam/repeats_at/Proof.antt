@@ -6,10 +6,10 @@ use Rattle.radio.proofs.BeamLaws.{Same}
 use Rattle.radio.proofs.beam.repeats_at.Statement.{statement}
 use Rattle.radio.proofs.beam.repeats_at.Tie as tie
 
-abbrev invariant-loop : tie.invariant-loop
+abbrev invariant-loop : tie.invariant-loop-i
 invariant-loop middle at width i₀ i = Same middle at width i
 
-abbrev decreases-loop : tie.decreases-loop
+abbrev decreases-loop : tie.decreases-loop-i
 decreases-loop middle at width i₀ i = width - i
 
 pub repeats_at_spec : {M : Type 1} → statement M

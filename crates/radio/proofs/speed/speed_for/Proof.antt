@@ -5,7 +5,7 @@ use borrow.Author.Rules.{rules}
 use Rattle.radio.proofs.speed.speed_for.Statement.{statement}
 use Rattle.radio.proofs.speed.speed_for.Tie as tie
 
-rate-in-requires : tie.Need-rate-in-requires
+rate-in-requires : tie.Need-rate_in-requires
 unfolding rates
 rate-in-requires c κs = rates_right
 

@@ -7,10 +7,10 @@ use Rattle.readers.proofs.catalog.Laws.{Looks, laws}
 use Rattle.readers.proofs.catalog.find_command.Statement.{statement}
 use Rattle.readers.proofs.catalog.find_command.Tie as tie
 
-abbrev invariant-loop : tie.invariant-loop
+abbrev invariant-loop : tie.invariant-loop-at
 invariant-loop index class command at₀ at = Looks index class command at
 
-abbrev decreases-loop : tie.decreases-loop
+abbrev decreases-loop : tie.decreases-loop-at
 decreases-loop index class command at₀ at = length index - at
 
 pub find_command_spec : {M : Type 1} → statement M

@@ -4,10 +4,10 @@ use Prim.Native.Nat.{◌-◌, ◌≤◌}
 use Rattle.readers.proofs.cells.depth_of.Statement.{statement}
 use Rattle.readers.proofs.cells.depth_of.Tie as tie
 
-abbrev invariant-loop : tie.invariant-loop
+abbrev invariant-loop : tie.invariant-loop-depth
 invariant-loop rows width i k row₀ depth₀ row depth = depth ≤ 8
 
-abbrev decreases-loop : tie.decreases-loop
+abbrev decreases-loop : tie.decreases-loop-depth
 decreases-loop rows width i k row₀ depth₀ row depth = 8 - depth
 
 pub depth_of_spec : {M : Type 1} → statement M

@@ -4,10 +4,10 @@ use borrow.Author.Rules.{rules}
 use Rattle.readers.proofs.line_fields.find_field.Statement.{statement}
 use Rattle.readers.proofs.line_fields.find_field.Tie as tie
 
-abbrev invariant-loop : tie.invariant-loop
+abbrev invariant-loop : tie.invariant-loop-k
 invariant-loop line s n k₀ k = Unit
 
-abbrev decreases-loop : tie.decreases-loop
+abbrev decreases-loop : tie.decreases-loop-k
 decreases-loop line s n k₀ k = n - k
 
 pub find_field_spec : {M : Type 1} → statement M

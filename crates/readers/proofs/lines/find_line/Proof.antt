@@ -7,10 +7,10 @@ use Rattle.readers.proofs.lines.Laws.{Seeks, seeks_laws}
 use Rattle.readers.proofs.lines.find_line.Statement.{statement}
 use Rattle.readers.proofs.lines.find_line.Tie as tie
 
-abbrev invariant-loop : tie.invariant-loop
+abbrev invariant-loop : tie.invariant-loop-at
 invariant-loop text kind n at₀ left₀ at left = Seeks text kind n at left
 
-abbrev decreases-loop : tie.decreases-loop
+abbrev decreases-loop : tie.decreases-loop-at
 decreases-loop text kind n at₀ left₀ at left = length text - at
 
 pub find_line_spec : {M : Type 1} → statement M

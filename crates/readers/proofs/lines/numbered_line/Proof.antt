@@ -7,10 +7,10 @@ use Rattle.readers.proofs.lines.Laws.{Counts, counts_laws}
 use Rattle.readers.proofs.lines.numbered_line.Statement.{statement}
 use Rattle.readers.proofs.lines.numbered_line.Tie as tie
 
-abbrev invariant-loop : tie.invariant-loop
+abbrev invariant-loop : tie.invariant-loop-at
 invariant-loop text n at₀ left₀ at left = Counts text n at left
 
-abbrev decreases-loop : tie.decreases-loop
+abbrev decreases-loop : tie.decreases-loop-at
 decreases-loop text n at₀ left₀ at left = length text - at
 
 pub numbered_line_spec : {M : Type 1} → statement M

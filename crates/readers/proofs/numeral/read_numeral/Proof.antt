@@ -6,10 +6,10 @@ use Rattle.readers.proofs.numeral.Laws.{Typing, typing_laws}
 use Rattle.readers.proofs.numeral.read_numeral.Statement.{statement}
 use Rattle.readers.proofs.numeral.read_numeral.Tie as tie
 
-abbrev invariant-loop : tie.invariant-loop
+abbrev invariant-loop : tie.invariant-loop-i
 invariant-loop bytes value₀ i₀ value i = Typing bytes value i
 
-abbrev decreases-loop : tie.decreases-loop
+abbrev decreases-loop : tie.decreases-loop-i
 decreases-loop bytes value₀ i₀ value i = length bytes - i
 
 pub read_numeral_spec : {M : Type 1} → statement M
