@@ -9,11 +9,11 @@ use Rattle.xml_schema.proofs.Laws.{laws}
 use Rattle.xml_schema.proofs.form_in.Statement.{statement}
 use Rattle.xml_schema.proofs.form_in.Tie as tie
 
-abbrev invariant-loop : tie.invariant-loop
+abbrev invariant-loop : tie.invariant-loop-a
 invariant-loop row n at₀ at =
     (at ≤ length row) × (form_in (drop 1 (fields row)) n ≡ form_in (drop 1 (fields (drop at row))) n)
 
-abbrev decreases-loop : tie.decreases-loop
+abbrev decreases-loop : tie.decreases-loop-a
 decreases-loop row n at₀ at = length row - at
 
 pub form_in_spec : {M : Type 1} → statement M

@@ -5,7 +5,7 @@ use borrow.Author.Rules.{rules}
 use Rattle.xml_schema.proofs.letter_of.Statement.{statement}
 use Rattle.xml_schema.proofs.letter_of.Tie as tie
 
-part-field-of-end : tie.Need-slice-bounds-field-of-end
+part-field-of-end : tie.Need-slice_bounds-field_of-end
 unfolding table
 part-field-of-end c = search (rules, laws)
 

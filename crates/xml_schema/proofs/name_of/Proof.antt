@@ -10,4 +10,6 @@ unfolding elements
 returns c = search (rules, laws)
 
 pub name_of_spec : {M : Type 1} → statement M
-name_of_spec = tie.close (tie.spec (λ c. search (rules, laws)) (λ c κs. search (rules, laws)) returns)
+name_of_spec = tie.close (tie.spec
+    (λ c κs. search (rules, laws))
+    returns)

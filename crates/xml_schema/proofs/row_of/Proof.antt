@@ -10,4 +10,6 @@ unfolding table
 returns c = search (rules, laws)
 
 pub row_of_spec : {M : Type 1} → statement M
-row_of_spec = tie.close (tie.spec (λ c. search (rules, laws)) (λ c κs. search (rules, laws)) returns)
+row_of_spec = tie.close (tie.spec
+    (λ c κs. search (rules, laws))
+    returns)
