@@ -6,10 +6,10 @@ use Rattle.pti.proofs.Laws.{Tallying, laws}
 use Rattle.pti.proofs.payload.count_frames.Statement.{statement}
 use Rattle.pti.proofs.payload.count_frames.Tie as tie
 
-abbrev invariant-loop : tie.invariant-loop
+abbrev invariant-loop : tie.invariant-loop-span
 invariant-loop rates payload rules count₀ at₀ count at = Tallying rules payload count at
 
-abbrev decreases-loop : tie.decreases-loop
+abbrev decreases-loop : tie.decreases-loop-span
 decreases-loop rates payload rules count₀ at₀ count at = length payload - at
 
 pub count_frames_spec : {M : Type 1} → statement M

@@ -4,7 +4,7 @@ use borrow.Author.Rules.{rules}
 use Rattle.pti.proofs.payload.parse_bodies.Statement.{statement}
 use Rattle.pti.proofs.payload.parse_bodies.Tie as tie
 
-write-frames-requires : tie.Need-write-frames-requires
+write-frames-requires : tie.Need-write_frames-requires
 write-frames-requires c κs = (search (rules, laws), (search (rules, laws), (search (rules, laws), (search (rules, laws), search (rules, laws)))))
 
 pub parse_bodies_spec : {M : Type 1} → statement M

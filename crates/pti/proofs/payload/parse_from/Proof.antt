@@ -5,7 +5,7 @@ use Rattle.radio.proofs.SpeedLaws.{rates, rates_right}
 use Rattle.pti.proofs.payload.parse_from.Statement.{statement}
 use Rattle.pti.proofs.payload.parse_from.Tie as tie
 
-parse-bodies-requires : tie.Need-parse-bodies-requires
+parse-bodies-requires : tie.Need-parse_bodies-requires
 unfolding rates
 parse-bodies-requires c κs = (rates_right, search (rules, laws))
 

@@ -17,6 +17,6 @@ write_frame_spec =
     (λ c. search (rules, laws))
     (λ c. search (rules, laws))
     (λ c κs. search (rules, laws))
-    (λ c κs. let start = c.before.before.before.before.before.before.before.before.before.before in search (rules, laws, start))
+    (λ c κs. let start = c.before.before.before.before.before.before.before.before.before in search (rules, laws, start))
     (λ c. search (rules, laws))
     (λ c. search (rules, laws)))

@@ -6,13 +6,13 @@ use Rattle.pti.proofs.Laws.{Writing, laws}
 use Rattle.pti.proofs.payload.write_frames.Statement.{statement}
 use Rattle.pti.proofs.payload.write_frames.Tie as tie
 
-abbrev invariant-loop : tie.invariant-loop
+abbrev invariant-loop : tie.invariant-loop-next
 invariant-loop rates payload rules table₀ n₀ number₀ body₀ table n number body = Writing rules payload table₀ table n number body
 
-abbrev decreases-loop : tie.decreases-loop
+abbrev decreases-loop : tie.decreases-loop-next
 decreases-loop rates payload rules table₀ n₀ number₀ body₀ table n number body = length payload - body.end.0
 
-write-frame-requires : tie.Need-write-frame-requires invariant-loop decreases-loop
+write-frame-requires : tie.Need-write_frame-n-requires invariant-loop decreases-loop
 write-frame-requires c κs = (search (rules, laws), (search (rules, laws), (search (rules, laws), search (rules, laws))))
 
 pub write_frames_spec : {M : Type 1} → statement M
