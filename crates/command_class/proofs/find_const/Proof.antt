@@ -6,10 +6,10 @@ use Rattle.command_class.proofs.Naming.{Naming, const_laws}
 use Rattle.command_class.proofs.find_const.Statement.{statement}
 use Rattle.command_class.proofs.find_const.Tie as tie
 
-abbrev invariant-loop : tie.invariant-loop
+abbrev invariant-loop : tie.invariant-loop-place
 invariant-loop text value place₀ place = Naming text place₀ value place
 
-abbrev decreases-loop : tie.decreases-loop
+abbrev decreases-loop : tie.decreases-loop-place
 decreases-loop text value place₀ place = length text - place.at
 
 pub find_const_spec : {M : Type 1} → statement M
