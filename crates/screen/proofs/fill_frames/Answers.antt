@@ -1,5 +1,5 @@
 -- As many records as are filled are there, and as many rows; the record that a turn stores is the next.
-use Rattle.std.proofs.Common.{ℕ, ◌≡◌, ◌≤◌, ◌*◌, length, arith}
+use Rattle.std.proofs.Common.{ℕ, ◌≡◌, ◌≤◌, ◌*◌, arith}
 use Rattle.screen.specs.Screen.{fillable_of}
 use Rattle.pti.specs.Payload.{row_width}
 use Rattle.screen.proofs.Laws.{fillable_bounds, filled_more}
