@@ -12,7 +12,6 @@ display_value_spec =
     (λ c. search (rules, laws))
     (λ c. search (rules, laws))
     (λ c κs. search (rules, laws))
-    (λ c. search (rules, laws))
     (λ c κs. search (rules, laws))
     (λ c. search (rules, laws))
     (λ c. search (rules, laws))

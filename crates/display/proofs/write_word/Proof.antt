@@ -8,9 +8,7 @@ pub write_word_spec : {M : Type 1} → statement M
 write_word_spec =
     tie.close
     (tie.spec
-    (λ c. search (rules, laws))
     (λ c κs. search (rules, laws))
-    (λ c. search (rules, laws))
     (λ c. search (rules, laws))
     (λ c. search (rules, laws))
     (λ c κs. search (rules, laws))
