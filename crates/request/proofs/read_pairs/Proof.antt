@@ -7,10 +7,10 @@ use Rattle.request.proofs.Laws.{laws}
 use Rattle.request.proofs.read_pairs.Statement.{statement}
 use Rattle.request.proofs.read_pairs.Tie as tie
 
-abbrev invariant-loop : tie.invariant-loop
+abbrev invariant-loop : tie.invariant-loop-i
 invariant-loop word bytes₀ n i₀ bytes i = Pairing word bytes (length bytes₀) n i
 
-abbrev decreases-loop : tie.decreases-loop
+abbrev decreases-loop : tie.decreases-loop-i
 decreases-loop word bytes₀ n i₀ bytes i = n - i
 
 pub read_pairs_spec : {M : Type 1} → statement M
