@@ -6,10 +6,10 @@ use Rattle.command_schema.proofs.Loading.{Loading, load_laws}
 use Rattle.command_schema.proofs.load.Statement.{statement}
 use Rattle.command_schema.proofs.load.Tie as tie
 
-abbrev invariant-loop : tie.invariant-loop
+abbrev invariant-loop : tie.invariant-loop-place
 invariant-loop text table₀ place₀ n₀ table place n = Loading text table₀ table place n
 
-abbrev decreases-loop : tie.decreases-loop
+abbrev decreases-loop : tie.decreases-loop-place
 decreases-loop text table₀ place₀ n₀ table place n = length text - place.at
 
 pub load_spec : {M : Type 1} → statement M

@@ -6,10 +6,10 @@ use Rattle.command_schema.proofs.Gathering.{Gathering, gather_laws}
 use Rattle.command_schema.proofs.items.gather.Statement.{statement}
 use Rattle.command_schema.proofs.items.gather.Tie as tie
 
-abbrev invariant-loop : tie.invariant-loop
+abbrev invariant-loop : tie.invariant-loop-place
 invariant-loop text gathered₀ place₀ gathered place = Gathering text place₀ gathered place
 
-abbrev decreases-loop : tie.decreases-loop
+abbrev decreases-loop : tie.decreases-loop-place
 decreases-loop text gathered₀ place₀ gathered place = length text - place.at
 
 pub gather_spec : {M : Type 1} → statement M
