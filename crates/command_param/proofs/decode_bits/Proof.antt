@@ -6,49 +6,49 @@ use lib.ListN.{length}
 use Rattle.command_param.proofs.decode_bits.Statement.{statement}
 use Rattle.command_param.proofs.decode_bits.Tie as tie
 
-abbrev invariant-loop : tie.invariant-loop
+abbrev invariant-loop : tie.invariant-loop-k
 invariant-loop text b start parent skip rows₀ total place₀ k₀ rows place k = Children text place₀ b parent start.0 total skip rows₀ rows place k
 
-abbrev decreases-loop : tie.decreases-loop
+abbrev decreases-loop : tie.decreases-loop-k
 decreases-loop text b start parent skip rows₀ total place₀ k₀ rows place k = length text - place.at
 
-cast-total : tie.Need-overflow-cast-total invariant-loop decreases-loop
+cast-total : tie.Need-overflow_cast-total invariant-loop decreases-loop
 cast-total c = search (rules, children_laws)
 
-next-requires : tie.Need-next-requires invariant-loop decreases-loop
+next-requires : tie.Need-next-place-requires invariant-loop decreases-loop
 next-requires c κs = search (rules, children_laws)
 
-loop-holds : tie.Need-loop-init invariant-loop decreases-loop
+loop-holds : tie.Need-loop-k-init invariant-loop decreases-loop
 loop-holds c = search (rules, children_laws)
 
-read-at-requires : tie.Need-read-at-requires invariant-loop decreases-loop
+read-at-requires : tie.Need-read_at-read-requires invariant-loop decreases-loop
 read-at-requires c κs = search (rules, children_laws)
 
-is-bits-requires : tie.Need-is-bits-requires invariant-loop decreases-loop
+is-bits-requires : tie.Need-is_bits-requires invariant-loop decreases-loop
 is-bits-requires c κs = search (rules, children_laws)
 
-bit-row-requires : tie.Need-bit-row-requires invariant-loop decreases-loop
+bit-row-requires : tie.Need-bit_row-requires invariant-loop decreases-loop
 bit-row-requires c κs = search (rules, children_laws)
 
-write-row-requires : tie.Need-write-row-requires invariant-loop decreases-loop
+write-row-requires : tie.Need-write_row-requires invariant-loop decreases-loop
 write-row-requires c κs = search (rules, children_laws)
 
-add-k : tie.Need-overflow-add-k invariant-loop decreases-loop
+add-k : tie.Need-overflow_add-k invariant-loop decreases-loop
 add-k c = search (rules, children_laws)
 
-loop-less : tie.Need-loop-smaller invariant-loop decreases-loop
+loop-less : tie.Need-loop-k-smaller-then-is_bits invariant-loop decreases-loop
 loop-less c = search (rules, children_laws)
 
-loop-again : tie.Need-loop-preserved invariant-loop decreases-loop
+loop-again : tie.Need-loop-k-preserved-then-is_bits invariant-loop decreases-loop
 loop-again c = search (rules, children_laws)
 
-loop-less-2 : tie.Need-loop-smaller-2 invariant-loop decreases-loop
+loop-less-2 : tie.Need-loop-k-smaller invariant-loop decreases-loop
 loop-less-2 c = search (rules, children_laws)
 
-loop-again-2 : tie.Need-loop-preserved-2 invariant-loop decreases-loop
+loop-again-2 : tie.Need-loop-k-preserved invariant-loop decreases-loop
 loop-again-2 c = search (rules, children_laws)
 
-same_length : tie.Need-same-length invariant-loop decreases-loop
+same_length : tie.Need-shape_of-rows invariant-loop decreases-loop
 same_length c = search (rules, children_laws)
 
 returns : tie.Need-returns invariant-loop decreases-loop

@@ -6,10 +6,10 @@ use lib.ListN.{length}
 use Rattle.command_param.proofs.read_uint.Statement.{statement}
 use Rattle.command_param.proofs.read_uint.Tie as tie
 
-abbrev invariant-loop : tie.invariant-loop
+abbrev invariant-loop : tie.invariant-loop-i
 invariant-loop bytes v₀ i₀ v i = Reading bytes v i
 
-abbrev decreases-loop : tie.decreases-loop
+abbrev decreases-loop : tie.decreases-loop-i
 decreases-loop bytes v₀ i₀ v i = length bytes - i
 
 pub read_uint_spec : {M : Type 1} → statement M
