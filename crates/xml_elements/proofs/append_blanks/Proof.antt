@@ -4,11 +4,11 @@ use Rattle.xml_elements.proofs.Laws.{Blanking, laws}
 use Rattle.xml_elements.proofs.append_blanks.Statement.{statement}
 use Rattle.xml_elements.proofs.append_blanks.Tie as tie
 
-abbrev invariant-loop : tie.invariant-loop
-invariant-loop buffer₀ at n next₀ left₀ t6 buffer next left = Blanking n buffer buffer₀ next at left
+abbrev invariant-loop : tie.invariant-loop-left
+invariant-loop buffer₀ at n next₀ left₀ buffer next left = Blanking n buffer buffer₀ next at left
 
-abbrev decreases-loop : tie.decreases-loop
-decreases-loop buffer₀ at n next₀ left₀ t6 buffer next left = left
+abbrev decreases-loop : tie.decreases-loop-left
+decreases-loop buffer₀ at n next₀ left₀ buffer next left = left
 
 pub append_blanks_spec : {M : Type 1} → statement M
 append_blanks_spec =
@@ -16,7 +16,6 @@ append_blanks_spec =
     (tie.spec
     invariant-loop
     decreases-loop
-    (λ c. search (rules, laws))
     (λ c. search (rules, laws))
     (λ c κs. search (rules, laws))
     (λ c. search (rules, laws))

@@ -4,10 +4,10 @@ use Rattle.xml_elements.proofs.Laws.{Closing, laws}
 use Rattle.xml_elements.proofs.append_closings.Statement.{statement}
 use Rattle.xml_elements.proofs.append_closings.Tie as tie
 
-abbrev invariant-loop : tie.invariant-loop
+abbrev invariant-loop : tie.invariant-loop-left
 invariant-loop buffer₀ at n d next₀ left₀ place₀ buffer next left place = Closing n d buffer buffer₀ next at left place
 
-abbrev decreases-loop : tie.decreases-loop
+abbrev decreases-loop : tie.decreases-loop-left
 decreases-loop buffer₀ at n d next₀ left₀ place₀ buffer next left place = left
 
 pub append_closings_spec : {M : Type 1} → statement M

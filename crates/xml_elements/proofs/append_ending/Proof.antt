@@ -9,9 +9,7 @@ append_ending_spec =
     tie.close
     (tie.spec
     (λ c κs. search (rules, laws))
-    (λ c. search (rules, laws))
     (λ c κs. search (rules, laws))
-    (λ c. search (rules, laws))
     (λ c. search (rules, laws))
     (λ c. search (rules, laws))
     (λ c κs. search (rules, laws))

@@ -5,59 +5,59 @@ use borrow.Author.Rules.{rules}
 use Rattle.xml_elements.proofs.append_entries.Statement.{statement}
 use Rattle.xml_elements.proofs.append_entries.Tie as tie
 
-row-of-requires : tie.Need-row-of-requires
+row-of-requires : tie.Need-row_of-row-requires
 unfolding table
 row-of-requires c κs = search (rules, laws)
 
-add-e : tie.Need-overflow-add-e
+add-e : tie.Need-overflow_add-e
 unfolding table
 add-e c = search (rules, laws)
 
-sub-append-attributes : tie.Need-overflow-sub-append-attributes
+sub-append-attributes : tie.Need-slice_bounds-append_attributes-count
 unfolding table
 sub-append-attributes c = search (rules, laws)
 
-part-append-attributes-start : tie.Need-slice-bounds-append-attributes-start
+part-append-attributes-start : tie.Need-slice_bounds-append_attributes-start
 unfolding table
 part-append-attributes-start c = search (rules, laws)
 
-part-append-attributes-end : tie.Need-slice-bounds-append-attributes-end
+part-append-attributes-end : tie.Need-slice_bounds-append_attributes-end
 unfolding table
 part-append-attributes-end c = search (rules, laws)
 
-append-attributes-requires : tie.Need-append-attributes-requires
+append-attributes-requires : tie.Need-append_attributes-requires
 unfolding table
 append-attributes-requires c κs = search (rules, laws)
 
-same_length : tie.Need-same-length
+same_length : tie.Need-shape_of-buffer-then-k-eq-PARAM
 unfolding table
 same_length c = search (rules, laws)
 
-returns : tie.Need-returns
+returns : tie.Need-returns-then-k-eq-PARAM
 unfolding table
 returns c = search (rules, laws)
 
-sub-append-attributes-2 : tie.Need-overflow-sub-append-attributes-2
+sub-append-attributes-2 : tie.Need-slice_bounds-append_attributes-count-2
 unfolding table
 sub-append-attributes-2 c = search (rules, laws)
 
-part-append-attributes-start-2 : tie.Need-slice-bounds-append-attributes-start-2
+part-append-attributes-start-2 : tie.Need-slice_bounds-append_attributes-start-2
 unfolding table
 part-append-attributes-start-2 c = search (rules, laws)
 
-part-append-attributes-end-2 : tie.Need-slice-bounds-append-attributes-end-2
+part-append-attributes-end-2 : tie.Need-slice_bounds-append_attributes-end-2
 unfolding table
 part-append-attributes-end-2 c = search (rules, laws)
 
-append-attributes-requires-2 : tie.Need-append-attributes-requires-2
+append-attributes-requires-2 : tie.Need-append_attributes-requires-2
 unfolding table
 append-attributes-requires-2 c κs = search (rules, laws)
 
-same-length-2 : tie.Need-same-length-2
+same-length-2 : tie.Need-shape_of-buffer
 unfolding table
 same-length-2 c = search (rules, laws)
 
-returns-2 : tie.Need-returns-2
+returns-2 : tie.Need-returns
 unfolding table
 returns-2 c = search (rules, laws)
 

@@ -5,23 +5,23 @@ use borrow.Author.Rules.{rules}
 use Rattle.xml_elements.proofs.append_name.Statement.{statement}
 use Rattle.xml_elements.proofs.append_name.Tie as tie
 
-name-of-requires : tie.Need-name-of-requires
+name-of-requires : tie.Need-name_of-part-requires
 unfolding elements
 name-of-requires c κs = search (rules, laws)
 
-add-e : tie.Need-overflow-add-e
+add-e : tie.Need-overflow_add-e
 unfolding elements
 add-e c = search (rules, laws)
 
-sub-append : tie.Need-overflow-sub-append
+sub-append : tie.Need-slice_bounds-append-count
 unfolding elements
 sub-append c = search (rules, laws)
 
-part-append-start : tie.Need-slice-bounds-append-start
+part-append-start : tie.Need-slice_bounds-append-start
 unfolding elements
 part-append-start c = search (rules, laws)
 
-part-append-end : tie.Need-slice-bounds-append-end
+part-append-end : tie.Need-slice_bounds-append-end
 unfolding elements
 part-append-end c = search (rules, laws)
 
@@ -29,7 +29,7 @@ append-requires : tie.Need-append-requires
 unfolding elements
 append-requires c κs = search (rules, laws)
 
-same_length : tie.Need-same-length
+same_length : tie.Need-shape_of-buffer
 unfolding elements
 same_length c = search (rules, laws)
 

@@ -9,10 +9,8 @@ append_shut_spec =
     tie.close
     (tie.spec
     (λ c κs. search (rules, laws))
-    (λ c. search (rules, laws))
     (λ c κs. search (rules, laws))
     (λ c κs. search (rules, laws))
-    (λ c. search (rules, laws))
     (λ c κs. search (rules, laws))
     (λ c. search (rules, laws))
     (λ c. search (rules, laws)))

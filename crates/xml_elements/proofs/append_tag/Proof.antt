@@ -10,7 +10,6 @@ append_tag_spec =
     (tie.spec
     (λ c κs. search (rules, tag_laws))
     (λ c. search (rules, tag_laws))
-    (λ c. search (rules, tag_laws))
     (λ c κs. search (rules, tag_laws))
     (λ c κs. search (rules, tag_laws))
     (λ c. search (rules, tag_laws))

@@ -5,19 +5,15 @@ use borrow.Author.Rules.{rules}
 use Rattle.xml_elements.proofs.append_xml.Statement.{statement}
 use Rattle.xml_elements.proofs.append_xml.Tie as tie
 
-slice-aggregate-append : tie.Need-slice-aggregate-append
-unfolding opening
-slice-aggregate-append c = search (rules, xml_laws)
-
-append-requires : tie.Need-append-requires
+append-requires : tie.Need-append-next-requires
 unfolding opening
 append-requires c κs = search (rules, xml_laws)
 
-append-lines-requires : tie.Need-append-lines-requires
+append-lines-requires : tie.Need-append_lines-requires
 unfolding opening
 append-lines-requires c κs = search (rules, xml_laws)
 
-same_length : tie.Need-same-length
+same_length : tie.Need-shape_of-buffer
 unfolding opening
 same_length c = search (rules, xml_laws)
 
@@ -28,4 +24,4 @@ returns c = search (rules, xml_laws)
 pub append_xml_spec : {M : Type 1} → statement M
 append_xml_spec =
     tie.close
-    (tie.spec slice-aggregate-append append-requires append-lines-requires same_length returns)
+    (tie.spec append-requires append-lines-requires same_length returns)

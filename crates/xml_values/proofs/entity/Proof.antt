@@ -8,18 +8,13 @@ pub entity_spec : {M : Type 1} → statement M
 entity_spec =
     tie.close
     (tie.spec
+    (λ c κs. search (rules, picks))
     (λ c. search (rules, picks))
     (λ c κs. search (rules, picks))
     (λ c. search (rules, picks))
-    (λ c. search (rules, picks))
     (λ c κs. search (rules, picks))
     (λ c. search (rules, picks))
-    (λ c. search (rules, picks))
     (λ c κs. search (rules, picks))
-    (λ c. search (rules, picks))
-    (λ c. search (rules, picks))
-    (λ c κs. search (rules, picks))
-    (λ c. search (rules, picks))
     (λ c. search (rules, picks))
     (λ c κs. search (rules, picks))
     (λ c. search (rules, picks))

@@ -8,10 +8,10 @@ use Rattle.xml_values.proofs.Laws.{front_laws}
 use Rattle.xml_values.proofs.lead.Statement.{statement}
 use Rattle.xml_values.proofs.lead.Tie as tie
 
-abbrev invariant-loop : tie.invariant-loop
+abbrev invariant-loop : tie.invariant-loop-i
 invariant-loop s i₀ i = (i ≤ length s) × (lead s ≡ i + lead (drop i s))
 
-abbrev decreases-loop : tie.decreases-loop
+abbrev decreases-loop : tie.decreases-loop-i
 decreases-loop s i₀ i = length s - i
 
 pub lead_spec : {M : Type 1} → statement M

@@ -9,10 +9,10 @@ use Rattle.xml_values.proofs.Laws.{escape_laws}
 use Rattle.xml_values.proofs.rest_named.Statement.{statement}
 use Rattle.xml_values.proofs.rest_named.Tie as tie
 
-abbrev invariant-loop : tie.invariant-loop
+abbrev invariant-loop : tie.invariant-loop-rest
 invariant-loop s at₀ at = (at ≤ length s) × (named (split 38 s) ≡ named (split 38 (drop at s)))
 
-abbrev decreases-loop : tie.decreases-loop
+abbrev decreases-loop : tie.decreases-loop-rest
 decreases-loop s at₀ at = length s - at
 
 pub rest_named_spec : {M : Type 1} → statement M

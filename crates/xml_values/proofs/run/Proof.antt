@@ -8,10 +8,10 @@ use Rattle.xml_values.proofs.Laws.{base_laws}
 use Rattle.xml_values.proofs.run.Statement.{statement}
 use Rattle.xml_values.proofs.run.Tie as tie
 
-abbrev invariant-loop : tie.invariant-loop
+abbrev invariant-loop : tie.invariant-loop-i
 invariant-loop base s i₀ i = (i ≤ length s) × (run base s ≡ i + run base (drop i s))
 
-abbrev decreases-loop : tie.decreases-loop
+abbrev decreases-loop : tie.decreases-loop-i
 decreases-loop base s i₀ i = length s - i
 
 pub run_spec : {M : Type 1} → statement M

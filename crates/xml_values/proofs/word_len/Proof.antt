@@ -8,10 +8,10 @@ use Rattle.xml_values.proofs.Laws.{front_laws}
 use Rattle.xml_values.proofs.word_len.Statement.{statement}
 use Rattle.xml_values.proofs.word_len.Tie as tie
 
-abbrev invariant-loop : tie.invariant-loop
+abbrev invariant-loop : tie.invariant-loop-i
 invariant-loop s i₀ i = (i ≤ length s) × (word_len s ≡ i + word_len (drop i s))
 
-abbrev decreases-loop : tie.decreases-loop
+abbrev decreases-loop : tie.decreases-loop-i
 decreases-loop s i₀ i = length s - i
 
 pub word_len_spec : {M : Type 1} → statement M

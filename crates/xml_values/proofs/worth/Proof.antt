@@ -4,15 +4,15 @@ use lib.ListN.{length, drop}
 use Prim.Native.Nat.{◌-◌, ◌≤◌}
 use mathlib.Core.Path.{◌≡◌}
 use borrow.Author.Rules.{rules}
-use Rattle.xml_values.proofs.Laws.{base_laws}
+use Rattle.xml_values.proofs.Laws.{worth_hit, base_laws}
 use Rattle.xml_values.proofs.worth.Statement.{statement}
 use Rattle.xml_values.proofs.worth.Tie as tie
 
-abbrev invariant-loop : tie.invariant-loop
+abbrev invariant-loop : tie.invariant-loop-i
 invariant-loop base s v₀ i₀ v i =
     (i ≤ length s) × (v ≤ 4294967295) × (worth_in base 0 s ≡ worth_in base v (drop i s))
 
-abbrev decreases-loop : tie.decreases-loop
+abbrev decreases-loop : tie.decreases-loop-i
 decreases-loop base s v₀ i₀ v i = length s - i
 
 pub worth_spec : {M : Type 1} → statement M
@@ -24,7 +24,7 @@ worth_spec =
     (λ c. search (rules, base_laws))
     (λ c. search (rules, base_laws))
     (λ c κs. search (rules, base_laws))
-    (λ c. search (rules, base_laws))
+    (λ c. search (rules, worth_hit))
     (λ c. search (rules, base_laws))
     (λ c. search (rules, base_laws))
     (λ c. search (rules, base_laws))

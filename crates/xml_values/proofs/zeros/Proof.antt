@@ -8,10 +8,10 @@ use Rattle.xml_values.proofs.Laws.{zeros_laws}
 use Rattle.xml_values.proofs.zeros.Statement.{statement}
 use Rattle.xml_values.proofs.zeros.Tie as tie
 
-abbrev invariant-loop : tie.invariant-loop
+abbrev invariant-loop : tie.invariant-loop-i
 invariant-loop v i₀ i = (i ≤ length v) × (strip v ≡ strip (drop i v))
 
-abbrev decreases-loop : tie.decreases-loop
+abbrev decreases-loop : tie.decreases-loop-i
 decreases-loop v i₀ i = length v - i
 
 pub zeros_spec : {M : Type 1} → statement M
