@@ -6,10 +6,10 @@ use Rattle.append.proofs.Laws.{Going, laws}
 use Rattle.append.proofs.append.Statement.{statement}
 use Rattle.append.proofs.append.Tie as tie
 
-abbrev invariant-loop : tie.invariant-loop
+abbrev invariant-loop : tie.invariant-loop-i
 invariant-loop buffer₀ at bytes i₀ buffer i = Going buffer buffer₀ bytes at i
 
-abbrev decreases-loop : tie.decreases-loop
+abbrev decreases-loop : tie.decreases-loop-i
 decreases-loop buffer₀ at bytes i₀ buffer i = length bytes - i
 
 pub append_spec : {M : Type 1} → statement M

@@ -14,7 +14,6 @@ append_label_spec =
     (λ c. search (rules, laws))
     (λ c. search (rules, laws))
     (λ c κs. search (rules, laws))
-    (λ c. search (rules, laws))
     (λ c κs. search (rules, laws))
     (λ c. search (rules, laws))
     (λ c. search (rules, laws)))

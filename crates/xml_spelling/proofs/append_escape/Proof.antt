@@ -8,15 +8,10 @@ pub append_escape_spec : {M : Type 1} → statement M
 append_escape_spec =
     tie.close
     (tie.spec
-    (λ c. search (rules, laws))
     (λ c κs. search (rules, laws))
-    (λ c. search (rules, laws))
     (λ c κs. search (rules, laws))
-    (λ c. search (rules, laws))
     (λ c κs. search (rules, laws))
-    (λ c. search (rules, laws))
     (λ c κs. search (rules, laws))
-    (λ c. search (rules, laws))
     (λ c κs. search (rules, laws))
     (λ c κs. search (rules, laws))
     (λ c. search (rules, laws))

@@ -8,9 +8,7 @@ pub append_flag_spec : {M : Type 1} → statement M
 append_flag_spec =
     tie.close
     (tie.spec
-    (λ c. search (rules, laws))
     (λ c κs. search (rules, laws))
-    (λ c. search (rules, laws))
     (λ c. search (rules, laws))
     (λ c. search (rules, laws))
     (λ c κs. search (rules, laws))
