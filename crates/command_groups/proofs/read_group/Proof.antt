@@ -8,15 +8,15 @@ use Rattle.command_schema.specs.Heads.{heads_of, members_of}
 use Rattle.command_groups.proofs.read_group.Statement.{statement}
 use Rattle.command_groups.proofs.read_group.Tie as tie
 
-abbrev invariant-loop : tie.invariant-loop
+abbrev invariant-loop : tie.invariant-loop-times
 invariant-loop text loaded group most body spot rows₀ kept₀ at₀ next₀ times₀ rows kept at next times =
     Turns body (members_of (drop group.first (heads_of text))) group.line most at₀.0 spot.row spot.skip rows₀ rows at.0 next times
     × (length kept ≡ 256)
 
-abbrev decreases-loop : tie.decreases-loop
+abbrev decreases-loop : tie.decreases-loop-times
 decreases-loop text loaded group most body spot rows₀ kept₀ at₀ next₀ times₀ rows kept at next times = most - times
 
-repetition-at-requires : tie.Need-repetition-at-requires invariant-loop decreases-loop
+repetition-at-requires : tie.Need-repetition_at-requires invariant-loop decreases-loop
 repetition-at-requires c κs =
     (search (rules, turns_laws), search (rules, turns_laws), search (rules, turns_laws), search (rules, turns_laws), search (rules, turns_laws))
 

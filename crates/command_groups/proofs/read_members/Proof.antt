@@ -6,48 +6,29 @@ use Prim.Native.Nat.{◌-◌}
 use Rattle.command_groups.proofs.read_members.Statement.{statement}
 use Rattle.command_groups.proofs.read_members.Tie as tie
 
-abbrev invariant-loop : tie.invariant-loop
+abbrev invariant-loop : tie.invariant-loop-j
 invariant-loop text loaded group body spot kept₀ rows₀ have₀ at₀ next₀ j₀ kept rows have at next j =
     Members text body group.count group.first at₀.0 spot.row spot.parent spot.skip rows₀ rows kept have at.0 next j
 
-abbrev decreases-loop : tie.decreases-loop
+abbrev decreases-loop : tie.decreases-loop-j
 decreases-loop text loaded group body spot kept₀ rows₀ have₀ at₀ next₀ j₀ kept rows have at next j = group.count - j
 
-add-next : tie.Need-overflow-add-next invariant-loop decreases-loop
+add-next : tie.Need-overflow_add-next invariant-loop decreases-loop
 add-next c =
-    let by_end = c.before.before.before.before.before in
-    let by-param-at = by_end.before.before.before.before in
-    let by-if2 = by-param-at.before.before.before.before in
-    let by-is-member = by-if2.before in
-    let by-loaded-at = by-is-member.before in
-    let turn-test = by-loaded-at.before in
-    let turn = turn-test.before.before in
-    let start = turn.before.before.before.before.before.before.before in
-    members-fits _ _ _ _ _ _ _ _ start.requires.0 _ _ _ _ _ _ _ _ turn.loop.invariant _ by-loaded-at.loaded_at.ensures (omega (arith, turn-test.if1)) _
-    by-is-member.is_member.ensures _ _ by-param-at.param-at.ensures by-if2.if2.true _ _ _ by_end.end.given.1
+    members-fits _ _ _ _ _ _ _ _ c.requires.0 _ _ _ _ _ _ _ _ c.loop-j.invariant _ c.loaded_at-q.ensures (omega (arith, c.loop-j-test)) _
+    c.is_member.ensures _ _ c.param_at.ensures c.if-is_member.true _ _ _ c.in-Read.is
 
-add-j : tie.Need-overflow-add-j invariant-loop decreases-loop
-add-j c =
-    let turn-test = c.before.before.before.before.before.before.before.before.before.before.before.before.before.before.before.before in
-    let start = turn-test.before.before.before.before.before.before.before.before.before in
-    omega (arith, turn-test.if1, start.requires.0.few)
+add-j : tie.Need-overflow_add-j invariant-loop decreases-loop
+add-j c = omega (arith, c.loop-j-test, c.requires.0.few)
 
-loop-again : tie.Need-loop-preserved invariant-loop decreases-loop
+loop-again : tie.Need-loop-j-preserved invariant-loop decreases-loop
 loop-again c =
-    let by_end = c.before.before.before.before.before in
-    let by-param-at = by_end.before.before.before.before in
-    let by-if2 = by-param-at.before.before.before.before in
-    let by-is-member = by-if2.before in
-    let by-loaded-at = by-is-member.before in
-    let turn-test = by-loaded-at.before in
-    let turn = turn-test.before.before in
-    let start = turn.before.before.before.before.before.before.before in
-    members-take _ _ _ _ _ _ _ _ start.requires.0 _ _ _ _ _ _ _ _ turn.loop.invariant _ by-loaded-at.loaded_at.ensures (omega (arith, turn-test.if1)) _
-    by-is-member.is_member.ensures _ _ by-param-at.param-at.ensures by-if2.if2.true _ _ _ by_end.end.given.1 _ _
-    c.before.before.keep.ensures.0 c.before.before.keep.ensures.1
+    members-take _ _ _ _ _ _ _ _ c.requires.0 _ _ _ _ _ _ _ _ c.loop-j.invariant _ c.loaded_at-q.ensures (omega (arith, c.loop-j-test)) _
+    c.is_member.ensures _ _ c.param_at.ensures c.if-is_member.true _ _ _ c.in-Read.is _ _
+    c.keep-have.ensures.0 c.keep-have.ensures.1
 
 -- at a missing member
-enum_told : tie.Need-enum-told invariant-loop decreases-loop
+enum_told : tie.Need-enum_told-1 invariant-loop decreases-loop
 enum_told c = search (rules, members_laws)
 
 pub read_members_spec : {M : Type 1} → statement M
