@@ -7,10 +7,10 @@ use Rattle.header_rows.proofs.Laws.{Writing, laws}
 use Rattle.header_rows.proofs.write_rows.Statement.{statement}
 use Rattle.header_rows.proofs.write_rows.Tie as tie
 
-abbrev invariant-loop : tie.invariant-loop
+abbrev invariant-loop : tie.invariant-loop-k
 invariant-loop text fields count scratch n rows₀ k₀ rows k = Writing (fields_in text fields count) (definition text).sets rows₀ rows scratch n k
 
-abbrev decreases-loop : tie.decreases-loop
+abbrev decreases-loop : tie.decreases-loop-k
 decreases-loop text fields count scratch n rows₀ k₀ rows k = n - k
 
 pub write_rows_spec : {M : Type 1} → statement M

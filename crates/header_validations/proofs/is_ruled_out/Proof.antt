@@ -9,10 +9,10 @@ use Rattle.header_validations.proofs.Laws.{Ruling, laws}
 use Rattle.header_validations.proofs.is_ruled_out.Statement.{statement}
 use Rattle.header_validations.proofs.is_ruled_out.Tie as tie
 
-abbrev invariant-loop : tie.invariant-loop
+abbrev invariant-loop : tie.invariant-loop-path
 invariant-loop text fields count rows n place₀ place = Ruling text (name_of (fields_in text fields count)) (rows_in rows n) place₀ place
 
-abbrev decreases-loop : tie.decreases-loop
+abbrev decreases-loop : tie.decreases-loop-path
 decreases-loop text fields count rows n place₀ place = length text - place.at
 
 pub is_ruled_out_spec : {M : Type 1} → statement M

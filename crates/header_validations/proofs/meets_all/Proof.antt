@@ -9,10 +9,10 @@ use Rattle.header_validations.proofs.Laws.{Meeting, laws}
 use Rattle.header_validations.proofs.meets_all.Statement.{statement}
 use Rattle.header_validations.proofs.meets_all.Tie as tie
 
-abbrev invariant-loop : tie.invariant-loop
+abbrev invariant-loop : tie.invariant-loop-path
 invariant-loop text fields count rows n place₀ place = Meeting text (name_of (fields_in text fields count)) (rows_in rows n) place₀ place
 
-abbrev decreases-loop : tie.decreases-loop
+abbrev decreases-loop : tie.decreases-loop-path
 decreases-loop text fields count rows n place₀ place = length text - place.at
 
 pub meets_all_spec : {M : Type 1} → statement M

@@ -7,32 +7,30 @@ use Rattle.header_walk.proofs.Laws.{Listing, next_in, next_level, next_fits, out
 use Rattle.header_walk.proofs.walk_from.Statement.{statement}
 use Rattle.header_walk.proofs.walk_from.Tie as tie
 
-abbrev invariant-loop : tie.invariant-loop
+abbrev invariant-loop : tie.invariant-loop-j
 invariant-loop mpdu text fields count first rows₀ order₀ place₀ bit₀ next₀ rows order place bit next =
     Listing text fields mpdu count first bit₀ next₀ rows₀ rows order place bit next
 
-abbrev decreases-loop : tie.decreases-loop
+abbrev decreases-loop : tie.decreases-loop-j
 decreases-loop mpdu text fields count first rows₀ order₀ place₀ bit₀ next₀ rows order place bit next =
     length (rest text fields count 0 first order place)
 
-add-place : tie.Need-overflow-add-place invariant-loop decreases-loop
+add-place : tie.Need-overflow_add-place invariant-loop decreases-loop
 add-place c =
-    let start = c.before.before.before.before.before.before.before.before.before in
-    next_fits _ _ _ _ _ _ _ c.before.before.before.next_field.ensures _ _ _ c.before.j.given.1 start.requires.0.few start.requires.1.0
+    next_fits _ _ _ _ _ _ _ c.next_field.ensures _ _ _ c.in-At.is c.requires.0.few c.requires.1.0
 
-decode-param-requires : tie.Need-decode-param-requires invariant-loop decreases-loop
-decode-param-requires c κs =
-    let start = c.before.before.before.before.before.before.before.before.before.before in (
-      search (rules, outer_laws),
-      (
-        next_in _ _ _ _ _ _ _ c.before.before.before.before.next_field.ensures _ _ _ c.before.before.j.given.1
-            start.requires.0.few start.requires.1.0,
-        next_level _ _ _ _ _ _ _ c.before.before.before.before.next_field.ensures _ _ _
-            c.before.before.j.given.1 start.requires.0.few start.requires.1.0 _ refl,
-        search (rules, outer_laws),
-        search (rules, outer_laws),
-      ),
-    )
+decode-param-requires : tie.Need-decode_param-requires invariant-loop decreases-loop
+decode-param-requires c κs = (
+  search (rules, outer_laws),
+  (
+    next_in _ _ _ _ _ _ _ c.next_field.ensures _ _ _ c.in-At.is
+        c.requires.0.few c.requires.1.0,
+    next_level _ _ _ _ _ _ _ c.next_field.ensures _ _ _
+        c.in-At.is c.requires.0.few c.requires.1.0 _ refl,
+    search (rules, outer_laws),
+    search (rules, outer_laws),
+  ),
+)
 
 pub walk_from_spec : {M : Type 1} → statement M
 walk_from_spec =
