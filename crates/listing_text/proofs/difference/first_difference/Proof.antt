@@ -6,10 +6,10 @@ use Rattle.listing_text.proofs.Laws.{laws}
 use Rattle.listing_text.proofs.difference.first_difference.Statement.{statement}
 use Rattle.listing_text.proofs.difference.first_difference.Tie as tie
 
-abbrev invariant-loop : tie.invariant-loop
+abbrev invariant-loop : tie.invariant-loop-k
 invariant-loop listing rows count number at₀ k₀ at k = Comparing listing rows count number at k
 
-abbrev decreases-loop : tie.decreases-loop
+abbrev decreases-loop : tie.decreases-loop-k
 decreases-loop listing rows count number at₀ k₀ at k = count - k
 
 pub first_difference_spec : {M : Type 1} → statement M

@@ -5,10 +5,10 @@ use Rattle.listing_text.proofs.Laws.{laws}
 use Rattle.listing_text.proofs.form.is_row.Statement.{statement}
 use Rattle.listing_text.proofs.form.is_row.Tie as tie
 
-abbrev invariant-loop : tie.invariant-loop
+abbrev invariant-loop : tie.invariant-loop-more
 invariant-loop s at₀ more₀ at more = Counting s at more
 
-abbrev decreases-loop : tie.decreases-loop
+abbrev decreases-loop : tie.decreases-loop-more
 decreases-loop s at₀ more₀ at more = more
 
 pub is_row_spec : {M : Type 1} → statement M

@@ -7,10 +7,10 @@ use Rattle.listing_text.proofs.Laws.{laws}
 use Rattle.listing_text.proofs.form.read_form.Statement.{statement}
 use Rattle.listing_text.proofs.form.read_form.Tie as tie
 
-abbrev invariant-loop : tie.invariant-loop
+abbrev invariant-loop : tie.invariant-loop-rest
 invariant-loop listing place₀ place = Forming listing place
 
-abbrev decreases-loop : tie.decreases-loop
+abbrev decreases-loop : tie.decreases-loop-rest
 decreases-loop listing place₀ place = length listing - place.at
 
 pub read_form_spec : {M : Type 1} → statement M

@@ -7,10 +7,10 @@ use Rattle.listing_text.proofs.Laws.{laws}
 use Rattle.listing_text.proofs.lines.put_bytes.Statement.{statement}
 use Rattle.listing_text.proofs.lines.put_bytes.Tie as tie
 
-abbrev invariant-loop : tie.invariant-loop
+abbrev invariant-loop : tie.invariant-loop-i
 invariant-loop buffer₀ at bytes i₀ buffer i = Putting buffer₀ buffer bytes at i
 
-abbrev decreases-loop : tie.decreases-loop
+abbrev decreases-loop : tie.decreases-loop-i
 decreases-loop buffer₀ at bytes i₀ buffer i = length bytes - i
 
 pub put_bytes_spec : {M : Type 1} → statement M

@@ -6,10 +6,10 @@ use Rattle.listing_text.proofs.Laws.{laws}
 use Rattle.listing_text.proofs.lines.put_lines.Statement.{statement}
 use Rattle.listing_text.proofs.lines.put_lines.Tie as tie
 
-abbrev invariant-loop : tie.invariant-loop
+abbrev invariant-loop : tie.invariant-loop-k
 invariant-loop rows count number buffer₀ at₀ k₀ buffer at k = Filling rows count number buffer₀ buffer at k
 
-abbrev decreases-loop : tie.decreases-loop
+abbrev decreases-loop : tie.decreases-loop-k
 decreases-loop rows count number buffer₀ at₀ k₀ buffer at k = count - k
 
 pub put_lines_spec : {M : Type 1} → statement M

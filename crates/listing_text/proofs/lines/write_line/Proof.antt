@@ -7,10 +7,10 @@ use Rattle.listing_text.proofs.Laws.{laws}
 use Rattle.listing_text.proofs.lines.write_line.Statement.{statement}
 use Rattle.listing_text.proofs.lines.write_line.Tie as tie
 
-abbrev invariant-loop : tie.invariant-loop
+abbrev invariant-loop : tie.invariant-loop-i
 invariant-loop numbers line₀ at₀ i₀ line at i = Lining numbers line₀ line at i
 
-abbrev decreases-loop : tie.decreases-loop
+abbrev decreases-loop : tie.decreases-loop-i
 decreases-loop numbers line₀ at₀ i₀ line at i = length numbers - i
 
 pub write_line_spec : {M : Type 1} → statement M

@@ -8,10 +8,10 @@ use Rattle.text_faults.proofs.advice.Laws.{Faultless, fault_laws}
 use Rattle.text_faults.proofs.advice.first_fault.Statement.{statement}
 use Rattle.text_faults.proofs.advice.first_fault.Tie as tie
 
-abbrev invariant-loop : tie.invariant-loop
+abbrev invariant-loop : tie.invariant-loop-want
 invariant-loop letter s at₀ k₀ at k = Faultless (want_of letter) s at k
 
-abbrev decreases-loop : tie.decreases-loop
+abbrev decreases-loop : tie.decreases-loop-want
 decreases-loop letter s at₀ k₀ at k = length s - at
 
 pub first_fault_spec : {M : Type 1} → statement M

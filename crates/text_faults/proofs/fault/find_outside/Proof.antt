@@ -8,10 +8,10 @@ use Rattle.text_faults.proofs.fault.Laws.{outside_laws}
 use Rattle.text_faults.proofs.fault.find_outside.Statement.{statement}
 use Rattle.text_faults.proofs.fault.find_outside.Tie as tie
 
-abbrev invariant-loop : tie.invariant-loop
+abbrev invariant-loop : tie.invariant-loop-i
 invariant-loop s lo hi i₀ i = (i ≤ length s) × (outside lo hi s ≡ i + outside lo hi (drop i s))
 
-abbrev decreases-loop : tie.decreases-loop
+abbrev decreases-loop : tie.decreases-loop-i
 decreases-loop s lo hi i₀ i = length s - i
 
 pub find_outside_spec : {M : Type 1} → statement M

@@ -10,10 +10,10 @@ use Rattle.text_faults.proofs.fault.Laws.{part_laws}
 use Rattle.text_faults.proofs.fault.why_parts.Statement.{statement}
 use Rattle.text_faults.proofs.fault.why_parts.Tie as tie
 
-abbrev invariant-loop : tie.invariant-loop
+abbrev invariant-loop : tie.invariant-loop-rest
 invariant-loop s at₀ at = (at ≤ length s) × (why_parts 0 (split 46 s) ≡ why_parts at (split 46 (drop at s)))
 
-abbrev decreases-loop : tie.decreases-loop
+abbrev decreases-loop : tie.decreases-loop-rest
 decreases-loop s at₀ at = length s - at
 
 pub why_parts_spec : {M : Type 1} → statement M

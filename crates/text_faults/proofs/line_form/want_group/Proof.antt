@@ -4,10 +4,10 @@ use borrow.Author.Rules.{rules}
 use Rattle.text_faults.proofs.line_form.want_group.Statement.{statement}
 use Rattle.text_faults.proofs.line_form.want_group.Tie as tie
 
-returns : tie.Need-returns
+returns : tie.Need-returns-in-1
 returns c = search (rules, laws) depth 14
 
-returns-2 : tie.Need-returns-2
+returns-2 : tie.Need-returns-in_default
 returns-2 c = search (rules, laws) depth 14
 
 pub want_group_spec : {M : Type 1} → statement M

@@ -4,16 +4,16 @@ use borrow.Author.Rules.{rules}
 use Rattle.text_faults.proofs.line_form.want_parameter.Statement.{statement}
 use Rattle.text_faults.proofs.line_form.want_parameter.Tie as tie
 
-returns : tie.Need-returns
+returns : tie.Need-returns-in-1
 returns c = search (rules, laws) depth 14
 
-returns-2 : tie.Need-returns-2
+returns-2 : tie.Need-returns-in-2
 returns-2 c = search (rules, laws) depth 14
 
-returns-3 : tie.Need-returns-3
+returns-3 : tie.Need-returns-in-3
 returns-3 c = search (rules, laws) depth 14
 
-returns-4 : tie.Need-returns-4
+returns-4 : tie.Need-returns-in_default
 returns-4 c = search (rules, laws) depth 14
 
 pub want_parameter_spec : {M : Type 1} → statement M
