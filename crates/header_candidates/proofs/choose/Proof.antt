@@ -6,62 +6,62 @@ use Rattle.header_candidates.proofs.Laws.{Choosing, laws}
 use Rattle.header_candidates.proofs.choose.Statement.{statement}
 use Rattle.header_candidates.proofs.choose.Tie as tie
 
-abbrev invariant-loop : tie.invariant-loop
+abbrev invariant-loop : tie.invariant-loop-candidate
 invariant-loop text mpdu key fields₀ scratch₀ base place₀ h₀ n₀ fields scratch place h n =
     Choosing text mpdu key fields₀ scratch₀ base fields scratch place h n
 
-abbrev decreases-loop : tie.decreases-loop
+abbrev decreases-loop : tie.decreases-loop-candidate
 decreases-loop text mpdu key fields₀ scratch₀ base place₀ h₀ n₀ fields scratch place h n = length text - place.at
 
-start-requires : tie.Need-start-requires invariant-loop decreases-loop
+start-requires : tie.Need-start-place-requires invariant-loop decreases-loop
 start-requires c κs = search (rules, laws)
 
-loop-holds : tie.Need-loop-init invariant-loop decreases-loop
+loop-holds : tie.Need-loop-candidate-init invariant-loop decreases-loop
 loop-holds c = search (rules, laws)
 
-next-candidate-requires : tie.Need-next-candidate-requires invariant-loop decreases-loop
+next-candidate-requires : tie.Need-next_candidate-requires invariant-loop decreases-loop
 next-candidate-requires c κs = search (rules, laws)
 
-enum-known-candidate : tie.Need-enum-known-candidate invariant-loop decreases-loop
+enum-known-candidate : tie.Need-enum_known-candidate invariant-loop decreases-loop
 enum-known-candidate c = search (rules, laws)
 
-enum_told : tie.Need-enum-told invariant-loop decreases-loop
+enum_told : tie.Need-enum_told-1 invariant-loop decreases-loop
 enum_told c = search (rules, laws)
 
-same_length : tie.Need-same-length invariant-loop decreases-loop
+same_length : tie.Need-shape_of-fields-in_default invariant-loop decreases-loop
 same_length c = search (rules, laws)
 
-same-length-2 : tie.Need-same-length-2 invariant-loop decreases-loop
+same-length-2 : tie.Need-shape_of-scratch-in_default invariant-loop decreases-loop
 same-length-2 c = search (rules, laws)
 
-returns : tie.Need-returns invariant-loop decreases-loop
+returns : tie.Need-returns-in_default invariant-loop decreases-loop
 returns c = search (rules, laws)
 
-add-h : tie.Need-overflow-add-h invariant-loop decreases-loop
+add-h : tie.Need-overflow_add-h invariant-loop decreases-loop
 add-h c = search (rules, laws)
 
-try-candidate-requires : tie.Need-try-candidate-requires invariant-loop decreases-loop
+try-candidate-requires : tie.Need-try_candidate-requires invariant-loop decreases-loop
 try-candidate-requires c κs = search (rules, laws)
 
-enum-known-read : tie.Need-enum-known-read invariant-loop decreases-loop
+enum-known-read : tie.Need-enum_known-read invariant-loop decreases-loop
 enum-known-read c = search (rules, laws)
 
-enum-told-2 : tie.Need-enum-told-2 invariant-loop decreases-loop
+enum-told-2 : tie.Need-enum_told-in_default-try_candidate invariant-loop decreases-loop
 enum-told-2 c = search (rules, laws)
 
-loop-less : tie.Need-loop-smaller invariant-loop decreases-loop
+loop-less : tie.Need-loop-candidate-smaller invariant-loop decreases-loop
 loop-less c = search (rules, laws)
 
-loop-again : tie.Need-loop-preserved invariant-loop decreases-loop
+loop-again : tie.Need-loop-candidate-preserved invariant-loop decreases-loop
 loop-again c = search (rules, laws)
 
-same-length-3 : tie.Need-same-length-3 invariant-loop decreases-loop
+same-length-3 : tie.Need-shape_of-fields-in-loop-candidate invariant-loop decreases-loop
 same-length-3 c = search (rules, laws)
 
-same-length-4 : tie.Need-same-length-4 invariant-loop decreases-loop
+same-length-4 : tie.Need-shape_of-scratch-in-loop-candidate invariant-loop decreases-loop
 same-length-4 c = search (rules, laws)
 
-returns-2 : tie.Need-returns-2 invariant-loop decreases-loop
+returns-2 : tie.Need-returns-in-loop-candidate invariant-loop decreases-loop
 returns-2 c = search (rules, laws)
 
 pub choose_spec : {M : Type 1} → statement M
