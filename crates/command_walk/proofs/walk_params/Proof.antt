@@ -6,73 +6,40 @@ use Rattle.command_walk.proofs.Outer.{Outer, outer_pass, outer-missing, outer_gr
 use Rattle.command_walk.proofs.walk_params.Statement.{statement}
 use Rattle.command_walk.proofs.walk_params.Tie as tie
 
-abbrev invariant-loop : tie.invariant-loop
+abbrev invariant-loop : tie.invariant-loop-j
 invariant-loop text loaded count offsets body skip rows₀ kept₀ have₀ at₀ next₀ j₀ rows kept have at next j =
     Outer offsets text body skip rows₀ rows kept have at.0 next j
 
-abbrev decreases-loop : tie.decreases-loop
+abbrev decreases-loop : tie.decreases-loop-j
 decreases-loop text loaded count offsets body skip rows₀ kept₀ have₀ at₀ next₀ j₀ rows kept have at next j = count - j
 
-missing : tie.Need-loop-preserved invariant-loop decreases-loop
+missing : tie.Need-loop-j-preserved-in_default invariant-loop decreases-loop
 missing c =
-    let by-param-at = c.before.before.before.before.before.before.before in
-    let by-if1 = by-param-at.before.before.before in
-    let by-is-outer = by-if1.before in
-    let by-loaded-at = by-is-outer.before in
-    let turn-test = by-loaded-at.before in
-    let turn = turn-test.before in
-    let start = turn.before.before.before.before.before in
-    outer-missing _ _ _ _ _ start.requires.0 _ _ _ _ _ _ _ _ turn.loop.invariant _ by-loaded-at.loaded_at.ensures (omega (arith, turn-test.loop-test)) _
-    by-is-outer.is-outer.ensures _ _ by-param-at.param-at.ensures by-if1.if1.true c.before.before.before.enum_told.given.1 _ _
-    c.before.keep-unvalued.ensures.0 c.before.keep-unvalued.ensures.1
+    outer-missing _ _ _ _ _ c.requires.0 _ _ _ _ _ _ _ _ c.loop-j.invariant _ c.loaded_at-q.ensures (omega (arith, c.loop-j-test)) _
+    c.is_outer.ensures _ _ c.param_at.ensures c.if-is_outer.true c.in_default.is _ _
+    c.keep_unvalued-have.ensures.0 c.keep_unvalued-have.ensures.1
 
-add-j-2 : tie.Need-overflow-add-j-2 invariant-loop decreases-loop
-add-j-2 c =
-    let turn-test = c.before.before.before.before.before.before.before.before.before.before.before.before.before.before in
-    let start = turn-test.before.before.before.before.before.before in
-    omega (arith, turn-test.loop-test, start.requires.0.few)
+add-j-2 : tie.Need-overflow_add-j-then-is_outer invariant-loop decreases-loop
+add-j-2 c = omega (arith, c.loop-j-test, c.requires.0.few)
 
-add-next-2 : tie.Need-overflow-add-next-2 invariant-loop decreases-loop
+add-next-2 : tie.Need-overflow_add-next-then-q-eq-G_KIND invariant-loop decreases-loop
 add-next-2 c =
-    let by-read-group = c.before.before.before.before.before.before in
-    let by-repeats-at = by-read-group.before.before in
-    let by-if2 = by-repeats-at.before.before in
-    let by-is-outer = by-if2.before.before.before in
-    let by-loaded-at = by-is-outer.before in
-    let turn-test = by-loaded-at.before in
-    let turn = turn-test.before in
-    let start = turn.before.before.before.before.before in
-    outer_group_fits _ _ _ _ _ start.requires.0 _ _ _ _ _ _ _ _ turn.loop.invariant _ by-loaded-at.loaded_at.ensures (omega (arith, turn-test.loop-test)) _
-    by-is-outer.is-outer.ensures _ _ _ by-repeats-at.repeats-at.ensures by-read-group.read-group.ensures by-if2.if2.true
+    outer_group_fits _ _ _ _ _ c.requires.0 _ _ _ _ _ _ _ _ c.loop-j.invariant _ c.loaded_at-q.ensures (omega (arith, c.loop-j-test)) _
+    c.is_outer.ensures _ _ _ c.repeats_at-most.ensures c.read_group-g.ensures c.if-q-eq-G_KIND.true
 
-add-j-3 : tie.Need-overflow-add-j-3 invariant-loop decreases-loop
-add-j-3 c =
-    let turn-test = c.before.before.before.before.before.before.before.before.before.before.before.before.before.before.before.before in
-    let start = turn-test.before.before.before.before.before.before in
-    omega (arith, turn-test.loop-test, start.requires.0.few)
+add-j-3 : tie.Need-overflow_add-j-then-q-eq-G_KIND invariant-loop decreases-loop
+add-j-3 c = omega (arith, c.loop-j-test, c.requires.0.few)
 
-loop-again-3 : tie.Need-loop-preserved-3 invariant-loop decreases-loop
+loop-again-3 : tie.Need-loop-j-preserved-then-q-eq-G_KIND invariant-loop decreases-loop
 loop-again-3 c =
-    let by-keep = c.before.before.before in
-    let by-read-group = by-keep.before.before.before.before in
-    let by-repeats-at = by-read-group.before.before in
-    let by-if2 = by-repeats-at.before.before in
-    let by-is-outer = by-if2.before.before.before in
-    let by-loaded-at = by-is-outer.before in
-    let turn-test = by-loaded-at.before in
-    let turn = turn-test.before in
-    let start = turn.before.before.before.before.before in
-    outer_group _ _ _ _ _ start.requires.0 _ _ _ _ _ _ _ _ turn.loop.invariant _ by-loaded-at.loaded_at.ensures (omega (arith, turn-test.loop-test)) _
-    by-is-outer.is-outer.ensures _ _ _ by-repeats-at.repeats-at.ensures by-read-group.read-group.ensures by-if2.if2.true _ _
-    by-keep.keep-unvalued2.ensures.0 by-keep.keep-unvalued2.ensures.1
+    outer_group _ _ _ _ _ c.requires.0 _ _ _ _ _ _ _ _ c.loop-j.invariant _ c.loaded_at-q.ensures (omega (arith, c.loop-j-test)) _
+    c.is_outer.ensures _ _ _ c.repeats_at-most.ensures c.read_group-g.ensures c.if-q-eq-G_KIND.true _ _
+    c.keep_unvalued-have-then-q-eq-G_KIND.ensures.0 c.keep_unvalued-have-then-q-eq-G_KIND.ensures.1
 
-loop-again-4 : tie.Need-loop-preserved-4 invariant-loop decreases-loop
+loop-again-4 : tie.Need-loop-j-preserved invariant-loop decreases-loop
 loop-again-4 c =
-    let turn-test = c.before.before.before.before.before in
-    let turn = turn-test.before in
-    let start = turn.before.before.before.before.before in
-    outer_pass _ _ _ _ _ start.requires.0 _ _ _ _ _ _ _ _ turn.loop.invariant _ c.before.before.before.before.loaded_at.ensures
-    (omega (arith, turn-test.loop-test)) _ c.before.before.before.is-outer.ensures c.before.before.if1.false c.if2.false
+    outer_pass _ _ _ _ _ c.requires.0 _ _ _ _ _ _ _ _ c.loop-j.invariant _ c.loaded_at-q.ensures
+    (omega (arith, c.loop-j-test)) _ c.is_outer.ensures c.if-is_outer.false c.if-q-eq-G_KIND.false
 
 pub walk_params_spec : {M : Type 1} → statement M
 walk_params_spec =
