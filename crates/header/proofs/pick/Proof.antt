@@ -4,16 +4,13 @@ use borrow.Author.Rules.{rules}
 use Rattle.header.proofs.pick.Statement.{statement}
 use Rattle.header.proofs.pick.Tie as tie
 
-heading-of-requires : tie.Need-heading-of-requires
+heading-of-requires : tie.Need-heading_of-header-requires
 heading-of-requires c κs =
-    let start = c.before.before.before.before.before.before.before.before.before.before.before.before.before.before.before.before in
-    search (rules, laws, start.requires.1.0)
+    search (rules, laws, c.requires.1.0)
 
 show-requires : tie.Need-show-requires
 show-requires c κs =
-    let chosen = c.before.before.before.before.before.before.before.before.before.before.before in
-    let start = chosen.before.before.before.before.before.before.before.before.before in
-    (start.requires.0, search (rules, laws, start.requires.1.0, chosen))
+    (c.requires.0, search (rules, laws, c.requires.1.0))
 
 pub pick_spec : {M : Type 1} → statement M
 pick_spec =

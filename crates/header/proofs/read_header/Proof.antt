@@ -6,8 +6,7 @@ use Rattle.header.proofs.read_header.Tie as tie
 
 pick-requires : tie.Need-pick-requires
 pick-requires c κs =
-    let start = c.before.before.before.before.before.before.before.before.before.before.before in
-    (start.requires.0.0, search (rules, laws, start.requires.0.1))
+    (c.requires.0.0, search (rules, laws, c.requires.0.1))
 
 pub read_header_spec : {M : Type 1} → statement M
 read_header_spec =

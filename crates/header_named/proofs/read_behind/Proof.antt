@@ -4,7 +4,7 @@ use borrow.Author.Rules.{rules}
 use Rattle.header_named.proofs.read_behind.Statement.{statement}
 use Rattle.header_named.proofs.read_behind.Tie as tie
 
-write-rows-requires : tie.Need-write-rows-requires
+write-rows-requires : tie.Need-write_rows-requires
 write-rows-requires c κs = (search (rules, laws), (search (rules, laws), search (rules, laws), search (rules, laws)))
 
 pub read_behind_spec : {M : Type 1} → statement M

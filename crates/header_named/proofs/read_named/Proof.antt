@@ -4,7 +4,7 @@ use borrow.Author.Rules.{rules}
 use Rattle.header_named.proofs.read_named.Statement.{statement}
 use Rattle.header_named.proofs.read_named.Tie as tie
 
-read-rows-requires : tie.Need-read-rows-requires
+read-rows-requires : tie.Need-read_rows-requires
 read-rows-requires c κs = (
   (search (rules, laws), search (rules, laws), search (rules, laws)),
   ((search (rules, laws), search (rules, laws), search (rules, laws)), (search (rules, laws), search (rules, laws), search (rules, laws))),

@@ -4,7 +4,7 @@ use borrow.Author.Rules.{rules}
 use Rattle.header_named.proofs.read_rows.Statement.{statement}
 use Rattle.header_named.proofs.read_rows.Tie as tie
 
-read-behind-requires : tie.Need-read-behind-requires
+read-behind-requires : tie.Need-read_behind-requires
 read-behind-requires c κs = (
   (search (rules, laws), search (rules, laws)),
   (
