@@ -20,8 +20,7 @@ fn tell_added(added: Added) -> TapAnswer
 
 // Adds the frames of a payload, which that firmware wrote, to the totals of TO1 (docs/RULES.md): each by the text, at that region and its own rate, the
 // beams a family of their own or not. Answers 0, or refusal 13, 1 to 4 or 10.
-#[unsafe(no_mangle)]
-pub extern "C" fn tap_add_payload(
+pub fn tap_add_payload(
     text: &[u8],
     region: u64,
     firmware: usize,
@@ -36,8 +35,7 @@ pub extern "C" fn tap_add_payload(
 }
 
 // The text of totals into the buffer (TO6). Answers its length, or refusal 12.
-#[unsafe(no_mangle)]
-pub extern "C" fn tap_print_totals(totals: &[u64; TOTALS], buffer: &mut [u8]) -> TapAnswer
+pub fn tap_print_totals(totals: &[u64; TOTALS], buffer: &mut [u8]) -> TapAnswer
     ensures { ToldTotals totals.now buffer.old result buffer.new }
 {
     let written = print_totals(totals, buffer);

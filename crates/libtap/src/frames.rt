@@ -50,16 +50,14 @@ pub struct TapPart {
 }
 
 // The rate of a channel in a PTI region: 0 is 9.6 kbit/s, 1 is 40, 2 is 100, 3 is Long Range.
-#[unsafe(no_mangle)]
-pub extern "C" fn tap_speed_for(channel: usize, region: usize) -> u8
+pub fn tap_speed_for(channel: usize, region: usize) -> u8
     ensures { result ≡ rate_of channel region }
 {
     pti::speed_for(channel, region)
 }
 
 // How often a beam repeats in the middle bytes of a record.
-#[unsafe(no_mangle)]
-pub extern "C" fn tap_beam_count(rate: u8, middle: &[u8]) -> usize
+pub fn tap_beam_count(rate: u8, middle: &[u8]) -> usize
     ensures { result ≡ beams_of rate middle.now }
 {
     pti::beam_count(rate, middle)
@@ -75,8 +73,7 @@ fn tell_count(count: Counted) -> TapAnswer
 }
 
 // How many bodies a payload has, or refusal 4.
-#[unsafe(no_mangle)]
-pub extern "C" fn tap_count_records(payload: &[u8]) -> TapAnswer
+pub fn tap_count_records(payload: &[u8]) -> TapAnswer
     ensures { result ≡ answered (said_of payload.now) }
 {
     let count = pti::count_records(payload);
@@ -84,8 +81,7 @@ pub extern "C" fn tap_count_records(payload: &[u8]) -> TapAnswer
 }
 
 // Where body k of a payload lies, from 0; an empty part where there is none or the payload is too long.
-#[unsafe(no_mangle)]
-pub extern "C" fn tap_record_body(payload: &[u8], k: usize) -> TapPart
+pub fn tap_record_body(payload: &[u8], k: usize) -> TapPart
     ensures { ToldBody payload.now k result }
 {
     let body = find_body(payload, k);
@@ -154,8 +150,7 @@ fn tell_frame(parsed: Parsed) -> TapFrame
 }
 
 // The frame of a single record's body, which that firmware wrote, with beams as a family of their own or not, or refusal 13, 4 or 9.
-#[unsafe(no_mangle)]
-pub extern "C" fn tap_parse_record(body: &[u8], firmware: usize, family: bool) -> TapFrame
+pub fn tap_parse_record(body: &[u8], firmware: usize, family: bool) -> TapFrame
     ensures { result ≡ told_frame (parsed_of firmware (reading_by family) body.now) }
 {
     let parsed = pti::parse_record(body, firmware, reading_by(family));
@@ -173,8 +168,7 @@ fn tell(frames: Frames) -> TapAnswer
 
 // Every frame of a payload, which that firmware wrote, with beams as a family of their own or not, into a table, the thirteen numbers of F17, FP1 and BF2
 // (docs/RULES.md) a row. Answers the rows, or refusal 13, 4 or 8.
-#[unsafe(no_mangle)]
-pub extern "C" fn tap_parse_payload(
+pub fn tap_parse_payload(
     payload: &[u8],
     firmware: usize,
     family: bool,

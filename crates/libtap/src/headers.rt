@@ -55,8 +55,7 @@ fn tell_bits(bits: Bits) -> TapBits
 }
 
 // The number that `width` bits form from the bit `start` on, first bit highest; none for width 0, over 64, or past the end.
-#[unsafe(no_mangle)]
-pub extern "C" fn tap_read_bits(data: &[u8], start: u64, width: u64) -> TapBits
+pub fn tap_read_bits(data: &[u8], start: u64, width: u64) -> TapBits
     ensures { result ≡ told_bits (bits_read «data».now start width) }
 {
     let bits = bits::read_bits(data, start, width);
@@ -64,8 +63,7 @@ pub extern "C" fn tap_read_bits(data: &[u8], start: u64, width: u64) -> TapBits
 }
 
 // Is the MPDU's checksum (speeds 0 and 1) or CRC right?
-#[unsafe(no_mangle)]
-pub extern "C" fn tap_check_crc(mpdu: &[u8], speed: u64) -> bool
+pub fn tap_check_crc(mpdu: &[u8], speed: u64) -> bool
     ensures { result ≡ right mpdu.now speed }
 {
     crc::check_crc(mpdu, speed)
@@ -117,8 +115,7 @@ fn tell_header(decoded: Decoded) -> TapHeader
 }
 
 // The header of an MPDU by a frame text, its rows into the table, the seven numbers of H18 (docs/RULES.md) a row. `region` is an F's code. Refusals 1 to 8.
-#[unsafe(no_mangle)]
-pub extern "C" fn tap_decode_header(
+pub fn tap_decode_header(
     text: &[u8],
     mpdu: &[u8],
     region: u64,
@@ -132,8 +129,7 @@ pub extern "C" fn tap_decode_header(
 }
 
 // Where the command lies in an MPDU whose header ends at byte `payload`: before the checksum. An empty part where there is no room for one.
-#[unsafe(no_mangle)]
-pub extern "C" fn tap_command_part(mpdu: &[u8], payload: u64, speed: u64) -> TapPart
+pub fn tap_command_part(mpdu: &[u8], payload: u64, speed: u64) -> TapPart
     ensures { result ≡ part (span (command_part (length mpdu.now) payload speed)) }
 {
     let found = find_command(mpdu.len(), payload, speed);

@@ -1,5 +1,5 @@
-// The tap's calls as a static library, for C and Rust to link. libtap.h declares them for C. The program `replay` answers by the same calls, so that what is
-// compared with the Rust is what C has.
+// The tap's calls as C has them, for Rattle's crates: each answers in numbers, and in structs of C's layout. The static library libtap_c exports them for C and
+// Rust to link. The program `replay` answers by the same calls, so that what is compared with the Rust is what C has.
 #![tactic(auto)]
 
 pub mod captures;

@@ -18,8 +18,7 @@ fn tell_judgement(judgement: Judgement) -> TapAnswer
 
 // Is this listing our own answer for the MPDU (LS4 of docs/RULES.md)? Answers 0 for yes, else the first of its lines that differs, from 1; or refusal 1 to 7,
 // or 16 with the line that is not of the form.
-#[unsafe(no_mangle)]
-pub extern "C" fn tap_judge_listing(
+pub fn tap_judge_listing(
     text: &[u8],
     mpdu: &[u8],
     region: u64,
@@ -33,8 +32,7 @@ pub extern "C" fn tap_judge_listing(
 }
 
 // Our own answer for the MPDU as a listing, into the buffer. Answers its length; or refusal 1 to 7, or 12.
-#[unsafe(no_mangle)]
-pub extern "C" fn tap_write_listing(
+pub fn tap_write_listing(
     text: &[u8],
     mpdu: &[u8],
     region: u64,

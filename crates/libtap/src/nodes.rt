@@ -19,8 +19,7 @@ fn tell_listed(listed: Listed) -> TapAnswer
 }
 
 // The nodes whose bits are set in a mask, rising, into the table. Answers how many, or refusal 4 or 8.
-#[unsafe(no_mangle)]
-pub extern "C" fn tap_mask_nodes(mask: &[u8], nodes: &mut [u16]) -> TapAnswer
+pub fn tap_mask_nodes(mask: &[u8], nodes: &mut [u16]) -> TapAnswer
     ensures { ToldMask mask.now nodes.old result nodes.new }
 {
     let listed = mask_nodes(mask, nodes);
@@ -29,8 +28,7 @@ pub extern "C" fn tap_mask_nodes(mask: &[u8], nodes: &mut [u16]) -> TapAnswer
 
 // The nodes of a row of the header that `tap_decode_header` answers, if it is a mask (BM2 of docs/RULES.md). Answers how many, or refusal 1 to 7, 11
 // or 8.
-#[unsafe(no_mangle)]
-pub extern "C" fn tap_header_nodes(
+pub fn tap_header_nodes(
     text: &[u8],
     mpdu: &[u8],
     region: u64,
@@ -45,8 +43,7 @@ pub extern "C" fn tap_header_nodes(
 }
 
 // The nodes of a row of those that `tap_decode_params` writes, if it is a mask. Answers how many, or refusal 1 to 5, 11 or 8.
-#[unsafe(no_mangle)]
-pub extern "C" fn tap_command_nodes(
+pub fn tap_command_nodes(
     text: &[u8],
     payload: &[u8],
     position: bool,

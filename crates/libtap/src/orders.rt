@@ -18,8 +18,7 @@ fn tell_harmless(told: Harmless) -> TapAnswer
 }
 
 // Can no MPDU be held by two headers of the frame text (OV5 of docs/RULES.md)? Answers 1 for yes, 0 where it cannot be told, or refusal 1 to 3.
-#[unsafe(no_mangle)]
-pub extern "C" fn tap_is_harmless(text: &[u8]) -> TapAnswer
+pub fn tap_is_harmless(text: &[u8]) -> TapAnswer
     ensures { ToldHarmless text.now result }
 {
     let told = is_harmless(text);
@@ -28,8 +27,7 @@ pub extern "C" fn tap_is_harmless(text: &[u8]) -> TapAnswer
 
 // A frame text with its H blocks sorted by name, into the buffer (O6 of docs/RULES.md). Answers its length, which is that of the text. Refusals 1 to 3,
 // then 12.
-#[unsafe(no_mangle)]
-pub extern "C" fn tap_sort_headers(text: &[u8], buffer: &mut [u8]) -> TapAnswer
+pub fn tap_sort_headers(text: &[u8], buffer: &mut [u8]) -> TapAnswer
     ensures { ToldSorted text.now buffer.old result buffer.new }
 {
     let written = sort_headers(text, buffer);

@@ -21,8 +21,7 @@ fn tell_verdict(verdict: Verdict) -> TapAnswer
 }
 
 // Is this frame text accepted? Answers 0, or refusal 1, 2 or 3 with its line.
-#[unsafe(no_mangle)]
-pub extern "C" fn tap_check_frame_text(text: &[u8]) -> TapAnswer
+pub fn tap_check_frame_text(text: &[u8]) -> TapAnswer
     ensures { result ≡ judged (frameVerdict text.now) }
 {
     let verdict = check_frame_text(text);
@@ -30,8 +29,7 @@ pub extern "C" fn tap_check_frame_text(text: &[u8]) -> TapAnswer
 }
 
 // Is this command text accepted? Answers 0, or refusal 1, 2 or 3 with its line.
-#[unsafe(no_mangle)]
-pub extern "C" fn tap_check_command_text(text: &[u8]) -> TapAnswer
+pub fn tap_check_command_text(text: &[u8]) -> TapAnswer
     ensures { result ≡ judged (commandVerdict text.now) }
 {
     let verdict = check_command_text(text);
@@ -39,8 +37,7 @@ pub extern "C" fn tap_check_command_text(text: &[u8]) -> TapAnswer
 }
 
 // A command text with each U line as an S line, into the buffer. Answers its length, which is that of the text. Refusals 1 to 3, then 12.
-#[unsafe(no_mangle)]
-pub extern "C" fn tap_tidy_command_text(text: &[u8], buffer: &mut [u8]) -> TapAnswer
+pub fn tap_tidy_command_text(text: &[u8], buffer: &mut [u8]) -> TapAnswer
     ensures { ToldTidied text.now buffer.old result buffer.new }
 {
     let written = tidy_command_text(text, buffer);

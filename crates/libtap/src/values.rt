@@ -20,8 +20,7 @@ pub fn tell_written(written: Written) -> TapAnswer
 
 // A row of the header that `tap_decode_header` answers, as people read it, into the buffer (VT1 of docs/RULES.md). Answers its length, or refusal 1 to 7,
 // 11 or 12.
-#[unsafe(no_mangle)]
-pub extern "C" fn tap_header_value(
+pub fn tap_header_value(
     text: &[u8],
     mpdu: &[u8],
     region: u64,
@@ -36,8 +35,7 @@ pub extern "C" fn tap_header_value(
 }
 
 // A row of those that `tap_decode_params` writes, as people read it, into the buffer (VT2). Answers its length, or refusal 1 to 5, 11 or 12.
-#[unsafe(no_mangle)]
-pub extern "C" fn tap_command_value(
+pub fn tap_command_value(
     text: &[u8],
     payload: &[u8],
     position: bool,
