@@ -1,4 +1,4 @@
-//! Links the static libraries that `rt staticlib` leaves of `libtap`, `bench_walks`,
+//! Links the static libraries that `bin/build` leaves of `libtap_c` (`liblibtap.a`), `bench_walks`,
 //! `bench_commands` and `bench_values`, and the C loop `src/floor.c`.
 
 use std::env::var;

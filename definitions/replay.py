@@ -1,7 +1,7 @@
 """Asks the replay program (docs/REPLAY.md): requests in, answers out.
 
 REPLAY: another program that answers such requests. RUNNER: words to put before the program, as an emulator's; by default
-none on x86-64, elsewhere the kit's emulator, as rt itself runs programs."""
+none on x86-64, elsewhere qemu-x86_64 with the kit's C library."""
 
 import os
 import platform
@@ -11,17 +11,17 @@ import sys
 from pathlib import Path
 
 ROOT = Path(__file__).resolve().parent.parent
-PROGRAM = Path(os.environ.get("REPLAY", ROOT / "target/bin/replay"))
+PROGRAM = Path(os.environ.get("REPLAY", ROOT / "crates/replay/out/replay"))
 
 
 def command():
     if not os.access(PROGRAM, os.X_OK):
-        sys.exit(f"no program {PROGRAM}: run 'rt check replay' first")
+        sys.exit(f"no program {PROGRAM}: run 'bin/build replay' first")
     if "RUNNER" in os.environ or platform.machine() == "x86_64":
         return [*os.environ.get("RUNNER", "").split(), PROGRAM]
     kit = os.environ.get("RATTLE_HOME") or Path(os.path.realpath(shutil.which("rt"))).parent.parent
-    tools = Path(kit) / "on" / platform.machine() / "toolchain"
-    return [tools / "bin/qemu-x86_64", tools / "lib/ld-linux-x86-64.so.2", "--library-path", tools / "lib", PROGRAM]
+    libraries = Path(kit) / "toolchain/lib"
+    return ["qemu-x86_64", libraries / "ld-linux-x86-64.so.2", "--library-path", libraries, PROGRAM]
 
 
 def ask(requests):

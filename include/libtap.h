@@ -1,4 +1,4 @@
-/* libtap: the tap's calls for C. Build the library with `rt staticlib libtap`.
+/* libtap: the tap's calls for C. Build the library with `bin/build libtap_c`.
  *
  * Every call takes every input, ends, keeps to the memory that it is lent, and allocates nothing. A slice passes as its pointer and
  * its length: of bytes in bytes, of a table in numbers. A refusal writes to no table; an answer writes nothing behind its rows.
