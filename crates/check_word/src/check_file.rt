@@ -1,9 +1,11 @@
 // The word `check`: is a definition text accepted, and if not, what is wrong with it?
 use crate::check_page::{Kind, check_command, check_frame, kind_of};
 use check::same;
-use files::input::{File, Got, open_argument};
-use libc::STDERR_FILENO;
+use files::arguments::{argument, argument_count};
+use files::input::{File, Got, Reader, open_argument};
 use output::outcome::{fail, fail_file};
+use std::rt::{Env, Files};
+use writer::STDERR_FILENO;
 
 // A text that can't be told.
 fn fail_kind(name: &[u8]) {
@@ -31,11 +33,11 @@ fn said_or_shown(said: Kind, text: &[u8]) -> Kind {
     }
 }
 
-// The text behind a descriptor. One too long for the block is too long for a text too.
-fn check_file(name: &[u8], fd: i32, said: Kind) {
+// The text of a file. One too long for the block is too long for a text too.
+fn check_file<R: Files + Input>(name: &[u8], reader: &mut Reader<R>, said: Kind) {
     let mut block = io::large_buffer();
-    let Got::Bytes(n) = files::input::read_file(fd, &mut block) else {
-        fail_file(name);
+    let Got::Bytes(n) = files::input::read_file(reader, &mut block) else {
+        fail_file(name, reader.error());
         return;
     };
     let kind = said_or_shown(said, &block[..n]);
@@ -43,25 +45,24 @@ fn check_file(name: &[u8], fd: i32, said: Kind) {
 }
 
 // The text that argument k names.
-fn check_argument(k: usize, said: Kind) {
+fn check_argument(rt: &(impl Env + Files + Input), k: usize, said: Kind) {
     let mut name = io::buffer();
-    let File::Open(fd, n) = open_argument(k, &mut name) else {
+    let File::Open(mut reader, n) = open_argument(rt, k, &mut name) else {
         return;
     };
-    check_file(&name[..n], fd, said);
-    libc::close(fd);
+    check_file(&name[..n], &mut reader, said);
 }
 
 // `tap check --frame FILE`, `tap check --command FILE`.
-fn check_said() {
+fn check_said(rt: &(impl Env + Files + Input)) {
     let mut option = io::buffer();
-    let n = os::arg(2, &mut option);
+    let n = argument(rt, 2, &mut option);
     if same(&option[..n], b"--frame") {
-        check_argument(3, Kind::Frame);
+        check_argument(rt, 3, Kind::Frame);
         return;
     }
     if same(&option[..n], b"--command") {
-        check_argument(3, Kind::Command);
+        check_argument(rt, 3, Kind::Command);
         return;
     }
     fail_usage();
@@ -74,10 +75,10 @@ fn fail_usage() {
 }
 
 // `tap check FILE`.
-pub fn check_definition() {
-    match os::arg_count() {
-        3 => check_argument(2, Kind::Unknown),
-        4 => check_said(),
+pub fn check_definition(rt: &(impl Env + Files + Input)) {
+    match argument_count(rt) {
+        3 => check_argument(rt, 2, Kind::Unknown),
+        4 => check_said(rt),
         _ => fail_usage(),
     }
 }

@@ -7,13 +7,14 @@ use crate::lines_page::{put_lines, put_sums};
 use crate::missing_page::put_missing;
 use crate::tried::{count_capture, find_sets};
 use coverage::{COUNTS, NO_SET, PARAMS};
+use files::arguments::{argument, argument_count};
 use files::capture::Opened;
 use files::day::{Day, end};
-use files::input::{File, Got, open_argument};
+use files::input::{File, Got, Reader, open_argument, open_name};
 use files::options::{Asked, Options, next_file};
 use frame_text::check_frame_text;
-use libc::STDERR_FILENO;
-use output::outcome::{fail, fail_file, refuse_text};
+use output::outcome::{fail, fail_file, refuse_text, tell_unreadable};
+use std::rt::{Env, Files};
 use text::Verdict;
 
 const USAGE: [u8; 57] = *b"tap: coverage takes a frame text and one capture or more\n";
@@ -30,11 +31,11 @@ fn show_page(text: &[u8], options: Options, counts: &[u64; COUNTS]) {
     writer::flush(&out, at);
 }
 
-// The capture behind a descriptor.
-fn count_opened(
+// A capture that was opened.
+fn count_opened<R: Files + Input>(
     text: &[u8],
     options: Options,
-    fd: i32,
+    reader: &mut Reader<R>,
     sets: &[u8; PARAMS],
     counts: &mut [u64; COUNTS],
     day: Day,
@@ -42,7 +43,7 @@ fn count_opened(
     requires { verdict text.now ≡ Accepted }
 {
     let mut block = io::buffer();
-    let Opened::At(source) = files::capture::open(fd, &mut block) else {
+    let Opened::At(source) = files::capture::open(reader, &mut block) else {
         return day.failed();
     };
     let mut payload = io::large_buffer();
@@ -50,6 +51,7 @@ fn count_opened(
         text,
         options,
         source,
+        reader,
         &mut block,
         &mut payload,
         sets,
@@ -60,6 +62,7 @@ fn count_opened(
 
 // The capture that argument k names.
 fn count_file(
+    rt: &(impl Env + Files + Input),
     text: &[u8],
     options: Options,
     k: usize,
@@ -70,20 +73,19 @@ fn count_file(
     requires { verdict text.now ≡ Accepted }
 {
     let mut name = io::buffer();
-    let n = os::arg(k, &mut name);
-    let fd = files::input::open_name(&name[..n]);
-    if fd < 0 {
-        io::write_all(STDERR_FILENO, b"tap: cannot read ");
-        os::fail(&name[..n]);
-        return day.failed();
+    let n = argument(rt, k, &mut name);
+    match open_name(rt, &name[..n]) {
+        Ok(mut reader) => count_opened(text, options, &mut reader, sets, counts, day),
+        Err(error) => {
+            tell_unreadable(&name[..n], error);
+            day.failed()
+        }
     }
-    let next = count_opened(text, options, fd, sets, counts, day);
-    libc::close(fd);
-    next
 }
 
 // The captures: the arguments behind the text that are no options.
 fn count_files(
+    rt: &(impl Env + Files + Input),
     text: &[u8],
     options: Options,
     sets: &[u8; PARAMS],
@@ -91,13 +93,13 @@ fn count_files(
 ) -> Day
     requires { verdict text.now ≡ Accepted }
 {
-    let end = os::arg_count();
+    let end = argument_count(rt);
     let mut day = Day::new();
     let mut k: usize = 2;
     while k < end {
         if k != options.file {
-            if next_file(k) == k {
-                day = count_file(text, options, k, sets, counts, day);
+            if next_file(rt, k) == k {
+                day = count_file(rt, text, options, k, sets, counts, day);
             }
         }
         k += 1;
@@ -105,37 +107,43 @@ fn count_files(
     day
 }
 
-fn cover(text: &[u8], options: Options)
+fn cover(rt: &(impl Env + Files + Input), text: &[u8], options: Options)
     requires { verdict text.now ≡ Accepted }
 {
     let mut sets = [NO_SET; PARAMS];
     find_sets(text, &mut sets);
     let mut counts = [0u64; COUNTS];
-    let day = count_files(text, options, &sets, &mut counts);
+    let day = count_files(rt, text, options, &sets, &mut counts);
     show_page(text, options, &counts);
     end(day);
 }
 
-fn judge(name: &[u8], text: &[u8], options: Options) {
+fn judge(rt: &(impl Env + Files + Input), name: &[u8], text: &[u8], options: Options) {
     match check_frame_text(text) {
-        Verdict::Accepted => cover(text, options),
+        Verdict::Accepted => cover(rt, text, options),
         Verdict::Refused(refusal) => refuse_text(name, b"frame", refusal),
     }
 }
 
-// The text behind a descriptor. One too long for the block is too long for a text too.
-fn cover_file(name: &[u8], fd: i32, options: Options) {
+// The text of a file. One too long for the block is too long for a text too.
+fn cover_file<R: Env + Files + Input>(
+    rt: &R,
+    name: &[u8],
+    reader: &mut Reader<R>,
+    options: Options,
+) {
     let mut block = io::large_buffer();
-    let Got::Bytes(n) = files::input::read_file(fd, &mut block) else {
-        fail_file(name);
+    let Got::Bytes(n) = files::input::read_file(reader, &mut block) else {
+        fail_file(name, reader.error());
         return;
     };
-    judge(name, &block[..n], options);
+    judge(rt, name, &block[..n], options);
 }
 
 // `tap coverage FILE CAPTURE ..`.
-pub fn show_coverage() {
+pub fn show_coverage(rt: &(impl Env + Files + Input)) {
     let Asked::Options(options) = files::options::read_some(
+        rt,
         b"--missing\t--region\t--progress\t--firmware\t--beams",
         &USAGE,
     ) else {
@@ -146,9 +154,8 @@ pub fn show_coverage() {
         return;
     }
     let mut name = io::buffer();
-    let File::Open(fd, n) = open_argument(options.file, &mut name) else {
+    let File::Open(mut reader, n) = open_argument(rt, options.file, &mut name) else {
         return;
     };
-    cover_file(&name[..n], fd, options);
-    libc::close(fd);
+    cover_file(rt, &name[..n], &mut reader, options);
 }

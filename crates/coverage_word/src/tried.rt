@@ -10,6 +10,7 @@ ghost use Rattle.coverage_word.specs.Sets.{set_of, sets_of};
 use coverage::{COUNTS, NO_SET, PARAMS, count_header};
 use files::capture::{Item, Source, next_item};
 use files::day::{Day, pass_line, refuse_payload, tell_progress};
+use files::input::Reader;
 use files::options::Options;
 use frame::{Parsed, PtiFrame, parse_record, reading_by};
 use pti::payload::beams_number;
@@ -19,6 +20,7 @@ use readers::lines::{line, next_line};
 use readers::region::frame_code;
 use records::{Next, next_body};
 use refusal::{MOST_PAYLOAD, Refusal};
+use std::rt::Files;
 use text::is_same;
 
 // The number of the first D line of a name.
@@ -165,10 +167,11 @@ fn take_item(
 }
 
 // All payloads that a source gives, by an accepted frame text.
-pub fn count_capture(
+pub fn count_capture<R: Files + Input>(
     text: &[u8],
     options: Options,
     start: Source,
+    reader: &mut Reader<R>,
     block: &mut [u8; 4096],
     payload: &mut [u8; 65536],
     sets: &[u8; PARAMS],
@@ -181,7 +184,7 @@ pub fn count_capture(
     let mut source = start;
     let mut day = before;
     while 0 < source.left {
-        let next = next_item(source, block, payload);
+        let next = next_item(source, reader, block, payload);
         source = next.source;
         let item = next.item;
         day = take_item(text, options, item, payload, sets, counts, day);

@@ -7,8 +7,8 @@ use Rattle.files.specs.declared.input.Got.{Got}
 use Rattle.files.specs.declared.input.Got.TheVariants.{Bytes, Unreadable}
 
 -- what opening answers: the name stands in the lent slice
-abbrev pub Opens : List ℕ → File → Type 0
-Opens name (Open fd n) = IsPrefixLen n name
+abbrev pub Opens : {R : Type 0} → List ℕ → File R → Type 0
+Opens name (Open reader n) = IsPrefixLen n name
 Opens name Failed = Unit {0}
 
 -- what a read answers behind the first n bytes of a slice: it stays inside

@@ -5,7 +5,9 @@ ghost use Rattle.std.specs.Prelude.{◌≡◌, ◌<◌, ◌≤◌, length};
 ghost use Rattle.files.specs.Capture.{Inside, Falls, Opens, Reads};
 
 use crate::capture_line::{Content, Line, take_character};
+use crate::input::{Got, Reader};
 use std::num::wrapping_add_u64;
+use std::rt::Files;
 
 // The byte with which a record starts.
 const PREAMBLE: u8 = 0x5B;
@@ -13,7 +15,6 @@ const PREAMBLE: u8 = 0x5B;
 // Where the reading of a capture stands. What was read of it stands in a block that the caller lends.
 #[derive(Clone, Copy)]
 pub struct Source {
-    pub fd: i32,
     pub is_raw: bool,
     // How many bytes of the block are filled, and the place of the next.
     pub filled: usize,
@@ -51,7 +52,7 @@ pub enum Item {
     NotHex(u64, u64),
     // The same before any payload: this is no capture.
     NoCapture(u64, u64),
-    // The system doesn't read on, and `os::errno` says why.
+    // The system doesn't read on, and the reader's `error` says why.
     Unreadable,
 }
 
@@ -118,17 +119,14 @@ fn starts_raw(block: &[u8], filled: usize) -> bool
 }
 
 // A capture from its first byte on.
-pub fn open(fd: i32, block: &mut [u8]) -> Opened
+pub fn open<R: Files + Input>(reader: &mut Reader<R>, block: &mut [u8]) -> Opened
     ensures { Opens block.new result }
 {
-    let got = libc::read(fd, block);
-    if got < 0 {
+    let Got::Bytes(filled) = reader.read(block) else {
         return Opened::Unreadable;
-    }
-    let filled = io::count(got, block);
+    };
     let is_raw = starts_raw(block, filled);
     Opened::At(Source {
-        fd,
         is_raw,
         filled,
         next: 0,
@@ -139,7 +137,11 @@ pub fn open(fd: i32, block: &mut [u8]) -> Opened
 }
 
 // The next byte, from the block, or from the file once the block is used up.
-fn next_byte(source: Source, block: &mut [u8]) -> Read
+fn next_byte<R: Files + Input>(
+    source: Source,
+    reader: &mut Reader<R>,
+    block: &mut [u8],
+) -> Read
     requires { Inside block.old source }
     ensures { Reads block.new source result }
 {
@@ -150,11 +152,9 @@ fn next_byte(source: Source, block: &mut [u8]) -> Read
     if next < source.filled {
         return Read::Byte(block[next], source.past_byte());
     }
-    let got = libc::read(source.fd, block);
-    if got < 0 {
+    let Got::Bytes(n) = reader.read(block) else {
         return Read::Unreadable;
-    }
-    let n = io::count(got, block);
+    };
     if n == 0 {
         return Read::End;
     }
@@ -204,14 +204,19 @@ fn end_line(line: Line, source: Source) -> Next
 }
 
 // What stands next in a capture. A payload goes into the lent slice.
-pub fn next_item(start: Source, block: &mut [u8], payload: &mut [u8]) -> Next
+pub fn next_item<R: Files + Input>(
+    start: Source,
+    reader: &mut Reader<R>,
+    block: &mut [u8],
+    payload: &mut [u8],
+) -> Next
     requires { Inside block.old start × (0 < start.left) }
     ensures { Falls block.new start result.source }
 {
     let mut source = start;
     let mut line = Line::new(start.is_raw);
     loop {
-        match next_byte(source, block) {
+        match next_byte(source, reader, block) {
             Read::Byte(byte, next) => {
                 source = next;
                 if line.ends(byte) {

@@ -1,9 +1,9 @@
 // Captures whose payloads are counted one after the other: how far it is, what is said of what is not counted, and the last line.
 use crate::options::Options;
-use libc::STDERR_FILENO;
 use output::outcome::{fail, refuse, succeed};
 use refusal::Refusal;
 use std::num::wrapping_add_u64;
+use writer::STDERR_FILENO;
 
 // How the reading of captures ended.
 #[derive(Clone, Copy)]

@@ -5,10 +5,10 @@ ghost use Rattle.files.specs.Accepted.{judged, Finds, Accepts};
 
 use crate::folder::{Loaded, load};
 use frame_text::check_frame_text;
-use libc::STDERR_FILENO;
 use refusal::Refusal;
+use std::rt::{Env, Files};
 use text::Verdict;
-use writer::print_number;
+use writer::{STDERR_FILENO, print_number};
 
 // How it was found.
 #[derive(Clone, Copy)]
@@ -58,10 +58,10 @@ fn judge(text: &[u8], n: usize) -> FrameText
 }
 
 // The frame text of the folder that an argument names, in the lent slice.
-pub fn load_frames(folder: usize, text: &mut [u8]) -> FrameText
+pub fn load_frames(rt: &(impl Env + Files), folder: usize, text: &mut [u8]) -> FrameText
     ensures { Accepts text.new result.count × Finds text.new result }
 {
-    let Loaded::Bytes(n) = load(folder, b"frames.txt", text) else {
+    let Loaded::Bytes(n) = load(rt, folder, b"frames.txt", text) else {
         return FrameText {
             count: 0,
             state: State::Missing,

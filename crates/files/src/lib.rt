@@ -2,6 +2,7 @@
 #![tactic(auto)]
 
 pub mod append;
+pub mod arguments;
 pub mod capture;
 pub mod capture_line;
 pub mod day;

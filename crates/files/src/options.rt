@@ -1,12 +1,14 @@
 // The options of a word of the command, and the arguments that are none.
+use crate::arguments::{argument, argument_count};
 use frame::region_bits;
-use libc::STDERR_FILENO;
 use output::outcome::fail;
 use output::refusals::refuse_capture;
 use readers::line_fields::{count_pieces, find_field};
 use readers::numeral::{Numeral, read_numeral};
 use refusal::Refusal;
 use std::num::wrapping_add_usize;
+use std::rt::Env;
+use writer::STDERR_FILENO;
 
 // What the arguments behind the word say. An argument is told by its number.
 #[derive(Clone, Copy)]
@@ -256,53 +258,53 @@ fn take_bytes(options: Options, k: usize, bytes: &[u8]) -> Options {
     options.with_other(k)
 }
 
-fn take_argument(options: Options, k: usize) -> Options {
+fn take_argument(rt: &impl Env, options: Options, k: usize) -> Options {
     let mut bytes = io::buffer();
-    let n = os::arg(k, &mut bytes);
+    let n = argument(rt, k, &mut bytes);
     take_bytes(options, k, &bytes[..n])
 }
 
 // Is argument k an option that is none of those that a word takes?
-fn is_foreign(k: usize, takes: &[u8]) -> bool {
+fn is_foreign(rt: &impl Env, k: usize, takes: &[u8]) -> bool {
     let mut bytes = io::buffer();
-    let n = os::arg(k, &mut bytes);
+    let n = argument(rt, k, &mut bytes);
     is_option(&bytes[..n]) && find_field(takes, &bytes[..n]) == count_pieces(takes, 9)
 }
 
 // One more argument of a word that takes these options.
-fn take_one(options: Options, k: usize, takes: &[u8]) -> Options {
+fn take_one(rt: &impl Env, options: Options, k: usize, takes: &[u8]) -> Options {
     if options.open == 0 {
-        if is_foreign(k, takes) {
+        if is_foreign(rt, k, takes) {
             return options.with_wrong(k);
         }
     }
-    take_argument(options, k)
+    take_argument(rt, options, k)
 }
 
-fn take_all(takes: &[u8]) -> Options {
-    let end = os::arg_count();
+fn take_all(rt: &impl Env, takes: &[u8]) -> Options {
+    let end = argument_count(rt);
     let mut options = Options::new();
     let mut k: usize = 2;
     while k < end {
-        options = take_one(options, k, takes);
+        options = take_one(rt, options, k, takes);
         k += 1;
     }
     options
 }
 
-fn say_argument(k: usize) {
+fn say_argument(rt: &impl Env, k: usize) {
     let mut bytes = io::buffer();
-    let n = os::arg(k, &mut bytes);
+    let n = argument(rt, k, &mut bytes);
     io::write_all(STDERR_FILENO, &bytes[..n]);
 }
 
-fn fail_option(k: usize) {
+fn fail_option(rt: &impl Env, k: usize) {
     io::write_all(STDERR_FILENO, b"tap: ");
-    say_argument(1);
+    say_argument(rt, 1);
     io::write_all(STDERR_FILENO, b" takes no ");
-    say_argument(k);
+    say_argument(rt, k);
     io::write_all(STDERR_FILENO, b": 'tap help ");
-    say_argument(1);
+    say_argument(rt, 1);
     fail(b"' says what it takes\n");
 }
 
@@ -329,9 +331,9 @@ fn fail_argument(options: Options) -> bool {
 }
 
 // The options, if they can be taken; where the number of arguments does not fit the word its `usage` is said.
-fn judged(options: Options, fits: bool, usage: &[u8]) -> Asked {
+fn judged(rt: &impl Env, options: Options, fits: bool, usage: &[u8]) -> Asked {
     if options.wrong != 0 {
-        fail_option(options.wrong);
+        fail_option(rt, options.wrong);
         return Asked::Failed;
     }
     if fail_argument(options) {
@@ -349,25 +351,25 @@ fn judged(options: Options, fits: bool, usage: &[u8]) -> Asked {
 }
 
 // The options of a word that takes so many arguments, and the options in `takes`, parted by tabs.
-pub fn read(count: usize, takes: &[u8], usage: &[u8]) -> Asked {
-    let options = take_all(takes);
-    judged(options, options.count == count, usage)
+pub fn read(rt: &impl Env, count: usize, takes: &[u8], usage: &[u8]) -> Asked {
+    let options = take_all(rt, takes);
+    judged(rt, options, options.count == count, usage)
 }
 
 // The same of a word that takes one argument or more.
-pub fn read_some(takes: &[u8], usage: &[u8]) -> Asked {
-    let options = take_all(takes);
-    judged(options, options.count != 0, usage)
+pub fn read_some(rt: &impl Env, takes: &[u8], usage: &[u8]) -> Asked {
+    let options = take_all(rt, takes);
+    judged(rt, options, options.count != 0, usage)
 }
 
 // The first argument from k on that is no option and belongs to none; the number of arguments where there is none.
-pub fn next_file(from: usize) -> usize {
-    let end = os::arg_count();
+pub fn next_file(rt: &impl Env, from: usize) -> usize {
+    let end = argument_count(rt);
     let mut options = Options::new();
     let mut k: usize = 2;
     while k < end {
         let before = options.count;
-        options = take_argument(options, k);
+        options = take_argument(rt, options, k);
         if options.count != before {
             if from <= k {
                 return k;

@@ -10,6 +10,7 @@ use readers::cells::part;
 use readers::line_fields::field_of;
 use screen::FrameRecord;
 use std::num::wrapping_sub_u64;
+use std::rt::{Env, Files};
 use writer::{Buffer, put, put_marked, put_right};
 
 // The names of the columns, with those of record and place or without.
@@ -62,6 +63,7 @@ fn put_signal(out: &mut Buffer, at: usize, frame: FrameRecord) -> usize {
 
 // What was heard, by an accepted frame text and the index of commands.
 fn put_heard(
+    rt: &(impl Env + Files),
     out: &mut Buffer,
     at: usize,
     frame: FrameRecord,
@@ -80,7 +82,7 @@ fn put_heard(
         region: frame.region as u64,
         speed: frame.rate as u64,
     };
-    put_mpdu(out, at, text, index, mpdu, radio, look)
+    put_mpdu(rt, out, at, text, index, mpdu, radio, look)
 }
 
 // The number of a frame, in front of its line, and where its record stands, or not.
@@ -101,6 +103,7 @@ pub fn put_number(
 
 // The line of a frame behind its number, from its record and the payload that it stands in.
 pub fn put_row(
+    rt: &(impl Env + Files),
     out: &mut Buffer,
     at: usize,
     frame: FrameRecord,
@@ -112,6 +115,6 @@ pub fn put_row(
     requires { verdict text.now ≡ Accepted }
 {
     let mut place = put_signal(out, at, frame);
-    place = put_heard(out, place, frame, payload, text, index, look);
+    place = put_heard(rt, out, place, frame, payload, text, index, look);
     put(out, place, b"\n")
 }

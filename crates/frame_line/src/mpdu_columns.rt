@@ -16,6 +16,7 @@ use output::refusals::put_short;
 use readers::cells::{cell, part};
 use readers::region::frame_code;
 use refusal::Refusal;
+use std::rt::{Env, Files};
 use writer::{Buffer, put, put_hex, put_marked, put_spaces};
 
 // How many bytes the column of names has.
@@ -87,20 +88,27 @@ fn lacks(text: &[u8], payload: &[u8], by_position: bool) -> bool {
 }
 
 // The same by its line in the catalog.
-fn lacks_by(line: &[u8], payload: &[u8], look: Look) -> bool {
+fn lacks_by(rt: &(impl Env + Files), line: &[u8], payload: &[u8], look: Look) -> bool {
     let mut text = io::large_buffer();
-    let Loaded::Bytes(n) = find_command(look.folder, readers::catalog::file(line), &mut text) else {
+    let Loaded::Bytes(n) = find_command(rt, look.folder, readers::catalog::file(line), &mut text) else {
         return false;
     };
     lacks(&text[..n], payload, look.by_position)
 }
 
 // Marks a command with a field that is cut.
-fn put_cut(out: &mut Buffer, at: usize, line: &[u8], payload: &[u8], look: Look) -> usize {
+fn put_cut(
+    rt: &(impl Env + Files),
+    out: &mut Buffer,
+    at: usize,
+    line: &[u8],
+    payload: &[u8],
+    look: Look,
+) -> usize {
     if line.len() == 0 {
         return at;
     }
-    if lacks_by(line, payload, look) {
+    if lacks_by(rt, line, payload, look) {
         return put_painted(out, at, b"  (cut)", 7, Hue::Wrong, look.colour);
     }
     at
@@ -113,6 +121,7 @@ fn gap(right: bool) -> usize {
 
 // The name of the command in these bytes, if there is one, and whether a field of it is cut.
 fn put_command(
+    rt: &(impl Env + Files),
     out: &mut Buffer,
     at: usize,
     index: &[u8],
@@ -129,7 +138,7 @@ fn put_command(
     }
     let line = readers::catalog::find_command(index, bytes[0], bytes[1]);
     place = put_command_name(out, place, line, &bytes[..2], look.colour);
-    put_cut(out, place, line, bytes, look)
+    put_cut(rt, out, place, line, bytes, look)
 }
 
 // Length and checksum.
@@ -189,6 +198,7 @@ fn put_unnamed(
 
 // What the table says of an MPDU.
 pub fn put_mpdu(
+    rt: &(impl Env + Files),
     out: &mut Buffer,
     at: usize,
     text: &[u8],
@@ -205,7 +215,7 @@ pub fn put_mpdu(
         Decoded::Header(header) => {
             let place = put_header(out, at, text, mpdu, header, &rows, look.colour);
             let bytes = command_part(mpdu, header.payload, speed);
-            put_command(out, place, index, bytes, header.right, look)
+            put_command(rt, out, place, index, bytes, header.right, look)
         }
         Decoded::Refused(refusal) => put_unnamed(out, at, mpdu, speed, refusal, look.colour),
     }

@@ -6,8 +6,9 @@ ghost use Rattle.files.specs.Capture.{Inside};
 ghost use Rattle.frame_search.specs.Search.{Holds};
 
 use files::append::append;
+use files::arguments::argument;
 use files::capture::{Item, Opened, Source, next_item};
-use libc::STDERR_FILENO;
+use files::input::Reader;
 use output::outcome::fail;
 use pti::payload::{Frames, ROW_WIDTH};
 use pti::{parse_payload, reading_by};
@@ -15,6 +16,8 @@ use readers::cells::part;
 use readers::numeral::{Numeral, read_numeral};
 use screen::{FrameRecord, record_at};
 use std::num::wrapping_add_u64;
+use std::rt::{Env, Files};
+use writer::STDERR_FILENO;
 
 // The table of a payload's frames: 3,000 rows, more than a payload has frames.
 type Table = [u16; 3000 * ROW_WIDTH];
@@ -108,8 +111,9 @@ fn search_item(
 }
 
 // The same of all that a source gives.
-fn find_frame(
+fn find_frame<R: Files + Input>(
     start: Source,
+    reader: &mut Reader<R>,
     sought: Aim,
     block: &mut [u8; 4096],
     payload: &mut [u8; 65536],
@@ -122,7 +126,7 @@ fn find_frame(
     let mut source = start;
     let mut aim = sought;
     while 0 < source.left {
-        let next = next_item(source, block, payload);
+        let next = next_item(source, reader, block, payload);
         source = next.source;
         let item = next.item;
         let found = search_item(item, payload, aim, table, mpdu);
@@ -134,17 +138,29 @@ fn find_frame(
     Search::Left(aim)
 }
 
-// The frame that is sought in the capture behind a descriptor.
-pub fn search_capture(fd: i32, aim: Aim, mpdu: &mut [u8; 4096]) -> Search
+// The frame that is sought in a capture.
+pub fn search_capture<R: Files + Input>(
+    reader: &mut Reader<R>,
+    aim: Aim,
+    mpdu: &mut [u8; 4096],
+) -> Search
     ensures { Holds mpdu.new result }
 {
     let mut block = io::buffer();
-    let Opened::At(source) = files::capture::open(fd, &mut block) else {
+    let Opened::At(source) = files::capture::open(reader, &mut block) else {
         return Search::Unreadable;
     };
     let mut payload = io::large_buffer();
     let mut table: Table = [0u16; 3000 * ROW_WIDTH];
-    find_frame(source, aim, &mut block, &mut payload, &mut table, mpdu)
+    find_frame(
+        source,
+        reader,
+        aim,
+        &mut block,
+        &mut payload,
+        &mut table,
+        mpdu,
+    )
 }
 
 // A capture with fewer frames.
@@ -163,8 +179,8 @@ pub fn fail_number(name: &[u8], number: u64, frames: u64) {
 }
 
 // The number that argument k says, from 1.
-pub fn read_number(k: usize) -> Numeral {
+pub fn read_number(rt: &impl Env, k: usize) -> Numeral {
     let mut bytes = io::buffer();
-    let n = os::arg(k, &mut bytes);
+    let n = argument(rt, k, &mut bytes);
     read_numeral(&bytes[..n])
 }

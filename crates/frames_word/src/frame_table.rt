@@ -7,11 +7,13 @@ ghost use Rattle.files.specs.Capture.{Inside};
 
 use crate::sheet::{Sheet, Verdict, put_empty, put_passed, put_refused, tell_progress};
 use files::capture::{Item, Next, Source, next_item};
+use files::input::Reader;
 use frame_line::frame_row::{put_header, put_number, put_row};
 use pti::payload::{Frames, ROW_WIDTH};
 use pti::{parse_payload, reading_by};
 use refusal::Refusal;
 use screen::{FrameRecord, record_at};
+use std::rt::{Env, Files};
 use writer::{Buffer, flush};
 
 // The table of a payload's frames: 3,000 rows. A record with a frame has at least 22 bytes, so a payload has no more than 2,978 frames.
@@ -19,6 +21,7 @@ pub type Table = [u16; 3000 * ROW_WIDTH];
 
 // The line of a frame.
 fn put_frame(
+    rt: &(impl Env + Files),
     text: &[u8],
     index: &[u8],
     payload: &[u8],
@@ -30,13 +33,14 @@ fn put_frame(
 {
     let next = sheet.with_frame(frame.is_beam);
     let from = put_number(out, next.at, next.frames, frame, next.records);
-    let at = put_row(out, from, frame, payload, text, index, next.look());
+    let at = put_row(rt, out, from, frame, payload, text, index, next.look());
     tell_progress(next);
     next.gathered(at)
 }
 
 // The lines of the first n rows of a table.
 fn put_frames(
+    rt: &(impl Env + Files),
     text: &[u8],
     index: &[u8],
     payload: &[u8],
@@ -51,7 +55,7 @@ fn put_frames(
     let mut shown = sheet;
     let mut i: usize = 0;
     while i < n {
-        shown = put_frame(text, index, payload, record_at(table, i), out, shown);
+        shown = put_frame(rt, text, index, payload, record_at(table, i), out, shown);
         i += 1;
     }
     shown
@@ -59,6 +63,7 @@ fn put_frames(
 
 // A payload's frames, or why it is refused.
 fn put_payload(
+    rt: &(impl Env + Files),
     text: &[u8],
     index: &[u8],
     payload: &[u8],
@@ -73,7 +78,7 @@ fn put_payload(
             if n == 0 {
                 return put_empty(out, sheet);
             }
-            put_frames(text, index, payload, table, n, out, sheet)
+            put_frames(rt, text, index, payload, table, n, out, sheet)
         }
         Frames::Refused(refusal) => put_refused(refusal, out, sheet),
     }
@@ -90,6 +95,7 @@ fn begin_payload(out: &mut Buffer, sheet: Sheet) -> Sheet {
 
 // A payload of so many bytes: those that the slice has no room for are too many.
 fn take_payload(
+    rt: &(impl Env + Files),
     text: &[u8],
     index: &[u8],
     count: usize,
@@ -104,10 +110,11 @@ fn take_payload(
     if payload.len() < count {
         return put_refused(Refusal::TooLong(count), out, next);
     }
-    put_payload(text, index, &payload[..count], table, out, next)
+    put_payload(rt, text, index, &payload[..count], table, out, next)
 }
 
 fn take_item(
+    rt: &(impl Env + Files),
     text: &[u8],
     index: &[u8],
     item: Item,
@@ -119,7 +126,7 @@ fn take_item(
     requires { verdict text.now ≡ Accepted }
 {
     match item {
-        Item::Payload(count) => take_payload(text, index, count, payload, table, out, sheet),
+        Item::Payload(count) => take_payload(rt, text, index, count, payload, table, out, sheet),
         Item::Nothing => sheet,
         Item::NotHex(line, column) => put_passed(line, column, out, sheet),
         Item::NoCapture(line, column) => sheet.judged(Verdict::NoCapture(line, column)),
@@ -137,6 +144,7 @@ fn show_now(source: Source, out: &Buffer, sheet: Sheet) -> Sheet {
 }
 
 fn take_next(
+    rt: &(impl Env + Files),
     text: &[u8],
     index: &[u8],
     next: Next,
@@ -148,15 +156,17 @@ fn take_next(
     requires { verdict text.now ≡ Accepted }
 {
     let item = next.item;
-    let shown = take_item(text, index, item, payload, table, out, sheet);
+    let shown = take_item(rt, text, index, item, payload, table, out, sheet);
     show_now(next.source, out, shown)
 }
 
 // The frames of all that a source gives, by an accepted frame text and the index of commands.
-pub fn put_capture(
+pub fn put_capture<R: Env + Files + Input>(
+    rt: &R,
     text: &[u8],
     index: &[u8],
     start: Source,
+    reader: &mut Reader<R>,
     block: &mut [u8; 4096],
     payload: &mut [u8; 65536],
     table: &mut Table,
@@ -169,9 +179,9 @@ pub fn put_capture(
     let mut source = start;
     let mut sheet = empty;
     while 0 < source.left {
-        let next = next_item(source, block, payload);
+        let next = next_item(source, reader, block, payload);
         source = next.source;
-        sheet = take_next(text, index, next, payload, table, out, sheet);
+        sheet = take_next(rt, text, index, next, payload, table, out, sheet);
     }
     sheet
 }

@@ -8,27 +8,37 @@ use crate::sheet::{Sheet, Verdict, print_end};
 use files::capture::Opened;
 use files::folder::{Loaded, load};
 use files::frame_names::{State, load_frames};
-use files::input::File;
+use files::input::{File, Reader};
 use files::options::{Asked, Options};
 use output::outcome::fail_file;
 use pti::payload::ROW_WIDTH;
+use std::rt::{Env, Files};
 
-// The capture behind a descriptor, by an accepted frame text and the index of commands.
-fn show_capture(name: &[u8], fd: i32, text: &[u8], index: &[u8], empty: Sheet)
+// A capture, by an accepted frame text and the index of commands.
+fn show_capture<R: Env + Files + Input>(
+    rt: &R,
+    name: &[u8],
+    reader: &mut Reader<R>,
+    text: &[u8],
+    index: &[u8],
+    empty: Sheet,
+)
     requires { verdict text.now ≡ Accepted }
 {
     let mut block = io::buffer();
-    let Opened::At(source) = files::capture::open(fd, &mut block) else {
-        fail_file(name);
+    let Opened::At(source) = files::capture::open(reader, &mut block) else {
+        fail_file(name, reader.error());
         return;
     };
     let mut payload = io::large_buffer();
     let mut table: Table = [0u16; 3000 * ROW_WIDTH];
     let mut out = io::buffer();
     let sheet = put_capture(
+        rt,
         text,
         index,
         source,
+        reader,
         &mut block,
         &mut payload,
         &mut table,
@@ -36,30 +46,46 @@ fn show_capture(name: &[u8], fd: i32, text: &[u8], index: &[u8], empty: Sheet)
         empty,
     );
     writer::flush(&out, sheet.at);
-    print_end(name, sheet);
+    print_end(name, sheet, reader.error());
 }
 
 // The same with the index of the folder, if it has one.
-fn show_indexed(name: &[u8], fd: i32, text: &[u8], folder: usize, empty: Sheet)
+fn show_indexed<R: Env + Files + Input>(
+    rt: &R,
+    name: &[u8],
+    reader: &mut Reader<R>,
+    text: &[u8],
+    folder: usize,
+    empty: Sheet,
+)
     requires { verdict text.now ≡ Accepted }
 {
     let mut index = io::large_buffer();
-    match load(folder, b"commands/index.txt", &mut index) {
-        Loaded::Bytes(n) => show_capture(name, fd, text, &index[..n], empty),
-        Loaded::Missing => show_capture(name, fd, text, b"", empty.judged(Verdict::Unnamed)),
+    match load(rt, folder, b"commands/index.txt", &mut index) {
+        Loaded::Bytes(n) => show_capture(rt, name, reader, text, &index[..n], empty),
+        Loaded::Missing => show_capture(rt, name, reader, text, b"", empty.judged(Verdict::Unnamed)),
     }
 }
 
 // The same by a frame text that was found so.
-fn show_found(name: &[u8], fd: i32, text: &[u8], state: State, folder: usize, empty: Sheet)
+fn show_found<R: Env + Files + Input>(
+    rt: &R,
+    name: &[u8],
+    reader: &mut Reader<R>,
+    text: &[u8],
+    state: State,
+    folder: usize,
+    empty: Sheet,
+)
     requires { verdict text.now ≡ Accepted }
 {
     match state {
-        State::Fine => show_indexed(name, fd, text, folder, empty),
-        State::Missing => show_capture(name, fd, text, b"", empty.judged(Verdict::Unnamed)),
+        State::Fine => show_indexed(rt, name, reader, text, folder, empty),
+        State::Missing => show_capture(rt, name, reader, text, b"", empty.judged(Verdict::Unnamed)),
         State::Refused(refusal) => show_capture(
+            rt,
             name,
-            fd,
+            reader,
             text,
             b"",
             empty.judged(Verdict::Refused(refusal)),
@@ -67,14 +93,20 @@ fn show_found(name: &[u8], fd: i32, text: &[u8], state: State, folder: usize, em
     }
 }
 
-fn show_file(name: &[u8], fd: i32, options: Options) {
+fn show_file<R: Env + Files + Input>(
+    rt: &R,
+    name: &[u8],
+    reader: &mut Reader<R>,
+    options: Options,
+) {
     let mut text = io::large_buffer();
-    let found = load_frames(options.folder, &mut text);
+    let found = load_frames(rt, options.folder, &mut text);
     let n = found.count;
     let state = found.state;
     show_found(
+        rt,
         name,
-        fd,
+        reader,
         &text[..n],
         state,
         options.folder,
@@ -83,8 +115,9 @@ fn show_file(name: &[u8], fd: i32, options: Options) {
 }
 
 // `tap frames FILE`.
-pub fn show_frames() {
+pub fn show_frames(rt: &(impl Env + Files + Input)) {
     let Asked::Options(options) = files::options::read(
+        rt,
         1,
         b"--definitions\t--plain\t--colour\t--picture\t--progress\t--records\t--firmware\t--beams\t--by-position",
         b"tap: frames takes one FILE, or - for standard input\n",
@@ -92,9 +125,8 @@ pub fn show_frames() {
         return;
     };
     let mut name = io::buffer();
-    let File::Open(fd, n) = files::input::open_argument(options.file, &mut name) else {
+    let File::Open(mut reader, n) = files::input::open_argument(rt, options.file, &mut name) else {
         return;
     };
-    show_file(&name[..n], fd, options);
-    libc::close(fd);
+    show_file(rt, &name[..n], &mut reader, options);
 }

@@ -1,12 +1,12 @@
 // What was shown of a capture so far, and what stands below it at the end.
 use files::options::Options;
 use frame_line::mpdu_columns::Look;
-use libc::{STDERR_FILENO, STDOUT_FILENO};
 use output::outcome::{fail, fail_capture, fail_file};
 use output::refusals::put_payload_reason;
 use refusal::Refusal;
+use std::io::Error;
 use std::num::wrapping_add_u64;
-use writer::{Buffer, print_number, put, put_number};
+use writer::{Buffer, STDERR_FILENO, STDOUT_FILENO, print_number, put, put_number};
 
 // How the reading of a capture ended.
 #[derive(Clone, Copy)]
@@ -200,8 +200,8 @@ fn print_summary(sheet: Sheet) {
     io::write_all(STDOUT_FILENO, b"\n");
 }
 
-// What stands below the table, with the last line of the output.
-pub fn print_end(name: &[u8], sheet: Sheet) {
+// What stands below the table, with the last line of the output; where the capture can't be read on, the error says why.
+pub fn print_end(name: &[u8], sheet: Sheet, error: Error) {
     end_progress(sheet);
     let verdict = sheet.verdict;
     match verdict {
@@ -222,6 +222,6 @@ pub fn print_end(name: &[u8], sheet: Sheet) {
             fail(b"");
         }
         Verdict::NoCapture(line, column) => fail_capture(name, line, column),
-        Verdict::Unreadable => fail_file(name),
+        Verdict::Unreadable => fail_file(name, error),
     }
 }

@@ -1,6 +1,5 @@
 // The word `judge`: is a listing of a frame's header ours? If not, what ours has at the line that differs.
 use header::{Decoded, DecodedHeader, MOST_NUMBERS, decode_header};
-use libc::STDOUT_FILENO;
 use listing::{Judgement, judge_listing};
 use output::outcome::{refuse, succeed};
 use output::refusals::put_mpdu_reason;
@@ -9,7 +8,7 @@ use readers::lines::numbered_line;
 use refusal::Refusal;
 use std::num::wrapping_sub_usize;
 use trees::field_tree::put_field;
-use writer::{Buffer, flush, print_number, put, put_number};
+use writer::{Buffer, STDOUT_FILENO, flush, print_number, put, put_number};
 
 // A frame whose listing is judged: its number, and the region of the frame text and the rate at which it was sent.
 #[derive(Clone, Copy)]

@@ -1,8 +1,8 @@
 // The word `list`: our own listing of a frame's header. The listing is all of the output but its last line, which bin/tap takes off.
 use buffer::Written;
-use libc::STDOUT_FILENO;
 use listing::write_listing;
 use output::outcome::{fail, refuse, succeed};
+use writer::STDOUT_FILENO;
 
 fn write_text(listing: &[u8]) {
     if io::write_all(STDOUT_FILENO, listing) {

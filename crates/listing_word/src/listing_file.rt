@@ -2,16 +2,16 @@
 use crate::judge_listing::{Frame, judge_mpdu};
 use crate::list_frame::list_mpdu;
 use files::folder::{Loaded, load};
-use files::input::{File, Got};
+use files::input::{File, Got, Reader};
 use files::options::{Asked, Options};
 use frame_search::{Aim, Search, fail_number, read_number, search_capture};
-use libc::STDERR_FILENO;
 use output::outcome::{fail, fail_capture, fail_file};
 use readers::numeral::Numeral;
 use readers::region::frame_code;
 use screen::FrameRecord;
 use std::num::wrapping_sub_u64;
-use writer::print_number;
+use std::rt::{Env, Files};
+use writer::{STDERR_FILENO, print_number};
 
 // What is asked for: the number of a frame, and the argument that names the listing, 0 for our own.
 #[derive(Clone, Copy)]
@@ -27,26 +27,43 @@ fn fail_beam(number: u64) {
     fail(b" is a beam, which has no header\n");
 }
 
-// The listing behind a descriptor, of which 65,536 bytes are read.
-fn judge_file(text: &[u8], mpdu: &[u8], frame: Frame, name: &[u8], fd: i32) {
+// A listing, of which 65,536 bytes are read.
+fn judge_file<R: Files + Input>(
+    text: &[u8],
+    mpdu: &[u8],
+    frame: Frame,
+    name: &[u8],
+    reader: &mut Reader<R>,
+) {
     let mut block = io::large_buffer();
-    let Got::Bytes(n) = files::input::read_file(fd, &mut block) else {
-        fail_file(name);
+    let Got::Bytes(n) = files::input::read_file(reader, &mut block) else {
+        fail_file(name, reader.error());
         return;
     };
     judge_mpdu(text, mpdu, frame, &block[..n]);
 }
 
-fn open_and_judge(text: &[u8], mpdu: &[u8], frame: Frame, argument: usize) {
+fn open_and_judge(
+    rt: &(impl Env + Files + Input),
+    text: &[u8],
+    mpdu: &[u8],
+    frame: Frame,
+    argument: usize,
+) {
     let mut name = io::buffer();
-    let File::Open(fd, n) = files::input::open_argument(argument, &mut name) else {
+    let File::Open(mut reader, n) = files::input::open_argument(rt, argument, &mut name) else {
         return;
     };
-    judge_file(text, mpdu, frame, &name[..n], fd);
-    libc::close(fd);
+    judge_file(text, mpdu, frame, &name[..n], &mut reader);
 }
 
-fn answer_mpdu(text: &[u8], mpdu: &[u8], heard: FrameRecord, task: Task) {
+fn answer_mpdu(
+    rt: &(impl Env + Files + Input),
+    text: &[u8],
+    mpdu: &[u8],
+    heard: FrameRecord,
+    task: Task,
+) {
     let frame = Frame {
         number: task.number,
         region: frame_code(heard.region as u64),
@@ -56,25 +73,37 @@ fn answer_mpdu(text: &[u8], mpdu: &[u8], heard: FrameRecord, task: Task) {
         list_mpdu(text, mpdu, frame.region, frame.rate);
         return;
     }
-    open_and_judge(text, mpdu, frame, task.listing);
+    open_and_judge(rt, text, mpdu, frame, task.listing);
 }
 
 // The frame whose bytes are these, by the frame text of the folder.
-fn answer_heard(heard: FrameRecord, mpdu: &[u8], task: Task, options: Options) {
+fn answer_heard(
+    rt: &(impl Env + Files + Input),
+    heard: FrameRecord,
+    mpdu: &[u8],
+    task: Task,
+    options: Options,
+) {
     if heard.is_beam {
         fail_beam(task.number);
         return;
     }
     let mut text = io::large_buffer();
-    let Loaded::Bytes(n) = load(options.folder, b"frames.txt", &mut text) else {
+    let Loaded::Bytes(n) = load(rt, options.folder, b"frames.txt", &mut text) else {
         fail(b"");
         return;
     };
-    answer_mpdu(&text[..n], mpdu, heard, task);
+    answer_mpdu(rt, &text[..n], mpdu, heard, task);
 }
 
-// Frame n of the capture behind a descriptor.
-fn answer_file(name: &[u8], fd: i32, task: Task, options: Options) {
+// Frame n of a capture.
+fn answer_file<R: Env + Files + Input>(
+    rt: &R,
+    name: &[u8],
+    reader: &mut Reader<R>,
+    task: Task,
+    options: Options,
+) {
     let before = wrapping_sub_u64(task.number, 1);
     let mut mpdu = io::buffer();
     let aim = Aim {
@@ -83,52 +112,53 @@ fn answer_file(name: &[u8], fd: i32, task: Task, options: Options) {
         left: before,
         payloads: 0,
     };
-    match search_capture(fd, aim, &mut mpdu) {
+    match search_capture(reader, aim, &mut mpdu) {
         Search::Found(hit) => {
             let n = hit.count;
             let heard = hit.frame;
-            answer_heard(heard, &mpdu[..n], task, options);
+            answer_heard(rt, heard, &mpdu[..n], task, options);
         }
         Search::Left(aim) => fail_number(name, task.number, wrapping_sub_u64(before, aim.left)),
         Search::NoCapture(line, column) => fail_capture(name, line, column),
-        Search::Unreadable => fail_file(name),
+        Search::Unreadable => fail_file(name, reader.error()),
     }
 }
 
-fn open_and_answer(listing: usize, options: Options) {
-    let Numeral::Is(number) = read_number(options.second) else {
+fn open_and_answer(rt: &(impl Env + Files + Input), listing: usize, options: Options) {
+    let Numeral::Is(number) = read_number(rt, options.second) else {
         fail(b"tap: the number of a frame is a decimal number from 1\n");
         return;
     };
     let mut name = io::buffer();
-    let File::Open(fd, n) = files::input::open_argument(options.file, &mut name) else {
+    let File::Open(mut reader, n) = files::input::open_argument(rt, options.file, &mut name) else {
         return;
     };
     let task = Task { number, listing };
-    answer_file(&name[..n], fd, task, options);
-    libc::close(fd);
+    answer_file(rt, &name[..n], &mut reader, task, options);
 }
 
 // `tap list FILE N`.
-pub fn list_frame() {
+pub fn list_frame(rt: &(impl Env + Files + Input)) {
     let Asked::Options(options) = files::options::read(
+        rt,
         2,
         b"--definitions\t--firmware\t--beams",
         b"tap: list takes a FILE, or - for standard input, and the number of a frame\n",
     ) else {
         return;
     };
-    open_and_answer(0, options);
+    open_and_answer(rt, 0, options);
 }
 
 // `tap judge FILE N LISTING`.
-pub fn judge_frame() {
+pub fn judge_frame(rt: &(impl Env + Files + Input)) {
     let Asked::Options(options) = files::options::read(
+        rt,
         3,
         b"--definitions\t--firmware\t--beams",
         b"tap: judge takes a FILE, the number of a frame, and the file of a LISTING\n",
     ) else {
         return;
     };
-    open_and_answer(options.third, options);
+    open_and_answer(rt, options.third, options);
 }

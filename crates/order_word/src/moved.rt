@@ -1,11 +1,11 @@
 // Which H and P numbers moved when the H blocks of a frame text were sorted, on standard error.
 ghost use Rattle.std.specs.Prelude.{◌<◌, length};
 
-use libc::STDERR_FILENO;
 use readers::line_fields::field_of;
 use readers::lines::{line, next_line};
 use std::num::{wrapping_add_u64, wrapping_sub_u64};
 use text::is_same;
+use writer::STDERR_FILENO;
 
 // How many lines of a kind begin before a place.
 fn count_before(text: &[u8], kind: u8, end: usize) -> u64 {

@@ -3,16 +3,17 @@ ghost use Rattle.std.specs.Prelude.{◌≡◌};
 ghost use Rattle.text.specs.declared.Verdict.TheVariants.{Accepted};
 ghost use Rattle.frame_text.specs.Rules.{verdict};
 
-use files::input::{File, Got, open_argument};
+use files::arguments::argument_count;
+use files::input::{File, Got, Reader, open_argument};
 use frame_text::check_frame_text;
-use libc::STDOUT_FILENO;
 use output::outcome::{fail, fail_file, refuse_text, succeed};
 use overlaps::{NextHeader, all_apart, find_header, tell_numbers};
 use readers::line_fields::field_of;
 use readers::lines::find_line;
 use std::num::wrapping_add_u64;
+use std::rt::{Env, Files};
 use text::Verdict;
-use writer::{Buffer, flush, put, put_left, put_marked, put_number};
+use writer::{Buffer, STDOUT_FILENO, flush, put, put_left, put_marked, put_number};
 
 // Wide enough for most names; a longer one moves what stands behind it.
 const NAME: usize = 28;
@@ -157,26 +158,25 @@ fn judge_text(name: &[u8], text: &[u8]) {
     }
 }
 
-// The text behind a descriptor. One too long for the block is too long for a text too.
-fn judge_file(name: &[u8], fd: i32) {
+// The text of a file. One too long for the block is too long for a text too.
+fn judge_file<R: Files + Input>(name: &[u8], reader: &mut Reader<R>) {
     let mut block = io::large_buffer();
-    let Got::Bytes(n) = files::input::read_file(fd, &mut block) else {
-        fail_file(name);
+    let Got::Bytes(n) = files::input::read_file(reader, &mut block) else {
+        fail_file(name, reader.error());
         return;
     };
     judge_text(name, &block[..n]);
 }
 
 // `tap overlaps FILE`.
-pub fn tell_overlaps() {
-    if os::arg_count() != 3 {
+pub fn tell_overlaps(rt: &(impl Env + Files + Input)) {
+    if argument_count(rt) != 3 {
         fail(b"tap: overlaps takes one FILE, or - for standard input\n");
         return;
     }
     let mut name = io::buffer();
-    let File::Open(fd, n) = open_argument(2, &mut name) else {
+    let File::Open(mut reader, n) = open_argument(rt, 2, &mut name) else {
         return;
     };
-    judge_file(&name[..n], fd);
-    libc::close(fd);
+    judge_file(&name[..n], &mut reader);
 }

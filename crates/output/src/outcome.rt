@@ -1,8 +1,10 @@
 // How a run of tap ends. The last line of its output is `ok`, `refused N V` (a refusal of docs/RULES.md: its number and what it
 // carries) or `failed`; `overlaps` and `judge` have lines of their own besides, `overlaps N` and `differs L`. Where it failed, one line on standard
 // error says why.
-use libc::{STDERR_FILENO, STDOUT_FILENO};
+use crate::errors::tell_error;
 use refusal::Refusal;
+use std::io::Error;
+use writer::{STDERR_FILENO, STDOUT_FILENO};
 
 pub fn succeed() {
     io::write_all(STDOUT_FILENO, b"ok\n");
@@ -41,10 +43,15 @@ pub fn fail_word(word: &[u8]) {
     fail(b"': 'tap help' lists the words\n");
 }
 
-// A file that the system doesn't open or read, as `os::errno` says.
-pub fn fail_file(name: &[u8]) {
+// Says that the system doesn't open or read a file, and why.
+pub fn tell_unreadable(name: &[u8], error: Error) {
     io::write_all(STDERR_FILENO, b"tap: cannot read ");
-    os::fail(name);
+    tell_error(name, error);
+}
+
+// A file that the system doesn't open or read.
+pub fn fail_file(name: &[u8], error: Error) {
+    tell_unreadable(name, error);
     fail(b"");
 }
 

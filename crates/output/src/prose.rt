@@ -1,6 +1,5 @@
 // Words on standard output, and bytes of a text shown among them.
-use libc::STDOUT_FILENO;
-use writer::{Buffer, flush, print_number, put, put_byte, put_hex};
+use writer::{Buffer, STDOUT_FILENO, flush, print_number, put, put_byte, put_hex};
 
 // How many bytes of a text are shown at most.
 const SHOWN: usize = 200;

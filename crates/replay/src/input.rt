@@ -2,7 +2,7 @@
 ghost use Rattle.std.specs.Prelude.{◌≤◌, length};
 ghost use Rattle.replay.specs.Input.{In, Empty, Finds, Fills};
 
-use libc::STDIN_FILENO;
+use std::io::Read;
 use text::find;
 
 // The bytes that wait in the buffer, from `start` up to `end`. None of them before `seen` ends a line.
@@ -96,7 +96,7 @@ impl Input {
     }
 
     // Reads a block behind what waits.
-    pub fn fill(self, lines: &mut [u8]) -> Filled
+    pub fn fill(self, reader: &mut impl Read, lines: &mut [u8]) -> Filled
         requires { In lines.old self }
         ensures { Fills lines.new result }
     {
@@ -104,8 +104,10 @@ impl Input {
         if kept == lines.len() {
             return Filled::TooLong(Input::empty(true));
         }
-        let got = libc::read(STDIN_FILENO, &mut lines[kept..]);
-        let read = io::count(got, &lines[kept..]);
+        let read = match reader.read(&mut lines[kept..]) {
+            Ok(n) => n,
+            Err(_) => 0,
+        };
         if read != 0 {
             return Filled::More(Input {
                 start: 0,

@@ -11,6 +11,7 @@ use frame_requests::frame_request;
 use listing_requests::listing;
 use node_requests::{commandnodes, headernodes};
 use request::{Word, word_of};
+use std::io::Read;
 use text::find;
 use totals_requests::totals;
 use value_requests::{commandvalue, headervalue};
@@ -94,12 +95,18 @@ fn answer_line(
 
 // Writes out what waits, so that whoever waits for the answers has them, and reads on. A request is ended by 0x0A: what the
 // end of the input cuts off before it is a line, and a bad request.
-fn read_on(input: Input, lines: &mut [u8], out: &mut Buffer, used: usize) -> Turn
+fn read_on(
+    input: Input,
+    reader: &mut impl Read,
+    lines: &mut [u8],
+    out: &mut Buffer,
+    used: usize,
+) -> Turn
     requires { In lines.old input }
     ensures { Goes lines.new result }
 {
     flush(out, used);
-    match input.fill(lines) {
+    match input.fill(reader, lines) {
         Filled::More(next) => Turn::Next(next, 0),
         Filled::TooLong(next) => Turn::Next(next, put_bad(out, 0)),
         Filled::Cut => {
@@ -113,6 +120,7 @@ fn read_on(input: Input, lines: &mut [u8], out: &mut Buffer, used: usize) -> Tur
 
 fn step(
     input: Input,
+    reader: &mut impl Read,
     lines: &mut [u8],
     bytes: &mut [u8],
     rows: &mut [u64],
@@ -129,11 +137,12 @@ fn step(
             Turn::Next(next, n)
         }
         Found::Rest(next) => Turn::Next(next, used),
-        Found::More(next) => read_on(next, lines, out, used),
+        Found::More(next) => read_on(next, reader, lines, out, used),
     }
 }
 
 pub fn serve(
+    reader: &mut impl Read,
     lines: &mut [u8; 524288],
     bytes: &mut [u8; 262144],
     rows: &mut [u64; 163840],
@@ -143,7 +152,7 @@ pub fn serve(
     let mut used: usize = 0;
     let mut turns = TURNS;
     while turns > 0 {
-        let Turn::Next(next, n) = step(input, lines, bytes, rows, out, used) else {
+        let Turn::Next(next, n) = step(input, reader, lines, bytes, rows, out, used) else {
             return;
         };
         input = next;

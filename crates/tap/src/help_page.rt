@@ -1,7 +1,9 @@
 // What `tap help` and `tap help WORD` print, with the last line of the output.
 use crate::words::word_number;
+use files::arguments::{argument, argument_count};
 use output::outcome::{fail, fail_word, succeed};
 use output::prose::say;
+use std::rt::Env;
 
 // The words, and what holds for all of them.
 fn help_all() {
@@ -300,12 +302,12 @@ fn help_word(word: &[u8]) {
 }
 
 // `tap help`, `tap help WORD`.
-pub fn help() {
-    match os::arg_count() {
+pub fn help(rt: &impl Env) {
+    match argument_count(rt) {
         2 => help_all(),
         3 => {
             let mut word = io::buffer();
-            let n = os::arg(2, &mut word);
+            let n = argument(rt, 2, &mut word);
             help_word(&word[..n]);
         }
         _ => fail(b"tap: help takes one word, or none\n"),

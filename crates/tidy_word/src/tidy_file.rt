@@ -1,9 +1,11 @@
 // The word `tidy`: a command text with S for U. The text is all of the output but its last line, which bin/tap takes off.
 use buffer::Written;
-use files::input::{File, Got, open_argument};
-use libc::STDOUT_FILENO;
+use files::arguments::argument_count;
+use files::input::{File, Got, Reader, open_argument};
 use output::outcome::{fail, fail_file, refuse_text, succeed};
+use std::rt::{Env, Files};
 use tidy::tidy_command_text;
+use writer::STDOUT_FILENO;
 
 fn write_text(text: &[u8]) {
     if io::write_all(STDOUT_FILENO, text) {
@@ -20,11 +22,11 @@ fn tidy_text(name: &[u8], text: &[u8], buffer: &mut [u8]) {
     }
 }
 
-// The text behind a descriptor. One too long for the block is too long for a text too.
-fn tidy_file(name: &[u8], fd: i32) {
+// The text of a file. One too long for the block is too long for a text too.
+fn tidy_file<R: Files + Input>(name: &[u8], reader: &mut Reader<R>) {
     let mut block = io::large_buffer();
-    let Got::Bytes(n) = files::input::read_file(fd, &mut block) else {
-        fail_file(name);
+    let Got::Bytes(n) = files::input::read_file(reader, &mut block) else {
+        fail_file(name, reader.error());
         return;
     };
     let mut buffer = io::large_buffer();
@@ -32,15 +34,14 @@ fn tidy_file(name: &[u8], fd: i32) {
 }
 
 // `tap tidy FILE`.
-pub fn tidy_definition() {
-    if os::arg_count() != 3 {
+pub fn tidy_definition(rt: &(impl Env + Files + Input)) {
+    if argument_count(rt) != 3 {
         fail(b"tap: tidy takes one FILE, or - for standard input\n");
         return;
     }
     let mut name = io::buffer();
-    let File::Open(fd, n) = open_argument(2, &mut name) else {
+    let File::Open(mut reader, n) = open_argument(rt, 2, &mut name) else {
         return;
     };
-    tidy_file(&name[..n], fd);
-    libc::close(fd);
+    tidy_file(&name[..n], &mut reader);
 }

@@ -6,11 +6,13 @@ ghost use Rattle.files.specs.Capture.{Inside};
 
 use files::capture::{Item, Source, next_item};
 use files::day::{Day, pass_line, refuse_payload, tell_progress};
+use files::input::Reader;
 use files::options::Options;
 use frame::{Parsed, Reading, parse_record, reading_by};
 use readers::region::frame_code;
 use records::{Next, next_body};
 use refusal::Refusal;
+use std::rt::Files;
 use totals::{Added, TOTALS, add_accepted};
 
 // The F code of the first frame's region, as the table of frames has it.
@@ -93,10 +95,11 @@ fn take_item(
 }
 
 // All payloads that a source gives, by an accepted frame text.
-pub fn add_capture(
+pub fn add_capture<R: Files + Input>(
     text: &[u8],
     options: Options,
     start: Source,
+    reader: &mut Reader<R>,
     block: &mut [u8; 4096],
     payload: &mut [u8; 65536],
     totals: &mut [u64; TOTALS],
@@ -108,7 +111,7 @@ pub fn add_capture(
     let mut source = start;
     let mut day = before;
     while 0 < source.left {
-        let next = next_item(source, block, payload);
+        let next = next_item(source, reader, block, payload);
         source = next.source;
         let item = next.item;
         day = take_item(text, options, item, payload, totals, day);

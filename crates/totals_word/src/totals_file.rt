@@ -6,14 +6,17 @@ ghost use Rattle.frame_text.specs.Rules.{verdict};
 use crate::day::add_capture;
 use crate::words_page::put_page;
 use buffer::Written;
+use files::arguments::{argument, argument_count};
 use files::capture::Opened;
 use files::day::{Day, end};
 use files::frame_names::{State, load_frames};
+use files::input::{Reader, open_name};
 use files::options::{Asked, Options, next_file};
-use libc::{STDERR_FILENO, STDOUT_FILENO};
-use output::outcome::{fail, refuse};
+use output::outcome::{fail, refuse, tell_unreadable};
+use std::rt::{Env, Files};
 use totals::TOTALS;
 use totals_text::print_totals;
+use writer::STDOUT_FILENO;
 
 // The bytes of the longest page.
 const ROOM: usize = 32768;
@@ -40,73 +43,99 @@ fn show_page(text: &[u8], options: Options, totals: &[u64; TOTALS]) {
     print_page(totals);
 }
 
-// The capture behind a descriptor.
-fn add_opened(text: &[u8], options: Options, fd: i32, totals: &mut [u64; TOTALS], day: Day) -> Day
+// A capture that was opened.
+fn add_opened<R: Files + Input>(
+    text: &[u8],
+    options: Options,
+    reader: &mut Reader<R>,
+    totals: &mut [u64; TOTALS],
+    day: Day,
+) -> Day
     requires { verdict text.now ≡ Accepted }
 {
     let mut block = io::buffer();
-    let Opened::At(source) = files::capture::open(fd, &mut block) else {
+    let Opened::At(source) = files::capture::open(reader, &mut block) else {
         return day.failed();
     };
     let mut payload = io::large_buffer();
-    add_capture(text, options, source, &mut block, &mut payload, totals, day)
+    add_capture(
+        text,
+        options,
+        source,
+        reader,
+        &mut block,
+        &mut payload,
+        totals,
+        day,
+    )
 }
 
 // The capture that argument k names.
-fn add_file(text: &[u8], options: Options, k: usize, totals: &mut [u64; TOTALS], day: Day) -> Day
+fn add_file(
+    rt: &(impl Env + Files + Input),
+    text: &[u8],
+    options: Options,
+    k: usize,
+    totals: &mut [u64; TOTALS],
+    day: Day,
+) -> Day
     requires { verdict text.now ≡ Accepted }
 {
     let mut name = io::buffer();
-    let n = os::arg(k, &mut name);
-    let fd = files::input::open_name(&name[..n]);
-    if fd < 0 {
-        io::write_all(STDERR_FILENO, b"tap: cannot read ");
-        os::fail(&name[..n]);
-        return day.failed();
+    let n = argument(rt, k, &mut name);
+    match open_name(rt, &name[..n]) {
+        Ok(mut reader) => add_opened(text, options, &mut reader, totals, day),
+        Err(error) => {
+            tell_unreadable(&name[..n], error);
+            day.failed()
+        }
     }
-    let next = add_opened(text, options, fd, totals, day);
-    libc::close(fd);
-    next
 }
 
-fn add_files(text: &[u8], options: Options, totals: &mut [u64; TOTALS]) -> Day
+fn add_files(
+    rt: &(impl Env + Files + Input),
+    text: &[u8],
+    options: Options,
+    totals: &mut [u64; TOTALS],
+) -> Day
     requires { verdict text.now ≡ Accepted }
 {
-    let end = os::arg_count();
+    let end = argument_count(rt);
     let mut day = Day::new();
     let mut k: usize = 2;
     while k < end {
-        if next_file(k) == k {
-            day = add_file(text, options, k, totals, day);
+        if next_file(rt, k) == k {
+            day = add_file(rt, text, options, k, totals, day);
         }
         k += 1;
     }
     day
 }
 
-fn show_by(text: &[u8], options: Options)
+fn show_by(rt: &(impl Env + Files + Input), text: &[u8], options: Options)
     requires { verdict text.now ≡ Accepted }
 {
     let mut totals = [0u64; TOTALS];
-    let day = add_files(text, options, &mut totals);
+    let day = add_files(rt, text, options, &mut totals);
     show_page(text, options, &totals);
     end(day);
 }
 
 // `tap totals FILE ..`.
-pub fn show_totals() {
+pub fn show_totals(rt: &(impl Env + Files + Input)) {
     let Asked::Options(options) = files::options::read_some(
+        rt,
         b"--definitions\t--words\t--region\t--progress\t--firmware\t--beams",
         b"tap: totals takes one FILE or more, or - for standard input\n",
     ) else {
         return;
     };
     let mut text = io::large_buffer();
-    let found = load_frames(options.folder, &mut text);
+    let found = load_frames(rt, options.folder, &mut text);
     let n = found.count;
     let state = found.state;
     match state {
-        State::Fine => show_by(&text[..n], options),
+        State::Fine => show_by(rt, &text[..n], options),
         State::Missing => fail(b"tap: there are no totals without a frame text\n"),
         State::Refused(refusal) => refuse(refusal),
     }

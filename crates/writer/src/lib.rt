@@ -5,6 +5,11 @@
 
 use numerals::{ROOM, decimal, glyph};
 
+// The descriptors of standard output and standard error.
+pub const STDOUT_FILENO: i32 = 1;
+
+pub const STDERR_FILENO: i32 = 2;
+
 // Where text gathers.
 pub type Buffer = [u8; 4096];
 
@@ -14,10 +19,10 @@ const SMALL: u8 = b'a';
 // Writes the first n bytes, or all where there are fewer. What cannot be written is lost: there is nobody to tell.
 fn write_first(bytes: &[u8], n: usize) {
     if n < bytes.len() {
-        io::write_all(libc::STDOUT_FILENO, &bytes[..n]);
+        io::write_all(STDOUT_FILENO, &bytes[..n]);
         return;
     }
-    io::write_all(libc::STDOUT_FILENO, bytes);
+    io::write_all(STDOUT_FILENO, bytes);
 }
 
 // Writes what has gathered. The buffer is as good as empty then.

@@ -1,8 +1,8 @@
 // Room for an XML, and what a word has written into it, with the last line.
 ghost use Rattle.std.specs.Prelude.{◌≡◌, length};
 
-use libc::STDOUT_FILENO;
 use output::outcome::{fail, succeed};
+use writer::STDOUT_FILENO;
 
 // The bytes of the longest XML that is written, one more than those of the longest that is read.
 pub const ROOM: usize = 524288;

@@ -7,11 +7,13 @@ use crate::fault_words::say_fault;
 use crate::room::{ROOM as MOST, room, write_first};
 use buffer::Written;
 use check_word::check_page::check_frame;
-use files::input::{File, Got, open_argument};
-use libc::STDERR_FILENO;
+use files::arguments::argument_count;
+use files::input::{File, Got, Reader, open_argument};
 use output::outcome::{fail, fail_file, refuse};
 use output::prose::{say, show};
 use refusal::Refusal;
+use std::rt::{Env, Files};
+use writer::STDERR_FILENO;
 use xml::xml_to_frame_text;
 use xml_document::check;
 use xml_draft::ROOM;
@@ -70,11 +72,11 @@ fn fail_long(name: &[u8]) {
     fail(b" has more bytes than tap reads of an XML: 524287 are the most\n");
 }
 
-// The XML behind a descriptor.
-fn turn_file(name: &[u8], fd: i32) {
+// The XML of a file.
+fn turn_file<R: Files + Input>(name: &[u8], reader: &mut Reader<R>) {
     let mut block = room();
-    let Got::Bytes(n) = files::input::read_file(fd, &mut block) else {
-        fail_file(name);
+    let Got::Bytes(n) = files::input::read_file(reader, &mut block) else {
+        fail_file(name, reader.error());
         return;
     };
     if n == MOST {
@@ -85,15 +87,14 @@ fn turn_file(name: &[u8], fd: i32) {
 }
 
 // `tap text FILE`.
-pub fn write_text() {
-    if os::arg_count() != 3 {
+pub fn write_text(rt: &(impl Env + Files + Input)) {
+    if argument_count(rt) != 3 {
         fail(b"tap: text takes one FILE, or - for standard input\n");
         return;
     }
     let mut name = io::buffer();
-    let File::Open(fd, n) = open_argument(2, &mut name) else {
+    let File::Open(mut reader, n) = open_argument(rt, 2, &mut name) else {
         return;
     };
-    turn_file(&name[..n], fd);
-    libc::close(fd);
+    turn_file(&name[..n], &mut reader);
 }

@@ -2,10 +2,12 @@
 use crate::room::{room, write_first};
 use buffer::Written;
 use check_word::check_page::check_frame;
-use files::input::{File, Got, open_argument};
+use files::arguments::argument_count;
+use files::input::{File, Got, Reader, open_argument};
 use output::outcome::{fail, fail_file, refuse};
 use output::prose::{say, say_number, show};
 use refusal::Refusal;
+use std::rt::{Env, Files};
 use xml_writer::frame_text_to_xml;
 
 fn say_not_plain(name: &[u8], line: usize) {
@@ -42,26 +44,25 @@ fn turn_text(name: &[u8], text: &[u8]) {
     }
 }
 
-// The text behind a descriptor. One too long for the block is too long for a text too.
-fn turn_file(name: &[u8], fd: i32) {
+// The text of a file. One too long for the block is too long for a text too.
+fn turn_file<R: Files + Input>(name: &[u8], reader: &mut Reader<R>) {
     let mut block = io::large_buffer();
-    let Got::Bytes(n) = files::input::read_file(fd, &mut block) else {
-        fail_file(name);
+    let Got::Bytes(n) = files::input::read_file(reader, &mut block) else {
+        fail_file(name, reader.error());
         return;
     };
     turn_text(name, &block[..n]);
 }
 
 // `tap xml FILE`.
-pub fn write_xml() {
-    if os::arg_count() != 3 {
+pub fn write_xml(rt: &(impl Env + Files + Input)) {
+    if argument_count(rt) != 3 {
         fail(b"tap: xml takes one FILE, or - for standard input\n");
         return;
     }
     let mut name = io::buffer();
-    let File::Open(fd, n) = open_argument(2, &mut name) else {
+    let File::Open(mut reader, n) = open_argument(rt, 2, &mut name) else {
         return;
     };
-    turn_file(&name[..n], fd);
-    libc::close(fd);
+    turn_file(&name[..n], &mut reader);
 }
