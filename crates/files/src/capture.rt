@@ -137,11 +137,7 @@ pub fn open<R: Files + Input>(reader: &mut Reader<R>, block: &mut [u8]) -> Opene
 }
 
 // The next byte, from the block, or from the file once the block is used up.
-fn next_byte<R: Files + Input>(
-    source: Source,
-    reader: &mut Reader<R>,
-    block: &mut [u8],
-) -> Read
+fn next_byte<R: Files + Input>(source: Source, reader: &mut Reader<R>, block: &mut [u8]) -> Read
     requires { Inside block.old source }
     ensures { Reads block.new source result }
 {

@@ -29,13 +29,7 @@ fn put_folder(rt: &impl Env, k: usize, path: &mut [u8]) -> usize
 }
 
 // The path of a file in a part of the folder.
-fn put_path(
-    rt: &impl Env,
-    folder: usize,
-    part: &[u8],
-    name: &[u8],
-    path: &mut [u8],
-) -> usize
+fn put_path(rt: &impl Env, folder: usize, part: &[u8], name: &[u8], path: &mut [u8]) -> usize
     ensures { result ≤ length path.new }
 {
     let mut n = put_folder(rt, folder, path);
@@ -88,24 +82,14 @@ pub fn load(rt: &(impl Env + Files), folder: usize, name: &[u8], bytes: &mut [u8
 }
 
 // The same of a file of its commands.
-pub fn load_command(
-    rt: &(impl Env + Files),
-    folder: usize,
-    name: &[u8],
-    bytes: &mut [u8],
-) -> Loaded
+pub fn load_command(rt: &(impl Env + Files), folder: usize, name: &[u8], bytes: &mut [u8]) -> Loaded
     ensures { Loads bytes.new result }
 {
     load_from(rt, folder, b"/commands/", name, bytes)
 }
 
 // The same, without a word where there is none.
-pub fn find_command(
-    rt: &(impl Env + Files),
-    folder: usize,
-    name: &[u8],
-    bytes: &mut [u8],
-) -> Loaded
+pub fn find_command(rt: &(impl Env + Files), folder: usize, name: &[u8], bytes: &mut [u8]) -> Loaded
     ensures { Loads bytes.new result }
 {
     let mut path = io::buffer();

@@ -90,7 +90,8 @@ fn lacks(text: &[u8], payload: &[u8], by_position: bool) -> bool {
 // The same by its line in the catalog.
 fn lacks_by(rt: &(impl Env + Files), line: &[u8], payload: &[u8], look: Look) -> bool {
     let mut text = io::large_buffer();
-    let Loaded::Bytes(n) = find_command(rt, look.folder, readers::catalog::file(line), &mut text) else {
+    let Loaded::Bytes(n) = find_command(rt, look.folder, readers::catalog::file(line), &mut text)
+    else {
         return false;
     };
     lacks(&text[..n], payload, look.by_position)

@@ -63,7 +63,14 @@ fn show_indexed<R: Env + Files + Input>(
     let mut index = io::large_buffer();
     match load(rt, folder, b"commands/index.txt", &mut index) {
         Loaded::Bytes(n) => show_capture(rt, name, reader, text, &index[..n], empty),
-        Loaded::Missing => show_capture(rt, name, reader, text, b"", empty.judged(Verdict::Unnamed)),
+        Loaded::Missing => show_capture(
+            rt,
+            name,
+            reader,
+            text,
+            b"",
+            empty.judged(Verdict::Unnamed),
+        ),
     }
 }
 

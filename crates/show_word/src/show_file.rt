@@ -143,13 +143,7 @@ fn show_named(
     );
 }
 
-fn show_hit(
-    rt: &(impl Env + Files),
-    number: u64,
-    hit: Hit,
-    mpdu: &[u8],
-    options: Options,
-) {
+fn show_hit(rt: &(impl Env + Files), number: u64, hit: Hit, mpdu: &[u8], options: Options) {
     let mut out = io::buffer();
     let at = put_heard(&mut out, 0, number, hit, mpdu);
     let frame = hit.frame;
