@@ -5,10 +5,10 @@ use borrow.Author.Rules.{rules}
 use Rattle.writer.proofs.put.Statement.{statement}
 use Rattle.writer.proofs.put.Tie as tie
 
-abbrev invariant-loop : tie.invariant-loop
+abbrev invariant-loop : tie.invariant-loop-i
 invariant-loop out₀ at bytes place₀ i₀ out place i = Unit
 
-abbrev decreases-loop : tie.decreases-loop
+abbrev decreases-loop : tie.decreases-loop-i
 decreases-loop out₀ at bytes place₀ i₀ out place i = length bytes - i
 
 pub put_spec : {M : Type 1} → statement M

@@ -3,10 +3,10 @@ use Rattle.std.proofs.Common.{◌-◌, length, rules}
 use Rattle.output.proofs.prose.put_all.Statement.{statement}
 use Rattle.output.proofs.prose.put_all.Tie as tie
 
-abbrev invariant-loop : tie.invariant-loop
+abbrev invariant-loop : tie.invariant-loop-i
 invariant-loop out₀ bytes at₀ i₀ out at i = Unit
 
-abbrev decreases-loop : tie.decreases-loop
+abbrev decreases-loop : tie.decreases-loop-i
 decreases-loop out₀ bytes at₀ i₀ out at i = length bytes - i
 
 pub put_all_spec : {M : Type 1} → statement M

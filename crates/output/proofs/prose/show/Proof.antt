@@ -12,6 +12,5 @@ show_spec =
     (λ c. search (rules, counts))
     (λ c. search (rules, counts))
     (λ c κs. search (rules, counts))
-    (λ c. search (rules, counts))
     (λ c κs. search (rules, counts))
     (λ c. search (rules, counts)))
