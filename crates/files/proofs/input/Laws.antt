@@ -1,5 +1,5 @@
 -- The laws that callers go by: the name of an open file stands in the slice that was lent for it. Assumes nothing.
-use Rattle.std.proofs.Common.{◌≡◌, ℕ, ◌+◌, ◌*◌, ◌^◌, ◌<◌, ◌≤◌, List, length, take, ℤ, sym, arith, length-take-le, w64, Fits}
+use Rattle.std.proofs.Common.{◌≡◌, ℕ, ◌+◌, ◌*◌, ◌^◌, ◌<◌, ◌≤◌, List, length, take, sym, arith, length-take-le, w64, Fits}
 use Rattle.io.specs.Counts.{IsPrefixLen}
 use Rattle.files.specs.Input.{Opens, Reaches, Holds}
 use Rattle.files.specs.declared.input.Got.{Got}
@@ -7,14 +7,14 @@ use Rattle.files.specs.declared.input.Got.TheVariants.{Bytes}
 use Rattle.files.specs.declared.input.File.{File}
 use Rattle.files.specs.declared.input.File.TheVariants.{Open}
 
-name_counts : (name : List ℕ) (r : File) (fd : ℤ) (n : ℕ) → Opens name r → r ≡ Open fd n → IsPrefixLen n name
-name_counts name r fd n h e = rw e at h
+name_counts : (name : List ℕ) {R : Type 0} (r : File R) (reader : R) (n : ℕ) → Opens name r → r ≡ Open reader n → IsPrefixLen n name
+name_counts name r reader n h e = rw e at h
 
-pub name-inside : (name : List ℕ) (r : File) (fd : ℤ) (n : ℕ) → Opens name r → r ≡ Open fd n → n ≤ length name
-name-inside name r fd n h e = (name_counts name r fd n h e).0
+pub name-inside : (name : List ℕ) {R : Type 0} (r : File R) (reader : R) (n : ℕ) → Opens name r → r ≡ Open reader n → n ≤ length name
+name-inside name r reader n h e = (name_counts name r reader n h e).0
 
-pub name-count : (name : List ℕ) (r : File) (fd : ℤ) (n : ℕ) → Opens name r → r ≡ Open fd n → n ≡ length (take n name)
-name-count name r fd n h e = (name_counts name r fd n h e).1
+pub name-count : (name : List ℕ) {R : Type 0} (r : File R) (reader : R) (n : ℕ) → Opens name r → r ≡ Open reader n → n ≡ length (take n name)
+name-count name r reader n h e = (name_counts name r reader n h e).1
 
 pub ruleset laws = (name-inside, name-count)
 

@@ -4,10 +4,10 @@ use Rattle.files.proofs.append.Laws.{Going, going_laws}
 use Rattle.files.proofs.append.append.Statement.{statement}
 use Rattle.files.proofs.append.append.Tie as tie
 
-abbrev invariant-loop : tie.invariant-loop
+abbrev invariant-loop : tie.invariant-loop-i
 invariant-loop slice₀ at bytes place₀ i₀ slice place i = Going slice slice₀ bytes at i place
 
-abbrev decreases-loop : tie.decreases-loop
+abbrev decreases-loop : tie.decreases-loop-i
 decreases-loop slice₀ at bytes place₀ i₀ slice place i = length bytes - i
 
 pub append_spec : {M : Type 1} → statement M
