@@ -5,10 +5,10 @@ use borrow.Author.Rules.{rules}
 use Rattle.answer.proofs.put_numbers.Statement.{statement}
 use Rattle.answer.proofs.put_numbers.Tie as tie
 
-abbrev invariant-loop : tie.invariant-loop
+abbrev invariant-loop : tie.invariant-loop-i
 invariant-loop out₀ used row n₀ i₀ out n i = Unit
 
-abbrev decreases-loop : tie.decreases-loop
+abbrev decreases-loop : tie.decreases-loop-i
 decreases-loop out₀ used row n₀ i₀ out n i = length row - i
 
 pub put_numbers_spec : {M : Type 1} → statement M

@@ -8,10 +8,10 @@ use Rattle.answer.proofs.Laws.{laws}
 use Rattle.answer.proofs.table.fill.Statement.{statement}
 use Rattle.answer.proofs.table.fill.Tie as tie
 
-abbrev invariant-loop : tie.invariant-loop
+abbrev invariant-loop : tie.invariant-loop-i
 invariant-loop table₀ i₀ table i = (i ≤ length table₀) × ((length table ≡ length table₀) × (take i table ≡ fresh i))
 
-abbrev decreases-loop : tie.decreases-loop
+abbrev decreases-loop : tie.decreases-loop-i
 decreases-loop table₀ i₀ table i = length table₀ - i
 
 pub fill_spec : {M : Type 1} → statement M

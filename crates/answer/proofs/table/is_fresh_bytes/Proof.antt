@@ -8,10 +8,10 @@ use Rattle.answer.proofs.Laws.{laws}
 use Rattle.answer.proofs.table.is_fresh_bytes.Statement.{statement}
 use Rattle.answer.proofs.table.is_fresh_bytes.Tie as tie
 
-abbrev invariant-loop : tie.invariant-loop
+abbrev invariant-loop : tie.invariant-loop-i
 invariant-loop bytes i₀ i = (i ≤ length bytes) × (is_fresh 0xA5 bytes ≡ is_fresh 0xA5 (drop i bytes))
 
-abbrev decreases-loop : tie.decreases-loop
+abbrev decreases-loop : tie.decreases-loop-i
 decreases-loop bytes i₀ i = length bytes - i
 
 pub is_fresh_bytes_spec : {M : Type 1} → statement M
