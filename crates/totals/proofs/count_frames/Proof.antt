@@ -6,37 +6,37 @@ use Rattle.totals.proofs.Laws.{Counting, laws}
 use Rattle.totals.proofs.count_frames.Statement.{statement}
 use Rattle.totals.proofs.count_frames.Tie as tie
 
-abbrev invariant-loop : tie.invariant-loop
+abbrev invariant-loop : tie.invariant-loop-span
 invariant-loop rates text payload region rules sums₀ at₀ sums at = Counting rules text region payload sums at
 
-abbrev decreases-loop : tie.decreases-loop
+abbrev decreases-loop : tie.decreases-loop-span
 decreases-loop rates text payload region rules sums₀ at₀ sums at = length payload - at
 
-loop-holds : tie.Need-loop-init invariant-loop decreases-loop
+loop-holds : tie.Need-loop-span-init invariant-loop decreases-loop
 loop-holds c = search (rules, laws)
 
-next-body-requires : tie.Need-next-body-requires invariant-loop decreases-loop
+next-body-requires : tie.Need-next_body-requires invariant-loop decreases-loop
 next-body-requires c κs = search (rules, laws)
 
-enum-known-span : tie.Need-enum-known-span invariant-loop decreases-loop
+enum-known-span : tie.Need-enum_known-span invariant-loop decreases-loop
 enum-known-span c = search (rules, laws)
 
-enum_told : tie.Need-enum-told invariant-loop decreases-loop
+enum_told : tie.Need-enum_told-1 invariant-loop decreases-loop
 enum_told c = search (rules, laws)
 
-returns : tie.Need-returns invariant-loop decreases-loop
+returns : tie.Need-returns-in_default invariant-loop decreases-loop
 returns c = search (rules, laws)
 
-count-body-requires : tie.Need-count-body-requires invariant-loop decreases-loop
+count-body-requires : tie.Need-count_body-requires invariant-loop decreases-loop
 count-body-requires c κs = (search (rules, laws), (search (rules, laws), (search (rules, laws), search (rules, laws))))
 
-add_at : tie.Need-overflow-add-at invariant-loop decreases-loop
+add_at : tie.Need-overflow_add-at invariant-loop decreases-loop
 add_at c = search (rules, laws)
 
-loop-less : tie.Need-loop-smaller invariant-loop decreases-loop
+loop-less : tie.Need-loop-span-smaller invariant-loop decreases-loop
 loop-less c = search (rules, laws)
 
-loop-again : tie.Need-loop-preserved invariant-loop decreases-loop
+loop-again : tie.Need-loop-span-preserved invariant-loop decreases-loop
 loop-again c = search (rules, laws)
 
 pub count_frames_spec : {M : Type 1} → statement M

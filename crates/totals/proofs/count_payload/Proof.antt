@@ -5,7 +5,7 @@ use borrow.Author.Rules.{rules}
 use Rattle.totals.proofs.count_payload.Statement.{statement}
 use Rattle.totals.proofs.count_payload.Tie as tie
 
-count-frames-requires : tie.Need-count-frames-requires
+count-frames-requires : tie.Need-count_frames-requires
 unfolding rates
 count-frames-requires c κs = (rates_right, (search (rules, laws), (search (rules, laws), search (rules, laws))))
 

@@ -7,43 +7,43 @@ use Rattle.totals.proofs.Laws.{laws}
 use Rattle.totals.proofs.raise.Statement.{statement}
 use Rattle.totals.proofs.raise.Tie as tie
 
-abbrev invariant-loop : tie.invariant-loop
+abbrev invariant-loop : tie.invariant-loop-i
 invariant-loop totals₀ sums i₀ totals i = Raising totals₀ totals sums i
 
-abbrev decreases-loop : tie.decreases-loop
+abbrev decreases-loop : tie.decreases-loop-i
 decreases-loop totals₀ sums i₀ totals i = length sums - i
 
-loop-holds : tie.Need-loop-init invariant-loop decreases-loop
+loop-holds : tie.Need-loop-i-init invariant-loop decreases-loop
 loop-holds c = search (rules, laws)
 
-mul-totals : tie.Need-overflow-mul-totals invariant-loop decreases-loop
+mul-totals : tie.Need-offset_bounds-sums-i invariant-loop decreases-loop
 mul-totals c = search (rules, laws)
 
-shared-slice-read-totals : tie.Need-shared-slice-read-totals invariant-loop decreases-loop
+shared-slice-read-totals : tie.Need-bounds-sums-i invariant-loop decreases-loop
 shared-slice-read-totals c = search (rules, laws)
 
-mul-totals-2 : tie.Need-overflow-mul-totals-2 invariant-loop decreases-loop
+mul-totals-2 : tie.Need-offset_bounds-totals-i invariant-loop decreases-loop
 mul-totals-2 c = search (rules, laws)
 
-slice-read-totals : tie.Need-slice-read-totals invariant-loop decreases-loop
+slice-read-totals : tie.Need-bounds-totals-i invariant-loop decreases-loop
 slice-read-totals c = search (rules, laws)
 
-add-totals : tie.Need-overflow-add-totals invariant-loop decreases-loop
+add-totals : tie.Need-overflow_add-totals invariant-loop decreases-loop
 add-totals c = search (rules, laws)
 
-slice-write-totals : tie.Need-slice-write-totals invariant-loop decreases-loop
+slice-write-totals : tie.Need-bounds-totals-i-in-loop-i invariant-loop decreases-loop
 slice-write-totals c = search (rules, laws)
 
-add-i : tie.Need-overflow-add-i invariant-loop decreases-loop
+add-i : tie.Need-overflow_add-i invariant-loop decreases-loop
 add-i c = search (rules, laws)
 
-loop-less : tie.Need-loop-smaller invariant-loop decreases-loop
+loop-less : tie.Need-loop-i-smaller invariant-loop decreases-loop
 loop-less c = search (rules, laws)
 
-loop-again : tie.Need-loop-preserved invariant-loop decreases-loop
+loop-again : tie.Need-loop-i-preserved invariant-loop decreases-loop
 loop-again c = search (rules, laws)
 
-same_length : tie.Need-same-length invariant-loop decreases-loop
+same_length : tie.Need-shape_of-totals invariant-loop decreases-loop
 same_length c = search (rules, laws)
 
 returns : tie.Need-returns invariant-loop decreases-loop

@@ -8,10 +8,10 @@ use Rattle.overlaps.proofs.Laws.{led_laws}
 use Rattle.overlaps.proofs.fields.is_led.Statement.{statement}
 use Rattle.overlaps.proofs.fields.is_led.Tie as tie
 
-abbrev invariant-loop : tie.invariant-loop
+abbrev invariant-loop : tie.invariant-loop-next
 invariant-loop text path a₀ b₀ level₀ at₀ a b level at = Leading text a₀ b₀ path a b level at
 
-abbrev decreases-loop : tie.decreases-loop
+abbrev decreases-loop : tie.decreases-loop-next
 decreases-loop text path a₀ b₀ level₀ at₀ a b level at = length path + 1 - at
 
 pub is_led_spec : {M : Type 1} → statement M

@@ -7,10 +7,10 @@ use Rattle.overlaps.proofs.Laws.{meet_laws}
 use Rattle.overlaps.proofs.fields.meet.Statement.{statement}
 use Rattle.overlaps.proofs.fields.meet.Tie as tie
 
-abbrev invariant-loop : tie.invariant-loop
+abbrev invariant-loop : tie.invariant-loop-field
 invariant-loop text level name a₀ b₀ a b = Meeting text a₀ b₀ level name a b
 
-abbrev decreases-loop : tie.decreases-loop
+abbrev decreases-loop : tie.decreases-loop-field
 decreases-loop text level name a₀ b₀ a b = length text - a.at
 
 pub meet_spec : {M : Type 1} → statement M

@@ -7,10 +7,10 @@ use Rattle.overlaps.proofs.Laws.{laws}
 use Rattle.overlaps.proofs.headers.all_apart.Statement.{statement}
 use Rattle.overlaps.proofs.headers.all_apart.Tie as tie
 
-abbrev invariant-loop : tie.invariant-loop
+abbrev invariant-loop : tie.invariant-loop-one
 invariant-loop text place₀ place = AllApart text place
 
-abbrev decreases-loop : tie.decreases-loop
+abbrev decreases-loop : tie.decreases-loop-one
 decreases-loop text place₀ place = length text - place.at
 
 pub all_apart_spec : {M : Type 1} → statement M

@@ -7,10 +7,10 @@ use Rattle.overlaps.proofs.Laws.{laws}
 use Rattle.overlaps.proofs.headers.find_header.Statement.{statement}
 use Rattle.overlaps.proofs.headers.find_header.Tie as tie
 
-abbrev invariant-loop : tie.invariant-loop
+abbrev invariant-loop : tie.invariant-loop-head
 invariant-loop text number place₀ left₀ place left = Counting text number left place
 
-abbrev decreases-loop : tie.decreases-loop
+abbrev decreases-loop : tie.decreases-loop-head
 decreases-loop text number place₀ left₀ place left = length text - place.at
 
 pub find_header_spec : {M : Type 1} → statement M

@@ -7,10 +7,10 @@ use Rattle.overlaps.proofs.Laws.{laws}
 use Rattle.overlaps.proofs.headers.is_apart.Statement.{statement}
 use Rattle.overlaps.proofs.headers.is_apart.Tie as tie
 
-abbrev invariant-loop : tie.invariant-loop
+abbrev invariant-loop : tie.invariant-loop-other
 invariant-loop text one place₀ place = Apart text one place
 
-abbrev decreases-loop : tie.decreases-loop
+abbrev decreases-loop : tie.decreases-loop-other
 decreases-loop text one place₀ place = length text - place.at
 
 pub is_apart_spec : {M : Type 1} → statement M

@@ -7,10 +7,10 @@ use Rattle.overlaps.proofs.Laws.{laws}
 use Rattle.overlaps.proofs.headers.next_header.Statement.{statement}
 use Rattle.overlaps.proofs.headers.next_header.Tie as tie
 
-abbrev invariant-loop : tie.invariant-loop
+abbrev invariant-loop : tie.invariant-loop-place
 invariant-loop text place₀ place = Looking text place₀ place
 
-abbrev decreases-loop : tie.decreases-loop
+abbrev decreases-loop : tie.decreases-loop-place
 decreases-loop text place₀ place = length text - place.at
 
 pub next_header_spec : {M : Type 1} → statement M

@@ -11,14 +11,14 @@ use Rattle.overlaps.proofs.Laws.{laws}
 use Rattle.overlaps.proofs.headers.tell_each.Statement.{statement}
 use Rattle.overlaps.proofs.headers.tell_each.Tie as tie
 
-abbrev invariant-loop : tie.invariant-loop
+abbrev invariant-loop : tie.invariant-loop-beside
 invariant-loop text one other path value place₀ most₀ place most = Most (tell_one (said_at text one) (said_at text other) (record {
   path = names
       (part_of text path);
   value = value;
 })) (tell_each (said_at text one) (said_at text other) (record { path = names (part_of text path); value = value })) text other place most
 
-abbrev decreases-loop : tie.decreases-loop
+abbrev decreases-loop : tie.decreases-loop-beside
 decreases-loop text one other path value place₀ most₀ place most = length text - place.at
 
 pub tell_each_spec : {M : Type 1} → statement M

@@ -8,10 +8,10 @@ use Rattle.overlaps.proofs.Laws.{laws}
 use Rattle.overlaps.proofs.lines.has_outer.Statement.{statement}
 use Rattle.overlaps.proofs.lines.has_outer.Tie as tie
 
-abbrev invariant-loop : tie.invariant-loop
+abbrev invariant-loop : tie.invariant-loop-field
 invariant-loop text name place₀ place = Left (has_outer name) text place₀ place
 
-abbrev decreases-loop : tie.decreases-loop
+abbrev decreases-loop : tie.decreases-loop-field
 decreases-loop text name place₀ place = length text - place.at
 
 pub has_outer_spec : {M : Type 1} → statement M

@@ -9,10 +9,10 @@ use Rattle.overlaps.proofs.Laws.{laws}
 use Rattle.overlaps.proofs.lines.is_clear.Statement.{statement}
 use Rattle.overlaps.proofs.lines.is_clear.Tie as tie
 
-abbrev invariant-loop : tie.invariant-loop
+abbrev invariant-loop : tie.invariant-loop-field
 invariant-loop text level order name place₀ place = Left (clear_of level order (part_of text name)) text place₀ place
 
-abbrev decreases-loop : tie.decreases-loop
+abbrev decreases-loop : tie.decreases-loop-field
 decreases-loop text level order name place₀ place = length text - place.at
 
 pub is_clear_spec : {M : Type 1} → statement M

@@ -8,10 +8,10 @@ use Rattle.overlaps.proofs.Laws.{laws}
 use Rattle.overlaps.proofs.lines.is_straight.Statement.{statement}
 use Rattle.overlaps.proofs.lines.is_straight.Tie as tie
 
-abbrev invariant-loop : tie.invariant-loop
+abbrev invariant-loop : tie.invariant-loop-field
 invariant-loop text place₀ place = Left straight text place₀ place
 
-abbrev decreases-loop : tie.decreases-loop
+abbrev decreases-loop : tie.decreases-loop-field
 decreases-loop text place₀ place = length text - place.at
 
 pub is_straight_spec : {M : Type 1} → statement M
