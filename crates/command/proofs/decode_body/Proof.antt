@@ -4,7 +4,7 @@ use Rattle.command.proofs.Decoding.{body_laws}
 use Rattle.command.proofs.decode_body.Statement.{statement}
 use Rattle.command.proofs.decode_body.Tie as tie
 
-write-body-requires-2 : tie.Need-write-body-requires-2
+write-body-requires-2 : tie.Need-write_body-requires-2
 write-body-requires-2 c κs = (search (rules, body_laws), search (rules, body_laws), search (rules, body_laws))
 
 pub decode_body_spec : {M : Type 1} → statement M
