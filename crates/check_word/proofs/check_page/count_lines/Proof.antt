@@ -7,10 +7,10 @@ use Rattle.readers.proofs.line_fields.Laws.{step_laws}
 use Rattle.check_word.proofs.check_page.count_lines.Statement.{statement}
 use Rattle.check_word.proofs.check_page.count_lines.Tie as tie
 
-abbrev invariant-loop : tie.invariant-loop
+abbrev invariant-loop : tie.invariant-loop-rest
 invariant-loop text letter n₀ at₀ n at = (at ≤ length text) × (n ≤ at)
 
-abbrev decreases-loop : tie.decreases-loop
+abbrev decreases-loop : tie.decreases-loop-rest
 decreases-loop text letter n₀ at₀ n at = length text - at
 
 pub count_lines_spec : {M : Type 1} → statement M

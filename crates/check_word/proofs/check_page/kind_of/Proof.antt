@@ -7,10 +7,10 @@ use Rattle.readers.proofs.line_fields.Laws.{step_laws}
 use Rattle.check_word.proofs.check_page.kind_of.Statement.{statement}
 use Rattle.check_word.proofs.check_page.kind_of.Tie as tie
 
-abbrev invariant-loop : tie.invariant-loop
+abbrev invariant-loop : tie.invariant-loop-rest
 invariant-loop text at₀ at = at ≤ length text
 
-abbrev decreases-loop : tie.decreases-loop
+abbrev decreases-loop : tie.decreases-loop-rest
 decreases-loop text at₀ at = length text - at
 
 pub kind_of_spec : {M : Type 1} → statement M

@@ -5,10 +5,10 @@ use lib.ListN.{length}
 use Rattle.check_word.proofs.check_page.say_tallies.Statement.{statement}
 use Rattle.check_word.proofs.check_page.say_tallies.Tie as tie
 
-abbrev invariant-loop : tie.invariant-loop
+abbrev invariant-loop : tie.invariant-loop-i
 invariant-loop text letters is-told₀ i₀ is-told i = i ≤ length letters
 
-abbrev decreases-loop : tie.decreases-loop
+abbrev decreases-loop : tie.decreases-loop-i
 decreases-loop text letters is-told₀ i₀ is-told i = length letters - i
 
 pub say_tallies_spec : {M : Type 1} → statement M

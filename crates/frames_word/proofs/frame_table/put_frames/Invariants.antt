@@ -1,0 +1,10 @@
+use Rattle.std.proofs.Common.{◌≡◌, ◌-◌}
+use Rattle.text.specs.declared.Verdict.TheVariants.{Accepted}
+use Rattle.frame_text.specs.Rules.{verdict}
+use Rattle.frames_word.proofs.frame_table.put_frames.Given as goal
+
+abbrev pub invariant-loop-i : goal.invariant-loop-i
+invariant-loop-i g l = verdict l.text ≡ Accepted
+
+abbrev pub decreases-loop-i : goal.decreases-loop-i
+decreases-loop-i g l = l.n - l.i
