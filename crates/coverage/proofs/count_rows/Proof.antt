@@ -5,10 +5,10 @@ use Rattle.coverage.proofs.Laws.{Counting, laws}
 use Rattle.coverage.proofs.count_rows.Statement.{statement}
 use Rattle.coverage.proofs.count_rows.Tie as tie
 
-abbrev invariant-loop : tie.invariant-loop
+abbrev invariant-loop : tie.invariant-loop-k
 invariant-loop rows n sets counts₀ k₀ counts k = Counting sets rows counts₀ counts k n
 
-abbrev decreases-loop : tie.decreases-loop
+abbrev decreases-loop : tie.decreases-loop-k
 decreases-loop rows n sets counts₀ k₀ counts k = n - k
 
 pub count_rows_spec : {M : Type 1} → statement M

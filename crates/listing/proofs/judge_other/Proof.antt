@@ -4,7 +4,7 @@ use borrow.Author.Rules.{rules}
 use Rattle.listing.proofs.judge_other.Statement.{statement}
 use Rattle.listing.proofs.judge_other.Tie as tie
 
-first-difference-requires : tie.Need-first-difference-requires
+first-difference-requires : tie.Need-first_difference-requires
 first-difference-requires c κs = (search (rules, laws), search (rules, laws))
 
 pub judge_other_spec : {M : Type 1} → statement M

@@ -7,10 +7,10 @@ use Rattle.sorting.proofs.Laws.{laws}
 use Rattle.sorting.proofs.collect.Statement.{statement}
 use Rattle.sorting.proofs.collect.Tie as tie
 
-abbrev invariant-loop : tie.invariant-loop
+abbrev invariant-loop : tie.invariant-loop-at
 invariant-loop text starts₀ n₀ at₀ starts n at = Collecting text starts at n
 
-abbrev decreases-loop : tie.decreases-loop
+abbrev decreases-loop : tie.decreases-loop-at
 decreases-loop text starts₀ n₀ at₀ starts n at = length text - at
 
 pub collect_spec : {M : Type 1} → statement M

@@ -7,10 +7,10 @@ use Rattle.sorting.proofs.Laws.{laws}
 use Rattle.sorting.proofs.insert.Statement.{statement}
 use Rattle.sorting.proofs.insert.Tie as tie
 
-abbrev invariant-loop : tie.invariant-loop
+abbrev invariant-loop : tie.invariant-loop-i
 invariant-loop text starts₀ k it i₀ starts i = Inserting text starts₀ starts k i it
 
-abbrev decreases-loop : tie.decreases-loop
+abbrev decreases-loop : tie.decreases-loop-i
 decreases-loop text starts₀ k it i₀ starts i = length starts₀ - i
 
 pub insert_spec : {M : Type 1} → statement M

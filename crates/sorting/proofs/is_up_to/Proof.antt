@@ -8,10 +8,10 @@ use Rattle.sorting.proofs.Laws.{laws}
 use Rattle.sorting.proofs.is_up_to.Statement.{statement}
 use Rattle.sorting.proofs.is_up_to.Tie as tie
 
-abbrev invariant-loop : tie.invariant-loop
+abbrev invariant-loop : tie.invariant-loop-i
 invariant-loop a b i₀ i = up_to a b ≡ up_to (drop i a) (drop i b)
 
-abbrev decreases-loop : tie.decreases-loop
+abbrev decreases-loop : tie.decreases-loop-i
 decreases-loop a b i₀ i = length a - i
 
 pub is_up_to_spec : {M : Type 1} → statement M

@@ -7,10 +7,10 @@ use Rattle.sorting.proofs.Laws.{laws}
 use Rattle.sorting.proofs.section_end.Statement.{statement}
 use Rattle.sorting.proofs.section_end.Tie as tie
 
-abbrev invariant-loop : tie.invariant-loop
+abbrev invariant-loop : tie.invariant-loop-at
 invariant-loop text start at₀ at = Reaches text start at
 
-abbrev decreases-loop : tie.decreases-loop
+abbrev decreases-loop : tie.decreases-loop-at
 decreases-loop text start at₀ at = length text - at
 
 pub section_end_spec : {M : Type 1} → statement M

@@ -5,10 +5,10 @@ use Rattle.sorting.proofs.Laws.{laws}
 use Rattle.sorting.proofs.sort.Statement.{statement}
 use Rattle.sorting.proofs.sort.Tie as tie
 
-abbrev invariant-loop : tie.invariant-loop
+abbrev invariant-loop : tie.invariant-loop-k
 invariant-loop text starts₀ k₀ starts k = Sorting text starts₀ starts k
 
-abbrev decreases-loop : tie.decreases-loop
+abbrev decreases-loop : tie.decreases-loop-k
 decreases-loop text starts₀ k₀ starts k = k
 
 pub sort_spec : {M : Type 1} → statement M

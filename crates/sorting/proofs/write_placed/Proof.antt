@@ -7,10 +7,10 @@ use Rattle.sorting.proofs.Laws.{laws}
 use Rattle.sorting.proofs.write_placed.Statement.{statement}
 use Rattle.sorting.proofs.write_placed.Tie as tie
 
-abbrev invariant-loop : tie.invariant-loop
+abbrev invariant-loop : tie.invariant-loop-at
 invariant-loop text starts buffer₀ at₀ out₀ used₀ buffer at out used = Placing text starts buffer₀ buffer at out used
 
-abbrev decreases-loop : tie.decreases-loop
+abbrev decreases-loop : tie.decreases-loop-at
 decreases-loop text starts buffer₀ at₀ out₀ used₀ buffer at out used = length text - at
 
 pub write_placed_spec : {M : Type 1} → statement M

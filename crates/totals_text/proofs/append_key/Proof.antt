@@ -9,7 +9,6 @@ append_key_spec =
     tie.close
     (tie.spec
     (λ c. search (rules, laws))
-    (λ c. search (rules, laws))
     (λ c κs. search (rules, laws))
     (λ c κs. search (rules, laws))
     (λ c κs. search (rules, laws))

@@ -6,34 +6,34 @@ use Rattle.totals_text.proofs.Laws.{Keying, laws}
 use Rattle.totals_text.proofs.append_keys.Statement.{statement}
 use Rattle.totals_text.proofs.append_keys.Tie as tie
 
-abbrev invariant-loop : tie.invariant-loop
+abbrev invariant-loop : tie.invariant-loop-i
 invariant-loop totals buffer₀ at₀ i₀ buffer at i = Keying totals buffer₀ buffer at i
 
-abbrev decreases-loop : tie.decreases-loop
+abbrev decreases-loop : tie.decreases-loop-i
 decreases-loop totals buffer₀ at₀ i₀ buffer at i = wrong_at - i
 
-loop-holds : tie.Need-loop-init invariant-loop decreases-loop
+loop-holds : tie.Need-loop-i-init invariant-loop decreases-loop
 loop-holds c = search (rules, laws)
 
-mul-append-key : tie.Need-overflow-mul-append-key invariant-loop decreases-loop
+mul-append-key : tie.Need-offset_bounds-totals-i invariant-loop decreases-loop
 mul-append-key c = search (rules, laws)
 
-shared-slice-read-append-key : tie.Need-shared-slice-read-append-key invariant-loop decreases-loop
+shared-slice-read-append-key : tie.Need-bounds-totals-i invariant-loop decreases-loop
 shared-slice-read-append-key c = search (rules, laws)
 
-append-key-requires : tie.Need-append-key-requires invariant-loop decreases-loop
+append-key-requires : tie.Need-append_key-at-requires invariant-loop decreases-loop
 append-key-requires c κs = search (rules, laws)
 
-add-i : tie.Need-overflow-add-i invariant-loop decreases-loop
+add-i : tie.Need-overflow_add-i invariant-loop decreases-loop
 add-i c = search (rules, laws)
 
-loop-less : tie.Need-loop-smaller invariant-loop decreases-loop
+loop-less : tie.Need-loop-i-smaller invariant-loop decreases-loop
 loop-less c = search (rules, laws)
 
-loop-again : tie.Need-loop-preserved invariant-loop decreases-loop
+loop-again : tie.Need-loop-i-preserved invariant-loop decreases-loop
 loop-again c = search (rules, laws)
 
-same_length : tie.Need-same-length invariant-loop decreases-loop
+same_length : tie.Need-shape_of-buffer invariant-loop decreases-loop
 same_length c = search (rules, laws)
 
 returns : tie.Need-returns invariant-loop decreases-loop

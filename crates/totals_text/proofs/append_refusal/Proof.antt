@@ -8,7 +8,6 @@ pub append_refusal_spec : {M : Type 1} → statement M
 append_refusal_spec =
     tie.close
     (tie.spec
-    (λ c. search (rules, laws))
     (λ c κs. search (rules, laws))
     (λ c κs. search (rules, laws))
     (λ c. search (rules, laws))

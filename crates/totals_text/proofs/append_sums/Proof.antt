@@ -9,15 +9,11 @@ append_sums_spec =
     tie.close
     (tie.spec
     (λ c. search (rules, laws))
+    (λ c κs. search (rules, laws))
     (λ c. search (rules, laws))
     (λ c κs. search (rules, laws))
     (λ c. search (rules, laws))
-    (λ c. search (rules, laws))
     (λ c κs. search (rules, laws))
-    (λ c. search (rules, laws))
-    (λ c. search (rules, laws))
-    (λ c κs. search (rules, laws))
-    (λ c. search (rules, laws))
     (λ c. search (rules, laws))
     (λ c κs. search (rules, laws))
     (λ c. search (rules, laws))
