@@ -4,10 +4,10 @@ use borrow.Author.Rules.{rules}
 use Rattle.header_value.proofs.value_accepted.Statement.{statement}
 use Rattle.header_value.proofs.value_accepted.Tie as tie
 
-row-value-requires : tie.Need-row-value-requires
+row-value-requires : tie.Need-row_value-requires
 row-value-requires c κs =
-    let dec = c.before.before.before.before.before.before.before.before.decode-row.ensures in
-    (search (rules, laws), row-stands _ _ _ _ _ _ _ dec _ c.before.before.before.before.before.header.given.1 (search rules) (search rules))
+    let dec = c.decode_row.ensures in
+    (search (rules, laws), row-stands _ _ _ _ _ _ _ dec _ c.in-Header.is (search rules) (search rules))
 
 pub value_accepted_spec : {M : Type 1} → statement M
 value_accepted_spec =

@@ -7,10 +7,10 @@ use Rattle.header_value.proofs.Laws.{laws}
 use Rattle.header_value.proofs.lookup.entry_text.Statement.{statement}
 use Rattle.header_value.proofs.lookup.entry_text.Tie as tie
 
-abbrev invariant-loop : tie.invariant-loop
+abbrev invariant-loop : tie.invariant-loop-place
 invariant-loop text n place₀ left₀ place left = Entering text place₀ n place left
 
-abbrev decreases-loop : tie.decreases-loop
+abbrev decreases-loop : tie.decreases-loop-place
 decreases-loop text n place₀ left₀ place left = length text - place.at
 
 pub entry_text_spec : {M : Type 1} → statement M
