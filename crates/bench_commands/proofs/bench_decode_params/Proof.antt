@@ -7,10 +7,10 @@ use Rattle.bench_commands.proofs.Laws.{laws}
 use Rattle.bench_commands.proofs.bench_decode_params.Statement.{statement}
 use Rattle.bench_commands.proofs.bench_decode_params.Tie as tie
 
-abbrev invariant-loop : tie.invariant-loop
+abbrev invariant-loop : tie.invariant-loop-k
 invariant-loop text payload rows₀ times k₀ rows k = length rows ≡ length rows₀
 
-abbrev decreases-loop : tie.decreases-loop
+abbrev decreases-loop : tie.decreases-loop-k
 decreases-loop text payload rows₀ times k₀ rows k = times - k
 
 pub bench_decode_params_spec : {M : Type 1} → statement M

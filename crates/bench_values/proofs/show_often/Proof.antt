@@ -7,10 +7,10 @@ use Rattle.bench_values.proofs.Laws.{laws}
 use Rattle.bench_values.proofs.show_often.Statement.{statement}
 use Rattle.bench_values.proofs.show_often.Tie as tie
 
-abbrev invariant-loop : tie.invariant-loop
+abbrev invariant-loop : tie.invariant-loop-k
 invariant-loop text mpdu region speed row buffer₀ times k₀ buffer k = length buffer ≡ length buffer₀
 
-abbrev decreases-loop : tie.decreases-loop
+abbrev decreases-loop : tie.decreases-loop-k
 decreases-loop text mpdu region speed row buffer₀ times k₀ buffer k = times - k
 
 pub show_often_spec : {M : Type 1} → statement M

@@ -8,10 +8,10 @@ use Rattle.bench_walks.proofs.Laws.{laws}
 use Rattle.bench_walks.proofs.bench_find.Statement.{statement}
 use Rattle.bench_walks.proofs.bench_find.Tie as tie
 
-abbrev invariant-loop : tie.invariant-loop
+abbrev invariant-loop : tie.invariant-loop-k
 invariant-loop text region speed many times found₀ k₀ found k = verdict text ≡ Accepted
 
-abbrev decreases-loop : tie.decreases-loop
+abbrev decreases-loop : tie.decreases-loop-k
 decreases-loop text region speed many times found₀ k₀ found k = times - k
 
 pub bench_find_spec : {M : Type 1} → statement M

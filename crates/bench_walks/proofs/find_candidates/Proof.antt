@@ -6,10 +6,10 @@ use Rattle.bench_walks.proofs.Laws.{laws}
 use Rattle.bench_walks.proofs.find_candidates.Statement.{statement}
 use Rattle.bench_walks.proofs.find_candidates.Tie as tie
 
-abbrev invariant-loop : tie.invariant-loop
+abbrev invariant-loop : tie.invariant-loop-m
 invariant-loop text key many place₀ h₀ n₀ m₀ place h n m = Counted text place h n
 
-abbrev decreases-loop : tie.decreases-loop
+abbrev decreases-loop : tie.decreases-loop-m
 decreases-loop text key many place₀ h₀ n₀ m₀ place h n m = many - m
 
 pub find_candidates_spec : {M : Type 1} → statement M

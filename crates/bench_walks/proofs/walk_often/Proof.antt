@@ -7,10 +7,10 @@ use Rattle.bench_walks.proofs.Laws.{laws}
 use Rattle.bench_walks.proofs.walk_often.Statement.{statement}
 use Rattle.bench_walks.proofs.walk_often.Tie as tie
 
-abbrev invariant-loop : tie.invariant-loop
+abbrev invariant-loop : tie.invariant-loop-k
 invariant-loop text mpdu fields first «from» scratch₀ times count bit₀ rows₀ k₀ scratch bit rows k = length scratch ≡ length scratch₀
 
-abbrev decreases-loop : tie.decreases-loop
+abbrev decreases-loop : tie.decreases-loop-k
 decreases-loop text mpdu fields first «from» scratch₀ times count bit₀ rows₀ k₀ scratch bit rows k = times - k
 
 pub walk_often_spec : {M : Type 1} → statement M

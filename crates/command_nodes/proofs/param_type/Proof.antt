@@ -6,10 +6,10 @@ use Rattle.command_nodes.proofs.Laws.{Typing, laws}
 use Rattle.command_nodes.proofs.param_type.Statement.{statement}
 use Rattle.command_nodes.proofs.param_type.Tie as tie
 
-abbrev invariant-loop : tie.invariant-loop
+abbrev invariant-loop : tie.invariant-loop-place
 invariant-loop text line place₀ place = Typing text line place
 
-abbrev decreases-loop : tie.decreases-loop
+abbrev decreases-loop : tie.decreases-loop-place
 decreases-loop text line place₀ place = length text - place.at
 
 pub param_type_spec : {M : Type 1} → statement M

@@ -6,10 +6,10 @@ use Rattle.tidy.proofs.Laws.{Tidying, laws}
 use Rattle.tidy.proofs.write_tidied.Statement.{statement}
 use Rattle.tidy.proofs.write_tidied.Tie as tie
 
-abbrev invariant-loop : tie.invariant-loop
+abbrev invariant-loop : tie.invariant-loop-i
 invariant-loop text buffer₀ i₀ first₀ buffer i first = Tidying text buffer₀ buffer i first
 
-abbrev decreases-loop : tie.decreases-loop
+abbrev decreases-loop : tie.decreases-loop-i
 decreases-loop text buffer₀ i₀ first₀ buffer i first = length text - i
 
 pub write_tidied_spec : {M : Type 1} → statement M

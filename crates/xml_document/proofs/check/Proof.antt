@@ -7,10 +7,10 @@ use Rattle.xml_document.proofs.Laws.{check_laws}
 use Rattle.xml_document.proofs.check.Statement.{statement}
 use Rattle.xml_document.proofs.check.Tie as tie
 
-abbrev invariant-loop : tie.invariant-loop
+abbrev invariant-loop : tie.invariant-loop-rest
 invariant-loop x d₀ at₀ d at = Sofar x d at
 
-abbrev decreases-loop : tie.decreases-loop
+abbrev decreases-loop : tie.decreases-loop-rest
 decreases-loop x d₀ at₀ d at = length x - at
 
 pub check_spec : {M : Type 1} → statement M

@@ -10,7 +10,6 @@ is_declaration_spec =
     (tie.spec
     (λ c. search (rules, start_laws))
     (λ c. search (rules, start_laws))
-    (λ c. search (rules, start_laws))
     (λ c κs. search (rules, start_laws))
     (λ c. search (rules, start_laws))
     (λ c κs. search (rules, start_laws))

@@ -7,10 +7,10 @@ use Rattle.xml_draft.proofs.Laws.{byte_laws}
 use Rattle.xml_draft.proofs.put_all.Statement.{statement}
 use Rattle.xml_draft.proofs.put_all.Tie as tie
 
-abbrev invariant-loop : tie.invariant-loop
+abbrev invariant-loop : tie.invariant-loop-i
 invariant-loop out₀ n s next₀ i₀ out next i = (i ≤ length s) × Going out₀ n s out next (drop i s)
 
-abbrev decreases-loop : tie.decreases-loop
+abbrev decreases-loop : tie.decreases-loop-i
 decreases-loop out₀ n s next₀ i₀ out next i = length s - i
 
 pub put_all_spec : {M : Type 1} → statement M

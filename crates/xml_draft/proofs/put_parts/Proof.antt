@@ -9,11 +9,11 @@ use Rattle.xml_draft.proofs.Laws.{parts_laws}
 use Rattle.xml_draft.proofs.put_parts.Statement.{statement}
 use Rattle.xml_draft.proofs.put_parts.Tie as tie
 
-abbrev invariant-loop : tie.invariant-loop
+abbrev invariant-loop : tie.invariant-loop-n
 invariant-loop out₀ n s next₀ at₀ out next at =
     (at ≤ length s) × Going out₀ n (parts (split 38 s)) out next (parts (split 38 (drop at s)))
 
-abbrev decreases-loop : tie.decreases-loop
+abbrev decreases-loop : tie.decreases-loop-n
 decreases-loop out₀ n s next₀ at₀ out next at = length s - at
 
 pub put_parts_spec : {M : Type 1} → statement M

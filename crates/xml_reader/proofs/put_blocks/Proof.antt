@@ -7,10 +7,10 @@ use Rattle.xml_reader.proofs.Laws.{blocking_laws}
 use Rattle.xml_reader.proofs.put_blocks.Statement.{statement}
 use Rattle.xml_reader.proofs.put_blocks.Tie as tie
 
-abbrev invariant-loop : tie.invariant-loop
+abbrev invariant-loop : tie.invariant-loop-rest
 invariant-loop x at w out₀ n here₀ from₀ next₀ out here from next = Blocking out₀ out x w at n here from next
 
-abbrev decreases-loop : tie.decreases-loop
+abbrev decreases-loop : tie.decreases-loop-rest
 decreases-loop x at w out₀ n here₀ from₀ next₀ out here from next = length x - from
 
 pub put_blocks_spec : {M : Type 1} → statement M

@@ -5,7 +5,7 @@ use borrow.Author.Rules.{rules}
 use Rattle.xml_reader.proofs.put_values.Statement.{statement}
 use Rattle.xml_reader.proofs.put_values.Tie as tie
 
-part-put-fields-end : tie.Need-slice-bounds-put-fields-end
+part-put-fields-end : tie.Need-slice_bounds-put_fields-end
 unfolding table
 part-put-fields-end c = search (rules, values_laws)
 

@@ -11,14 +11,14 @@ use Rattle.xml_tags.proofs.Laws.{laws}
 use Rattle.xml_tags.proofs.fault_of.Statement.{statement}
 use Rattle.xml_tags.proofs.fault_of.Tie as tie
 
-abbrev invariant-loop : tie.invariant-loop
+abbrev invariant-loop : tie.invariant-loop-e
 invariant-loop row body inside at₀ at =
     (at ≤ length body) × (fault (drop 1 (fields row)) inside (split 34 body) ≡ fault (drop 1 (fields row)) (inside + at) (split 34 (drop at body)))
 
-abbrev decreases-loop : tie.decreases-loop
+abbrev decreases-loop : tie.decreases-loop-e
 decreases-loop row body inside at₀ at = length body - at
 
-loop-holds : tie.Need-loop-init invariant-loop decreases-loop
+loop-holds : tie.Need-loop-e-init invariant-loop decreases-loop
 loop-holds c = (omega arith, rw add-zero)
 
 pub fault_of_spec : {M : Type 1} → statement M

@@ -9,10 +9,10 @@ use Rattle.xml_tags.proofs.Laws.{laws}
 use Rattle.xml_tags.proofs.has.Statement.{statement}
 use Rattle.xml_tags.proofs.has.Tie as tie
 
-abbrev invariant-loop : tie.invariant-loop
+abbrev invariant-loop : tie.invariant-loop-e
 invariant-loop body n at₀ at = (at ≤ length body) × (has n (split 34 body) ≡ has n (split 34 (drop at body)))
 
-abbrev decreases-loop : tie.decreases-loop
+abbrev decreases-loop : tie.decreases-loop-e
 decreases-loop body n at₀ at = length body - at
 
 pub has_spec : {M : Type 1} → statement M

@@ -9,11 +9,11 @@ use Rattle.xml_tags.proofs.Laws.{laws}
 use Rattle.xml_tags.proofs.is_whole.Statement.{statement}
 use Rattle.xml_tags.proofs.is_whole.Tie as tie
 
-abbrev invariant-loop : tie.invariant-loop
+abbrev invariant-loop : tie.invariant-loop-a
 invariant-loop row body at₀ at =
     (at ≤ length row) × (whole (drop 1 (fields row)) (split 34 body) ≡ whole (drop 1 (fields (drop at row))) (split 34 body))
 
-abbrev decreases-loop : tie.decreases-loop
+abbrev decreases-loop : tie.decreases-loop-a
 decreases-loop row body at₀ at = length row - at
 
 pub is_whole_spec : {M : Type 1} → statement M

@@ -5,7 +5,7 @@ use borrow.Author.Rules.{rules}
 use Rattle.xml_tags.proofs.judge_start.Statement.{statement}
 use Rattle.xml_tags.proofs.judge_start.Tie as tie
 
-part-judge-tag-end : tie.Need-slice-bounds-judge-tag-end
+part-judge-tag-end : tie.Need-slice_bounds-judge_tag-end
 unfolding table
 part-judge-tag-end c = search (rules, laws)
 

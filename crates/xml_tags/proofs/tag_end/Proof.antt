@@ -9,10 +9,10 @@ use Rattle.xml_tags.proofs.Laws.{laws}
 use Rattle.xml_tags.proofs.tag_end.Statement.{statement}
 use Rattle.xml_tags.proofs.tag_end.Tie as tie
 
-abbrev invariant-loop : tie.invariant-loop
+abbrev invariant-loop : tie.invariant-loop-i
 invariant-loop s quoted₀ i₀ quoted i = (i ≤ length s) × (tag_end false s ≡ i + tag_end quoted (drop i s))
 
-abbrev decreases-loop : tie.decreases-loop
+abbrev decreases-loop : tie.decreases-loop-i
 decreases-loop s quoted₀ i₀ quoted i = length s - i
 
 pub tag_end_spec : {M : Type 1} → statement M

@@ -9,11 +9,11 @@ use Rattle.xml_tags.proofs.Laws.{laws}
 use Rattle.xml_tags.proofs.value_of.Statement.{statement}
 use Rattle.xml_tags.proofs.value_of.Tie as tie
 
-abbrev invariant-loop : tie.invariant-loop
+abbrev invariant-loop : tie.invariant-loop-e
 invariant-loop body n at₀ at =
     (at ≤ length body) × (value_of n (split 34 body) ≡ value_of n (split 34 (drop at body)))
 
-abbrev decreases-loop : tie.decreases-loop
+abbrev decreases-loop : tie.decreases-loop-e
 decreases-loop body n at₀ at = length body - at
 
 pub value_of_spec : {M : Type 1} → statement M

@@ -7,10 +7,10 @@ use Rattle.command_value.proofs.Laws.{laws}
 use Rattle.command_value.proofs.lookup.find_line.Statement.{statement}
 use Rattle.command_value.proofs.lookup.find_line.Tie as tie
 
-abbrev invariant-loop : tie.invariant-loop
+abbrev invariant-loop : tie.invariant-loop-place
 invariant-loop text n place₀ place = Lining text n place
 
-abbrev decreases-loop : tie.decreases-loop
+abbrev decreases-loop : tie.decreases-loop-place
 decreases-loop text n place₀ place = length text - place.at
 
 pub find_line_spec : {M : Type 1} → statement M

@@ -7,10 +7,10 @@ use Rattle.command_value.proofs.Laws.{laws}
 use Rattle.command_value.proofs.lookup.shown_by.Statement.{statement}
 use Rattle.command_value.proofs.lookup.shown_by.Tie as tie
 
-abbrev invariant-loop : tie.invariant-loop
+abbrev invariant-loop : tie.invariant-loop-place
 invariant-loop text n place₀ array₀ variant₀ shown₀ place array variant shown = Showing text place₀ n array variant shown place
 
-abbrev decreases-loop : tie.decreases-loop
+abbrev decreases-loop : tie.decreases-loop-place
 decreases-loop text n place₀ array₀ variant₀ shown₀ place array variant shown = length text - place.at
 
 pub shown_by_spec : {M : Type 1} → statement M
