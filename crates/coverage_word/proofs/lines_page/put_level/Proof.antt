@@ -4,10 +4,10 @@ use Rattle.coverage_word.proofs.Laws.{laws}
 use Rattle.coverage_word.proofs.lines_page.put_level.Statement.{statement}
 use Rattle.coverage_word.proofs.lines_page.put_level.Tie as tie
 
-abbrev invariant-loop : tie.invariant-loop
+abbrev invariant-loop : tie.invariant-loop-level
 invariant-loop out₀ at field place₀ level₀ t6 out place level = Unit {0}
 
-abbrev decreases-loop : tie.decreases-loop
+abbrev decreases-loop : tie.decreases-loop-level
 decreases-loop out₀ at field place₀ level₀ t6 out place level = level
 
 pub put_level_spec : {M : Type 1} → statement M
@@ -16,7 +16,6 @@ put_level_spec =
     (tie.spec
     invariant-loop
     decreases-loop
-    (λ c. search (rules, laws))
     (λ c. search (rules, laws))
     (λ c. search (rules, laws))
     (λ c. search (rules, laws))

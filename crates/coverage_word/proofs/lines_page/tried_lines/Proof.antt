@@ -4,10 +4,10 @@ use Rattle.coverage_word.proofs.Laws.{laws}
 use Rattle.coverage_word.proofs.lines_page.tried_lines.Statement.{statement}
 use Rattle.coverage_word.proofs.lines_page.tried_lines.Tie as tie
 
-abbrev invariant-loop : tie.invariant-loop
+abbrev invariant-loop : tie.invariant-loop-at
 invariant-loop text counts kind all₀ walk₀ at₀ all walk at = Unit {0}
 
-abbrev decreases-loop : tie.decreases-loop
+abbrev decreases-loop : tie.decreases-loop-at
 decreases-loop text counts kind all₀ walk₀ at₀ all walk at = length text - at
 
 pub tried_lines_spec : {M : Type 1} → statement M

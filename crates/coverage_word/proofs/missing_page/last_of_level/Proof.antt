@@ -4,10 +4,10 @@ use Rattle.coverage_word.proofs.Laws.{laws}
 use Rattle.coverage_word.proofs.missing_page.last_of_level.Statement.{statement}
 use Rattle.coverage_word.proofs.missing_page.last_of_level.Tie as tie
 
-abbrev invariant-loop : tie.invariant-loop
+abbrev invariant-loop : tie.invariant-loop-at
 invariant-loop text from end digit found₀ at₀ found at = Unit {0}
 
-abbrev decreases-loop : tie.decreases-loop
+abbrev decreases-loop : tie.decreases-loop-at
 decreases-loop text from end digit found₀ at₀ found at = length text - at
 
 pub last_of_level_spec : {M : Type 1} → statement M

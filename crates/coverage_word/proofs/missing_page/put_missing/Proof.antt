@@ -4,10 +4,10 @@ use Rattle.coverage_word.proofs.Laws.{laws}
 use Rattle.coverage_word.proofs.missing_page.put_missing.Statement.{statement}
 use Rattle.coverage_word.proofs.missing_page.put_missing.Tie as tie
 
-abbrev invariant-loop : tie.invariant-loop
+abbrev invariant-loop : tie.invariant-loop-at
 invariant-loop text counts out₀ before place₀ walk₀ owner₀ is-hidden₀ at₀ out place walk owner is_hidden at = Unit {0}
 
-abbrev decreases-loop : tie.decreases-loop
+abbrev decreases-loop : tie.decreases-loop-at
 decreases-loop text counts out₀ before place₀ walk₀ owner₀ is-hidden₀ at₀ out place walk owner is_hidden at = length text - at
 
 pub put_missing_spec : {M : Type 1} → statement M

@@ -4,10 +4,10 @@ use Rattle.coverage_word.proofs.Laws.{laws}
 use Rattle.coverage_word.proofs.missing_page.put_path.Statement.{statement}
 use Rattle.coverage_word.proofs.missing_page.put_path.Tie as tie
 
-abbrev invariant-loop : tie.invariant-loop
+abbrev invariant-loop : tie.invariant-loop-digit
 invariant-loop out₀ before text owner at row place₀ digit₀ out place digit = Unit {0}
 
-abbrev decreases-loop : tie.decreases-loop
+abbrev decreases-loop : tie.decreases-loop-digit
 decreases-loop out₀ before text owner at row place₀ digit₀ out place digit = 56 - digit
 
 pub put_path_spec : {M : Type 1} → statement M

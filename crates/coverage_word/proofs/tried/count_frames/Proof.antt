@@ -6,10 +6,10 @@ use Rattle.coverage_word.proofs.Laws.{laws}
 use Rattle.coverage_word.proofs.tried.count_frames.Statement.{statement}
 use Rattle.coverage_word.proofs.tried.count_frames.Tie as tie
 
-abbrev invariant-loop : tie.invariant-loop
+abbrev invariant-loop : tie.invariant-loop-span
 invariant-loop text options payload sets counts₀ at₀ counts at = (0 < at) × (verdict text ≡ Accepted)
 
-abbrev decreases-loop : tie.decreases-loop
+abbrev decreases-loop : tie.decreases-loop-span
 decreases-loop text options payload sets counts₀ at₀ counts at = length payload - at
 
 pub count_frames_spec : {M : Type 1} → statement M

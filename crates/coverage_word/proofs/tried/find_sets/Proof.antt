@@ -4,10 +4,10 @@ use Rattle.coverage_word.proofs.tried.Laws.{Fills, fills_laws}
 use Rattle.coverage_word.proofs.tried.find_sets.Statement.{statement}
 use Rattle.coverage_word.proofs.tried.find_sets.Tie as tie
 
-abbrev invariant-loop : tie.invariant-loop
+abbrev invariant-loop : tie.invariant-loop-at
 invariant-loop text sets₀ at₀ k₀ sets at k = Fills text sets sets₀ at k
 
-abbrev decreases-loop : tie.decreases-loop
+abbrev decreases-loop : tie.decreases-loop-at
 decreases-loop text sets₀ at₀ k₀ sets at k = length text - at
 
 pub find_sets_spec : {M : Type 1} → statement M

@@ -4,10 +4,10 @@ use Rattle.coverage_word.proofs.tried.Laws.{Names, names_laws}
 use Rattle.coverage_word.proofs.tried.set_number.Statement.{statement}
 use Rattle.coverage_word.proofs.tried.set_number.Tie as tie
 
-abbrev invariant-loop : tie.invariant-loop
+abbrev invariant-loop : tie.invariant-loop-at
 invariant-loop text name at₀ k₀ at k = Names text name at k
 
-abbrev decreases-loop : tie.decreases-loop
+abbrev decreases-loop : tie.decreases-loop-at
 decreases-loop text name at₀ k₀ at k = length text - at
 
 pub set_number_spec : {M : Type 1} → statement M

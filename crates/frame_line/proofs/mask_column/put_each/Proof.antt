@@ -3,10 +3,10 @@ use Rattle.std.proofs.Common.{◌-◌, length, rules}
 use Rattle.frame_line.proofs.mask_column.put_each.Statement.{statement}
 use Rattle.frame_line.proofs.mask_column.put_each.Tie as tie
 
-abbrev invariant-loop : tie.invariant-loop
+abbrev invariant-loop : tie.invariant-loop-i
 invariant-loop out₀ at nodes place₀ i₀ t6 out place i = Unit
 
-abbrev decreases-loop : tie.decreases-loop
+abbrev decreases-loop : tie.decreases-loop-i
 decreases-loop out₀ at nodes place₀ i₀ t6 out place i = length nodes - i
 
 pub put_each_spec : {M : Type 1} → statement M
@@ -15,7 +15,6 @@ put_each_spec =
     (tie.spec
     invariant-loop
     decreases-loop
-    (λ c. search rules)
     (λ c. search rules)
     (λ c. search rules)
     (λ c. search rules)

@@ -8,12 +8,10 @@ pub put_shown_spec : {M : Type 1} → statement M
 put_shown_spec =
     tie.close
     (tie.spec
+    (λ c κs. search rules)
     (λ c. search rules)
     (λ c κs. search rules)
     (λ c. search rules)
     (λ c. search rules)
-    (λ c κs. search rules)
-    (λ c. search rules)
-    (λ c. search (rules, front_count))
     (λ c κs. search rules)
     (λ c. search rules))

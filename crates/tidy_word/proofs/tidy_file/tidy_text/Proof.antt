@@ -15,7 +15,6 @@ tidy_text_spec =
     (λ c. search (rules, front_count, length-within))
     (λ c κs. search (rules, front_count, length-within))
     (λ c. search (rules, front_count, length-within))
-    (λ c. search (rules, front_count, length-within))
     (λ c κs. search (rules, front_count, length-within))
     (λ c. search (rules, front_count, length-within))
     (λ c. search (rules, front_count, length-within))
