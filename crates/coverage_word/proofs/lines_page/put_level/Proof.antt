@@ -5,10 +5,10 @@ use Rattle.coverage_word.proofs.lines_page.put_level.Statement.{statement}
 use Rattle.coverage_word.proofs.lines_page.put_level.Tie as tie
 
 abbrev invariant-loop : tie.invariant-loop-level
-invariant-loop out₀ at field place₀ level₀ t6 out place level = Unit {0}
+invariant-loop out₀ at field place₀ level₀ out place level = Unit {0}
 
 abbrev decreases-loop : tie.decreases-loop-level
-decreases-loop out₀ at field place₀ level₀ t6 out place level = level
+decreases-loop out₀ at field place₀ level₀ out place level = level
 
 pub put_level_spec : {M : Type 1} → statement M
 put_level_spec =

@@ -4,10 +4,10 @@ use Rattle.frame_line.proofs.mask_column.put_each.Statement.{statement}
 use Rattle.frame_line.proofs.mask_column.put_each.Tie as tie
 
 abbrev invariant-loop : tie.invariant-loop-i
-invariant-loop out₀ at nodes place₀ i₀ t6 out place i = Unit
+invariant-loop out₀ at nodes place₀ i₀ out place i = Unit
 
 abbrev decreases-loop : tie.decreases-loop-i
-decreases-loop out₀ at nodes place₀ i₀ t6 out place i = length nodes - i
+decreases-loop out₀ at nodes place₀ i₀ out place i = length nodes - i
 
 pub put_each_spec : {M : Type 1} → statement M
 put_each_spec =

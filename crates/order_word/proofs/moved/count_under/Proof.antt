@@ -3,10 +3,10 @@ use Rattle.std.proofs.Common.{◌-◌, length, rules}
 use Rattle.order_word.proofs.moved.count_under.Statement.{statement}
 use Rattle.order_word.proofs.moved.count_under.Tie as tie
 
-abbrev invariant-loop : tie.invariant-loop
+abbrev invariant-loop : tie.invariant-loop-at
 invariant-loop text start at₀ n₀ at n = Unit {0}
 
-abbrev decreases-loop : tie.decreases-loop
+abbrev decreases-loop : tie.decreases-loop-at
 decreases-loop text start at₀ n₀ at n = length text - at
 
 pub count_under_spec : {M : Type 1} → statement M

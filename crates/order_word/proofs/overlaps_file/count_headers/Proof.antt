@@ -3,10 +3,10 @@ use Rattle.std.proofs.Common.{◌-◌, rules}
 use Rattle.order_word.proofs.overlaps_file.count_headers.Statement.{statement}
 use Rattle.order_word.proofs.overlaps_file.count_headers.Tie as tie
 
-abbrev invariant-loop : tie.invariant-loop
+abbrev invariant-loop : tie.invariant-loop-n
 invariant-loop text n₀ n = Unit {0}
 
-abbrev decreases-loop : tie.decreases-loop
+abbrev decreases-loop : tie.decreases-loop-n
 decreases-loop text n₀ n = 64 - n
 
 pub count_headers_spec : {M : Type 1} → statement M

@@ -12,7 +12,6 @@ judge_text_spec =
     (λ c. search (rules, checked))
     (λ c κs. search (rules, checked))
     (λ c. search (rules, checked))
-    (λ c. search (rules, checked))
     (λ c κs. search (rules, checked))
     (λ c. search (rules, checked))
     (λ c. search (rules, checked)))

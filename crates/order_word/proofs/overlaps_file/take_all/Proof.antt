@@ -3,10 +3,10 @@ use Rattle.std.proofs.Common.{◌-◌, rules}
 use Rattle.order_word.proofs.overlaps_file.take_all.Statement.{statement}
 use Rattle.order_word.proofs.overlaps_file.take_all.Tie as tie
 
-abbrev invariant-loop : tie.invariant-loop
+abbrev invariant-loop : tie.invariant-loop-a
 invariant-loop text n pairs₀ a₀ pairs a = Unit {0}
 
-abbrev decreases-loop : tie.decreases-loop
+abbrev decreases-loop : tie.decreases-loop-a
 decreases-loop text n pairs₀ a₀ pairs a = n - a
 
 pub take_all_spec : {M : Type 1} → statement M

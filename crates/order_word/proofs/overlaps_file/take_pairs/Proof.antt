@@ -3,10 +3,10 @@ use Rattle.std.proofs.Common.{◌-◌, rules}
 use Rattle.order_word.proofs.overlaps_file.take_pairs.Statement.{statement}
 use Rattle.order_word.proofs.overlaps_file.take_pairs.Tie as tie
 
-abbrev invariant-loop : tie.invariant-loop
+abbrev invariant-loop : tie.invariant-loop-b
 invariant-loop text a n pairs₀ b₀ pairs b = Unit {0}
 
-abbrev decreases-loop : tie.decreases-loop
+abbrev decreases-loop : tie.decreases-loop-b
 decreases-loop text a n pairs₀ b₀ pairs b = n - b
 
 pub take_pairs_spec : {M : Type 1} → statement M

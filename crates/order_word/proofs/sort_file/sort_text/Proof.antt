@@ -15,7 +15,6 @@ sort_text_spec =
     (λ c. search (rules, front_count, length-sorted))
     (λ c κs. search (rules, front_count, length-sorted))
     (λ c. search (rules, front_count, length-sorted))
-    (λ c. search (rules, front_count, length-sorted))
     (λ c κs. search (rules, front_count, length-sorted))
     (λ c. search (rules, front_count, length-sorted))
     (λ c. search (rules, front_count, length-sorted))

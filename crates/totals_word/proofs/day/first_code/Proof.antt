@@ -4,10 +4,10 @@ use Rattle.std.proofs.Common.{◌-◌, ◌<◌, length, rules}
 use Rattle.totals_word.proofs.day.first_code.Statement.{statement}
 use Rattle.totals_word.proofs.day.first_code.Tie as tie
 
-abbrev invariant-loop : tie.invariant-loop
+abbrev invariant-loop : tie.invariant-loop-span
 invariant-loop payload firmware reading at₀ at = 0 < at
 
-abbrev decreases-loop : tie.decreases-loop
+abbrev decreases-loop : tie.decreases-loop-span
 decreases-loop payload firmware reading at₀ at = length payload - at
 
 pub first_code_spec : {M : Type 1} → statement M

@@ -5,10 +5,10 @@ use Rattle.totals_word.proofs.words_page.Laws.{Named, named_laws}
 use Rattle.totals_word.proofs.words_page.name_of.Statement.{statement}
 use Rattle.totals_word.proofs.words_page.name_of.Tie as tie
 
-abbrev invariant-loop : tie.invariant-loop
+abbrev invariant-loop : tie.invariant-loop-at
 invariant-loop text key at₀ at = Named text key at
 
-abbrev decreases-loop : tie.decreases-loop
+abbrev decreases-loop : tie.decreases-loop-at
 decreases-loop text key at₀ at = length text - at
 
 pub name_of_spec : {M : Type 1} → statement M

@@ -4,11 +4,11 @@ use Rattle.totals_word.proofs.Laws.{laws}
 use Rattle.totals_word.proofs.words_page.put_rates.Statement.{statement}
 use Rattle.totals_word.proofs.words_page.put_rates.Tie as tie
 
-abbrev invariant-loop : tie.invariant-loop
-invariant-loop totals from out₀ at place₀ rate₀ t8 out place rate = Unit {0}
+abbrev invariant-loop : tie.invariant-loop-rate
+invariant-loop totals from out₀ at place₀ rate₀ out place rate = Unit {0}
 
-abbrev decreases-loop : tie.decreases-loop
-decreases-loop totals from out₀ at place₀ rate₀ t8 out place rate = 4 - rate
+abbrev decreases-loop : tie.decreases-loop-rate
+decreases-loop totals from out₀ at place₀ rate₀ out place rate = 4 - rate
 
 pub put_rates_spec : {M : Type 1} → statement M
 put_rates_spec =
@@ -19,7 +19,6 @@ put_rates_spec =
     (λ c. search (rules, laws))
     (λ c κs. search (rules, laws))
     (λ c κs. search (rules, laws))
-    (λ c. search (rules, laws))
     (λ c κs. search (rules, laws))
     (λ c. search (rules, laws))
     (λ c. search (rules, laws))

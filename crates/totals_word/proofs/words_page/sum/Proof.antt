@@ -4,10 +4,10 @@ use Rattle.std.proofs.Common.{◌-◌, rules}
 use Rattle.totals_word.proofs.words_page.sum.Statement.{statement}
 use Rattle.totals_word.proofs.words_page.sum.Tie as tie
 
-abbrev invariant-loop : tie.invariant-loop
+abbrev invariant-loop : tie.invariant-loop-i
 invariant-loop totals from count all₀ i₀ all i = Unit {0}
 
-abbrev decreases-loop : tie.decreases-loop
+abbrev decreases-loop : tie.decreases-loop-i
 decreases-loop totals from count all₀ i₀ all i = count - i
 
 pub sum_spec : {M : Type 1} → statement M
