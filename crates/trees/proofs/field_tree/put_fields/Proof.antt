@@ -3,10 +3,10 @@ use Rattle.std.proofs.Common.{◌-◌, rules}
 use Rattle.trees.proofs.field_tree.put_fields.Statement.{statement}
 use Rattle.trees.proofs.field_tree.put_fields.Tie as tie
 
-abbrev invariant-loop : tie.invariant-loop
+abbrev invariant-loop : tie.invariant-loop-i
 invariant-loop out₀ at text mpdu rows n picture place₀ i₀ out place i = Unit
 
-abbrev decreases-loop : tie.decreases-loop
+abbrev decreases-loop : tie.decreases-loop-i
 decreases-loop out₀ at text mpdu rows n picture place₀ i₀ out place i = n - i
 
 pub put_fields_spec : {M : Type 1} → statement M

@@ -3,10 +3,10 @@ use Rattle.std.proofs.Common.{◌-◌, length, rules}
 use Rattle.trees.proofs.hex_dump.put_bytes.Statement.{statement}
 use Rattle.trees.proofs.hex_dump.put_bytes.Tie as tie
 
-abbrev invariant-loop : tie.invariant-loop
+abbrev invariant-loop : tie.invariant-loop-i
 invariant-loop out₀ at bytes place₀ i₀ out place i = Unit
 
-abbrev decreases-loop : tie.decreases-loop
+abbrev decreases-loop : tie.decreases-loop-i
 decreases-loop out₀ at bytes place₀ i₀ out place i = length bytes - i
 
 pub put_bytes_spec : {M : Type 1} → statement M

@@ -3,10 +3,10 @@ use Rattle.std.proofs.Common.{◌-◌, ◌≤◌, length, rules}
 use Rattle.trees.proofs.hex_dump.put_dump.Statement.{statement}
 use Rattle.trees.proofs.hex_dump.put_dump.Tie as tie
 
-abbrev invariant-loop : tie.invariant-loop
+abbrev invariant-loop : tie.invariant-loop-from
 invariant-loop out₀ at bytes place₀ from₀ out place from = from ≤ length bytes
 
-abbrev decreases-loop : tie.decreases-loop
+abbrev decreases-loop : tie.decreases-loop-from
 decreases-loop out₀ at bytes place₀ from₀ out place from = length bytes - from
 
 pub put_dump_spec : {M : Type 1} → statement M

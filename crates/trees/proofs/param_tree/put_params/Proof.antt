@@ -3,10 +3,10 @@ use Rattle.std.proofs.Common.{◌-◌, rules}
 use Rattle.trees.proofs.param_tree.put_params.Statement.{statement}
 use Rattle.trees.proofs.param_tree.put_params.Tie as tie
 
-abbrev invariant-loop : tie.invariant-loop
+abbrev invariant-loop : tie.invariant-loop-i
 invariant-loop out₀ at text payload rows n place₀ i₀ out place i = Unit
 
-abbrev decreases-loop : tie.decreases-loop
+abbrev decreases-loop : tie.decreases-loop-i
 decreases-loop out₀ at text payload rows n place₀ i₀ out place i = n - i
 
 pub put_params_spec : {M : Type 1} → statement M

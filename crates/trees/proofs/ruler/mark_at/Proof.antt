@@ -3,10 +3,10 @@ use Rattle.std.proofs.Common.{rules}
 use Rattle.trees.proofs.ruler.mark_at.Statement.{statement}
 use Rattle.trees.proofs.ruler.mark_at.Tie as tie
 
-abbrev invariant-loop : tie.invariant-loop
+abbrev invariant-loop : tie.invariant-loop-i
 invariant-loop rows n bit i₀ i = Unit {0}
 
-abbrev decreases-loop : tie.decreases-loop
+abbrev decreases-loop : tie.decreases-loop-i
 decreases-loop rows n bit i₀ i = i
 
 pub mark_at_spec : {M : Type 1} → statement M

@@ -3,10 +3,10 @@ use Rattle.std.proofs.Common.{◌-◌, rules}
 use Rattle.trees.proofs.ruler.put_digits.Statement.{statement}
 use Rattle.trees.proofs.ruler.put_digits.Tie as tie
 
-abbrev invariant-loop : tie.invariant-loop
+abbrev invariant-loop : tie.invariant-loop-bit
 invariant-loop out₀ at mpdu from to place₀ bit₀ out place bit = Unit
 
-abbrev decreases-loop : tie.decreases-loop
+abbrev decreases-loop : tie.decreases-loop-bit
 decreases-loop out₀ at mpdu from to place₀ bit₀ out place bit = to - bit
 
 pub put_digits_spec : {M : Type 1} → statement M

@@ -3,10 +3,10 @@ use Rattle.std.proofs.Common.{◌-◌, rules}
 use Rattle.trees.proofs.ruler.put_marks.Statement.{statement}
 use Rattle.trees.proofs.ruler.put_marks.Tie as tie
 
-abbrev invariant-loop : tie.invariant-loop
+abbrev invariant-loop : tie.invariant-loop-bit
 invariant-loop out₀ at rows n from to place₀ bit₀ out place bit = Unit
 
-abbrev decreases-loop : tie.decreases-loop
+abbrev decreases-loop : tie.decreases-loop-bit
 decreases-loop out₀ at rows n from to place₀ bit₀ out place bit = to - bit
 
 pub put_marks_spec : {M : Type 1} → statement M

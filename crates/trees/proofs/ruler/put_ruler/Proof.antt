@@ -3,10 +3,10 @@ use Rattle.std.proofs.Common.{◌-◌, ◌≤◌, rules}
 use Rattle.trees.proofs.ruler.put_ruler.Statement.{statement}
 use Rattle.trees.proofs.ruler.put_ruler.Tie as tie
 
-abbrev invariant-loop : tie.invariant-loop
+abbrev invariant-loop : tie.invariant-loop-from
 invariant-loop out₀ at mpdu rows n end place₀ from₀ out place from = from ≤ end
 
-abbrev decreases-loop : tie.decreases-loop
+abbrev decreases-loop : tie.decreases-loop-from
 decreases-loop out₀ at mpdu rows n end place₀ from₀ out place from = end - from
 
 pub put_ruler_spec : {M : Type 1} → statement M
