@@ -4,10 +4,10 @@ use Rattle.frame_requests.proofs.Laws.{laws}
 use Rattle.frame_requests.proofs.frames.put_rows.Statement.{statement}
 use Rattle.frame_requests.proofs.frames.put_rows.Tie as tie
 
-abbrev invariant-loop : tie.invariant-loop
+abbrev invariant-loop : tie.invariant-loop-i
 invariant-loop out₀ used named rows count n₀ i₀ out n i = i ≤ count
 
-abbrev decreases-loop : tie.decreases-loop
+abbrev decreases-loop : tie.decreases-loop-i
 decreases-loop out₀ used named rows count n₀ i₀ out n i = count - i
 
 pub put_rows_spec : {M : Type 1} → statement M

@@ -5,10 +5,10 @@ use Rattle.pti.specs.Payload.{row_width}
 use Rattle.frame_requests.proofs.frames.widened.Statement.{statement}
 use Rattle.frame_requests.proofs.frames.widened.Tie as tie
 
-abbrev invariant-loop : tie.invariant-loop
+abbrev invariant-loop : tie.invariant-loop-k
 invariant-loop rows i row₀ k₀ row k = k ≤ row_width
 
-abbrev decreases-loop : tie.decreases-loop
+abbrev decreases-loop : tie.decreases-loop-k
 decreases-loop rows i row₀ k₀ row k = row_width - k
 
 pub widened_spec : {M : Type 1} → statement M
