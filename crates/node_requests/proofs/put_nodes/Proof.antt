@@ -6,10 +6,10 @@ use Rattle.node_requests.proofs.Laws.{laws}
 use Rattle.node_requests.proofs.put_nodes.Statement.{statement}
 use Rattle.node_requests.proofs.put_nodes.Tie as tie
 
-abbrev invariant-loop : tie.invariant-loop
+abbrev invariant-loop : tie.invariant-loop-i
 invariant-loop out₀ used nodes n₀ i₀ out n i = Unit {0}
 
-abbrev decreases-loop : tie.decreases-loop
+abbrev decreases-loop : tie.decreases-loop-i
 decreases-loop out₀ used nodes n₀ i₀ out n i = length nodes - i
 
 pub put_nodes_spec : {M : Type 1} → statement M

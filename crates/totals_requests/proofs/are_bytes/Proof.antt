@@ -7,61 +7,61 @@ use Rattle.totals_requests.proofs.Laws.{laws}
 use Rattle.totals_requests.proofs.are_bytes.Statement.{statement}
 use Rattle.totals_requests.proofs.are_bytes.Tie as tie
 
-abbrev invariant-loop : tie.invariant-loop
+abbrev invariant-loop : tie.invariant-loop-at
 invariant-loop words bytes₀ at₀ bytes at = (at ≤ length words) × (length bytes ≡ length bytes₀)
 
-abbrev decreases-loop : tie.decreases-loop
+abbrev decreases-loop : tie.decreases-loop-at
 decreases-loop words bytes₀ at₀ bytes at = length words - at
 
-loop-holds : tie.Need-loop-init invariant-loop decreases-loop
+loop-holds : tie.Need-loop-at-init invariant-loop decreases-loop
 loop-holds c = search (rules, laws)
 
-sub-rest : tie.Need-overflow-sub-rest invariant-loop decreases-loop
+sub-rest : tie.Need-slice_bounds-rest-count invariant-loop decreases-loop
 sub-rest c = search (rules, laws)
 
-part-rest-start : tie.Need-slice-bounds-rest-start invariant-loop decreases-loop
+part-rest-start : tie.Need-slice_bounds-rest-start invariant-loop decreases-loop
 part-rest-start c = search (rules, laws)
 
-part-rest-end : tie.Need-slice-bounds-rest-end invariant-loop decreases-loop
+part-rest-end : tie.Need-slice_bounds-rest-end invariant-loop decreases-loop
 part-rest-end c = search (rules, laws)
 
-find-requires : tie.Need-find-requires invariant-loop decreases-loop
+find-requires : tie.Need-find-e-requires invariant-loop decreases-loop
 find-requires c κs = search (rules, laws)
 
-slice-aggregate-read-bytes : tie.Need-slice-aggregate-read-bytes invariant-loop decreases-loop
+slice-aggregate-read-bytes : tie.Need-slice_bounds-read_bytes-end invariant-loop decreases-loop
 slice-aggregate-read-bytes c = search (rules, laws)
 
-read-bytes-requires : tie.Need-read-bytes-requires invariant-loop decreases-loop
+read-bytes-requires : tie.Need-read_bytes-requires invariant-loop decreases-loop
 read-bytes-requires c κs = search (rules, laws)
 
-enum_told : tie.Need-enum-told invariant-loop decreases-loop
+enum_told : tie.Need-enum_told-1 invariant-loop decreases-loop
 enum_told c = search (rules, laws)
 
-enum-told-2 : tie.Need-enum-told-2 invariant-loop decreases-loop
+enum-told-2 : tie.Need-enum_told-in_default invariant-loop decreases-loop
 enum-told-2 c = search (rules, laws)
 
-same_length : tie.Need-same-length invariant-loop decreases-loop
+same_length : tie.Need-shape_of-bytes-in_default invariant-loop decreases-loop
 same_length c = search (rules, laws)
 
-returns : tie.Need-returns invariant-loop decreases-loop
+returns : tie.Need-returns-in_default invariant-loop decreases-loop
 returns c = search (rules, laws)
 
-same-length-2 : tie.Need-same-length-2 invariant-loop decreases-loop
+same-length-2 : tie.Need-shape_of-bytes-then-e-rest invariant-loop decreases-loop
 same-length-2 c = search (rules, laws)
 
-returns-2 : tie.Need-returns-2 invariant-loop decreases-loop
+returns-2 : tie.Need-returns-then-e-rest invariant-loop decreases-loop
 returns-2 c = search (rules, laws)
 
-add_at : tie.Need-overflow-add-at invariant-loop decreases-loop
+add_at : tie.Need-overflow_add-at invariant-loop decreases-loop
 add_at c = search (rules, laws)
 
-add-at-2 : tie.Need-overflow-add-at-2 invariant-loop decreases-loop
+add-at-2 : tie.Need-overflow_add-at-in-loop-at invariant-loop decreases-loop
 add-at-2 c = search (rules, laws)
 
-loop-less : tie.Need-loop-smaller invariant-loop decreases-loop
+loop-less : tie.Need-loop-at-smaller invariant-loop decreases-loop
 loop-less c = search (rules, laws)
 
-loop-again : tie.Need-loop-preserved invariant-loop decreases-loop
+loop-again : tie.Need-loop-at-preserved invariant-loop decreases-loop
 loop-again c = search (rules, laws)
 
 pub are_bytes_spec : {M : Type 1} → statement M

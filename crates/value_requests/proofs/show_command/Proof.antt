@@ -13,7 +13,6 @@ show_command_spec =
     (λ c. search (rules, laws))
     (λ c. search (rules, laws))
     (λ c κs. search (rules, laws))
-    (λ c. search (rules, laws))
     (λ c κs. search (rules, laws))
     (λ c. search (rules, laws))
     (λ c. search (rules, laws)))
