@@ -9,7 +9,6 @@ answer_tidy_spec =
     tie.close
     (tie.spec
     (λ c κs. search (rules, laws))
-    (λ c. search (rules, laws))
     (λ c κs. search (rules, laws))
     (λ c. search (rules, laws))
     (λ c. search (rules, laws)))

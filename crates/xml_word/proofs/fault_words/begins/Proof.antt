@@ -4,10 +4,10 @@ use Rattle.text.proofs.Laws.{front_count}
 use Rattle.xml_word.proofs.fault_words.begins.Statement.{statement}
 use Rattle.xml_word.proofs.fault_words.begins.Tie as tie
 
-abbrev invariant-loop : tie.invariant-loop
+abbrev invariant-loop : tie.invariant-loop-i
 invariant-loop s with i₀ i = i ≤ length with
 
-abbrev decreases-loop : tie.decreases-loop
+abbrev decreases-loop : tie.decreases-loop-i
 decreases-loop s with i₀ i = length with - i
 
 pub begins_spec : {M : Type 1} → statement M

@@ -4,10 +4,10 @@ use Rattle.text.proofs.Laws.{front_count}
 use Rattle.xml_word.proofs.fault_words.end_of.Statement.{statement}
 use Rattle.xml_word.proofs.fault_words.end_of.Tie as tie
 
-abbrev invariant-loop : tie.invariant-loop
+abbrev invariant-loop : tie.invariant-loop-i
 invariant-loop x spot₀ i₀ spot i = i ≤ length x
 
-abbrev decreases-loop : tie.decreases-loop
+abbrev decreases-loop : tie.decreases-loop-i
 decreases-loop x spot₀ i₀ spot i = length x - i
 
 pub end_of_spec : {M : Type 1} → statement M

@@ -14,6 +14,5 @@ say_fault_spec =
     (λ c. search (rules, counts))
     (λ c κs. search (rules, counts))
     (λ c. search (rules, counts))
-    (λ c. search (rules, counts))
     (λ c κs. search (rules, counts))
     (λ c. search (rules, counts)))

@@ -9,18 +9,14 @@ say_tag_spec =
     tie.close
     (tie.spec
     (λ c κs. search (rules, front_count))
-    (λ c. search (rules, front_count))
     (λ c κs. search (rules, front_count))
     (λ c. search (rules, front_count))
     (λ c. search (rules, front_count))
     (λ c κs. search (rules, front_count))
     (λ c. search (rules, front_count))
-    (λ c. search (rules, front_count))
     (λ c κs. search (rules, front_count))
     (λ c. search (rules, front_count))
-    (λ c. search (rules, front_count))
     (λ c κs. search (rules, front_count))
-    (λ c. search (rules, front_count))
     (λ c. search (rules, front_count))
     (λ c κs. search (rules, front_count))
     (λ c. search (rules, front_count))

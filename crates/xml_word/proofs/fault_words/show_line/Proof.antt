@@ -9,11 +9,9 @@ show_line_spec =
     tie.close
     (tie.spec
     (λ c κs. search (rules, front_count))
-    (λ c. search (rules, front_count))
     (λ c κs. search (rules, front_count))
     (λ c. search (rules, front_count))
     (λ c κs. search (rules, front_count))
-    (λ c. search (rules, front_count))
     (λ c κs. search (rules, front_count))
     (λ c. search (rules, front_count))
     (λ c. search (rules, front_count)))

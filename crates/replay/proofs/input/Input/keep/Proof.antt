@@ -7,10 +7,10 @@ use Rattle.replay.proofs.Laws.{laws}
 use Rattle.replay.proofs.input.Input.keep.Statement.{statement}
 use Rattle.replay.proofs.input.Input.keep.Tie as tie
 
-abbrev invariant-loop : tie.invariant-loop
+abbrev invariant-loop : tie.invariant-loop-i
 invariant-loop lines₀ start end i₀ lines i = (start ≤ i) × (length lines ≡ length lines₀)
 
-abbrev decreases-loop : tie.decreases-loop
+abbrev decreases-loop : tie.decreases-loop-i
 decreases-loop lines₀ start end i₀ lines i = end - i
 
 pub keep_spec : {M : Type 1} → statement M
