@@ -1,8 +1,8 @@
 use Rattle.replay.specs.Input.{In}
 use Rattle.replay.proofs.serve.serve.Given as goal
 
-abbrev pub invariant-loop-next : goal.invariant-loop-next
-invariant-loop-next g l = In l.lines l.input
+abbrev pub invariant-loop-turns : goal.invariant-loop-turns
+invariant-loop-turns g l = In l.lines l.input
 
-abbrev pub decreases-loop-next : goal.decreases-loop-next
-decreases-loop-next g l = l.turns
+abbrev pub decreases-loop-turns : goal.decreases-loop-turns
+decreases-loop-turns g l = l.turns
