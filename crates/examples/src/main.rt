@@ -10,13 +10,13 @@ use pti::{Reading, beam_count, count_records, parse_record, record_body, speed_f
 use readers::line_fields::field_of;
 use records::Counted;
 use refusal::Refusal;
-use writer::print_number;
+use writer::{STDOUT_FILENO, print_number};
 
 fn print(name: &[u8], value: u64) {
-    io::write_all(1, name);
-    io::write_all(1, b" ");
-    print_number(1, value);
-    io::write_all(1, b"\n");
+    io::write_all(STDOUT_FILENO, name);
+    io::write_all(STDOUT_FILENO, b" ");
+    print_number(STDOUT_FILENO, value);
+    io::write_all(STDOUT_FILENO, b"\n");
 }
 
 // The same with the name that is piece k of some that are parted by tabs.
@@ -25,9 +25,9 @@ fn print_piece(names: &[u8], k: usize, value: u64) {
 }
 
 fn print_refusal(name: &[u8], refusal: Refusal) {
-    io::write_all(1, name);
-    io::write_all(1, b" refused ");
-    print_number(1, refusal.number() as u64);
+    io::write_all(STDOUT_FILENO, name);
+    io::write_all(STDOUT_FILENO, b" refused ");
+    print_number(STDOUT_FILENO, refusal.number() as u64);
     print(b"", refusal.carried() as u64);
 }
 

@@ -7,18 +7,11 @@ use writer::STDOUT_FILENO;
 // The bytes of the longest XML that is written, one more than those of the longest that is read.
 pub const ROOM: usize = 524288;
 
-// As many zeros as are asked for: whatever their number, no proof counts them.
-fn zeros<const N: usize>() -> [u8; N]
-    ensures { N ≡ length result }
-{
-    [0; N]
-}
-
 // So many zeros. The `ensures` gives only their number, so that no caller looks into them.
 pub fn room() -> [u8; ROOM]
     ensures { 524288 ≡ length result }
 {
-    zeros::<ROOM>()
+    [0; ROOM]
 }
 
 fn write_all(bytes: &[u8]) {
