@@ -10,7 +10,7 @@ use coverage::{COUNTS, NO_SET, PARAMS};
 use files::arguments::{argument, argument_count};
 use files::capture::Opened;
 use files::day::{Day, end};
-use files::input::{File, Got, Reader, open_argument, open_name};
+use files::input::{File, Got, Reader, is_spent, is_standard, open_argument, open_name};
 use files::options::{Asked, Options, next_file};
 use frame_text::check_frame_text;
 use output::outcome::{fail, fail_file, refuse_text, tell_unreadable};
@@ -60,12 +60,13 @@ fn count_opened<R: Files + Input>(
     )
 }
 
-// The capture that argument k names.
+// The capture that argument k names. Standard input is read once: where it is spent it cannot be read again.
 fn count_file(
     rt: &(impl Env + Files + Input),
     text: &[u8],
     options: Options,
     k: usize,
+    spent: bool,
     sets: &[u8; PARAMS],
     counts: &mut [u64; COUNTS],
     day: Day,
@@ -74,6 +75,11 @@ fn count_file(
 {
     let mut name = io::buffer();
     let n = argument(rt, k, &mut name);
+    if spent {
+        if is_standard(&name[..n]) {
+            return day.failed();
+        }
+    }
     match open_name(rt, &name[..n]) {
         Ok(mut reader) => count_opened(text, options, &mut reader, sets, counts, day),
         Err(error) => {
@@ -95,11 +101,13 @@ fn count_files(
 {
     let end = argument_count(rt);
     let mut day = Day::new();
+    let mut spent = false;
     let mut k: usize = 2;
     while k < end {
         if k != options.file {
             if next_file(rt, k) == k {
-                day = count_file(rt, text, options, k, sets, counts, day);
+                day = count_file(rt, text, options, k, spent, sets, counts, day);
+                spent = is_spent(rt, k, spent);
             }
         }
         k += 1;

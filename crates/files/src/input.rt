@@ -2,6 +2,7 @@
 ghost use Rattle.std.specs.Prelude.{◌≤◌, length};
 ghost use Rattle.files.specs.Input.{Opens, Reaches, Holds};
 
+use crate::arguments::argument;
 use check::same;
 use output::errors::tell_error;
 use output::outcome::{fail, fail_file};
@@ -10,7 +11,7 @@ use std::fs;
 use std::io::{Error, ErrorKind, Read, Result};
 use std::rt::{Env, Files};
 
-// The errors of the system for an argument that there isn't, and for one that is longer than the room for it.
+// The errors of the system for an argument that there isn't or a name that cannot be one, and for either that is longer than the room for it.
 const EINVAL: i32 = 22;
 
 const ENAMETOOLONG: i32 = 36;
@@ -75,17 +76,38 @@ impl<R: Files + Input> Reader<R> {
     }
 }
 
-// The file of a path. A path is UTF-8: any other names no file.
+// The file of a path of fewer than 4,096 bytes with no zero among them. A path is UTF-8: any other names no file.
 pub fn open_path<R: Files>(rt: &R, path: &[u8]) -> Result<R::File> {
+    if 4096 <= path.len() {
+        return Err(Error::from_raw_os_error(ENAMETOOLONG));
+    }
+    if path.contains(&0) {
+        return Err(Error::from_raw_os_error(EINVAL));
+    }
     match str::from_utf8(path) {
         Ok(text) => fs::open(rt, text),
         Err(_) => Err(Error::from(ErrorKind::InvalidFilename)),
     }
 }
 
+// Is this what stands for standard input?
+pub fn is_standard(name: &[u8]) -> bool {
+    same(name, b"-")
+}
+
+// Is standard input used up once argument k was read, where `spent` says whether it was before?
+pub fn is_spent(rt: &impl Env, k: usize, spent: bool) -> bool {
+    if spent {
+        return true;
+    }
+    let mut name = io::buffer();
+    let n = argument(rt, k, &mut name);
+    is_standard(&name[..n])
+}
+
 // The file of a name, where `-` means standard input.
 pub fn open_name<R: Files + Input>(rt: &R, name: &[u8]) -> Result<Reader<R>> {
-    if same(name, b"-") {
+    if is_standard(name) {
         return Ok(Reader::new(Origin::Standard(rt.reader())));
     }
     Ok(Reader::new(Origin::File(open_path(rt, name)?)))

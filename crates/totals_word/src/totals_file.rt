@@ -10,7 +10,7 @@ use files::arguments::{argument, argument_count};
 use files::capture::Opened;
 use files::day::{Day, end};
 use files::frame_names::{State, load_frames};
-use files::input::{Reader, open_name};
+use files::input::{Reader, is_spent, is_standard, open_name};
 use files::options::{Asked, Options, next_file};
 use output::outcome::{fail, refuse, tell_unreadable};
 use std::rt::{Env, Files};
@@ -70,12 +70,13 @@ fn add_opened<R: Files + Input>(
     )
 }
 
-// The capture that argument k names.
+// The capture that argument k names. Standard input is read once: where it is spent it cannot be read again.
 fn add_file(
     rt: &(impl Env + Files + Input),
     text: &[u8],
     options: Options,
     k: usize,
+    spent: bool,
     totals: &mut [u64; TOTALS],
     day: Day,
 ) -> Day
@@ -83,6 +84,11 @@ fn add_file(
 {
     let mut name = io::buffer();
     let n = argument(rt, k, &mut name);
+    if spent {
+        if is_standard(&name[..n]) {
+            return day.failed();
+        }
+    }
     match open_name(rt, &name[..n]) {
         Ok(mut reader) => add_opened(text, options, &mut reader, totals, day),
         Err(error) => {
@@ -102,10 +108,12 @@ fn add_files(
 {
     let end = argument_count(rt);
     let mut day = Day::new();
+    let mut spent = false;
     let mut k: usize = 2;
     while k < end {
         if next_file(rt, k) == k {
-            day = add_file(rt, text, options, k, totals, day);
+            day = add_file(rt, text, options, k, spent, totals, day);
+            spent = is_spent(rt, k, spent);
         }
         k += 1;
     }
