@@ -51,9 +51,7 @@ fn write_words(error: Error) {
         bytes: io::buffer(),
         count: 0,
     };
-    if printed.write(error).is_err() {
-        return;
-    }
+    let _ = printed.write(error);
     let all = first(&printed.bytes, printed.count);
     let n = count_words(all);
     io::write_all(STDERR_FILENO, &all[..n]);
