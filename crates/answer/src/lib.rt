@@ -5,15 +5,6 @@ pub mod table;
 
 use writer::{Buffer, put, put_byte, put_hex, put_number};
 
-// What a request is answered.
-#[derive(Clone, Copy)]
-pub enum Answer {
-    // An answer, without the end of its line: so many bytes wait with it.
-    Put(usize),
-    // `bad request`: nothing is put yet.
-    Bad,
-}
-
 // A number behind a space.
 pub fn put_value(out: &mut Buffer, used: usize, x: u64) -> usize {
     let n = put_byte(out, used, b' ');

@@ -8,9 +8,9 @@ use lib.Seq.{sets, length-sets, set_out}
 use Rattle.laws.proofs.Lists.{next, done}
 use Rattle.refusal.specs.declared.Refusal.TheVariants.{MoreBytes}
 use Rattle.buffer.specs.Buffer.{Writes}
-use Rattle.buffer.specs.declared.Written.TheVariants.{Length, Refused}
 use Rattle.buffer.proofs.Laws.{sets-append, writes_short, writes_room}
 use Rattle.append.specs.Append.{Room, Laid}
+use Rattle.std.specs.Prelude.{Ok, Err}
 
 -- ---- a byte
 pub byte_inside : (b : List ℕ) (at x : ℕ) → at < length b → Laid (x ∷ []) b at (at + 1) (set b at x)
@@ -92,10 +92,10 @@ leaves_done all b b₀ at at₀ inv = record { next = omega (arith, inv.count); 
 
 -- ---- a text that is counted first, and then written if there is room
 module _ (l c c' : List ℕ) (n : ℕ) (counted : Laid l c 0 n c') where
-  pub counted-short : (b : List ℕ) → length b < n → Writes l b (Refused (MoreBytes n)) b
+  pub counted-short : (b : List ℕ) → length b < n → Writes l b (Err (MoreBytes n)) b
   counted-short b h = writes_short l b n (omega (arith, counted.next)) h
 
-  pub counted-room : (b b' : List ℕ) (m : ℕ) → Laid l b 0 m b' → n ≤ length b → Writes l b (Length n) b'
+  pub counted-room : (b b' : List ℕ) (m : ℕ) → Laid l b 0 m b' → n ≤ length b → Writes l b (Ok n) b'
   counted-room b b' m x h = writes_room l b n (omega (arith, counted.next)) b' x.fill h
 
 pub ruleset laws = (byte_inside, byte_past, going_start, going_more, going_done)

@@ -6,8 +6,6 @@ use lib.ListN.{length}
 use Rattle.refusal.specs.declared.Refusal.{Refusal}
 use Rattle.refusal.specs.Refusal.{number_of}
 use Rattle.records.specs.declared.PayloadOffset.{PayloadOffset}
-use Rattle.text.specs.declared.Verdict.{Verdict}
-use Rattle.text.specs.declared.Verdict.TheVariants as text
 use Rattle.command_text.specs.Rules.{verdict}
 use Rattle.command_rules.specs.declared.Offsets.TheVariants.{Answered}
 use Rattle.command.specs.Answer.{told, answer_of, DecodesBy, Decodes}
@@ -15,6 +13,7 @@ use Rattle.command.specs.declared.Params.{Params}
 use Rattle.command.specs.declared.Params.TheVariants.{Rows, Refused}
 use Rattle.refusal.proofs.Numbers.{numbered}
 use Rattle.bench_commands.specs.Told.{in_one}
+use Rattle.std.specs.Prelude.{Result, Ok, Err}
 
 pub tells-rows : (x : Params) (n : ℕ) (at : PayloadOffset) → x ≡ Rows n at → n ≡ in_one (told x)
 unfolding told in_one
@@ -30,18 +29,18 @@ pub tells-decoded : (t d table : List ℕ) (x : Params) (table' : List ℕ) (r n
 tells-decoded t d table x table' r n decodes is size = rw (← size) (is ∙ ap in_one decodes.answer)
 
 pub tells-accepted : (t d table : List ℕ) (x : Params) (table' : List ℕ) (r n : ℕ) → DecodesBy Answered t d table (told x) table'
-    → verdict t ≡ text.Accepted
+    → verdict t ≡ Ok tt
     → r ≡ in_one (told x) → length table ≡ n → r ≡ in_one (answer_of Answered t d n)
 unfolding answer_of
 tells-accepted t d table x table' r n decodes accepted is size = rw (← size, accepted) (is ∙ ap in_one decodes.answer)
 
-pub tells_unfit : (t d : List ℕ) (n : ℕ) (v : Verdict) (x : Refusal) (r : ℕ) → v ≡ verdict t → v ≡ text.Refused x
+pub tells_unfit : (t d : List ℕ) (n : ℕ) (v : Result (Unit {0}) Refusal) (x : Refusal) (r : ℕ) → v ≡ verdict t → v ≡ Err x
     → r ≡ in_one (told (Refused x))
     → r ≡ in_one (answer_of Answered t d n)
 unfolding told answer_of
 tells_unfit t d n v x r e q is = rw (sym e ∙ q) is
 
-pub accepted-text : (t : List ℕ) (v : Verdict) → v ≡ verdict t → v ≡ text.Accepted → verdict t ≡ text.Accepted
+pub accepted-text : (t : List ℕ) (v : Result (Unit {0}) Refusal) → v ≡ verdict t → v ≡ Ok tt → verdict t ≡ Ok tt
 accepted-text t v e q = sym e ∙ q
 
 pub ruleset laws = (tells-rows, tells_refusal, tells-decoded, tells-accepted, tells_unfit, accepted-text)

@@ -1,8 +1,7 @@
 // The parameter walk for the benchmark, as a static library: each call is made so many times, so that what it costs can be told from what comes before it.
 #![tactic(auto)]
 
-ghost use Rattle.std.specs.Prelude.{◌≡◌, length};
-ghost use Rattle.text.specs.declared.Verdict.TheVariants.{Accepted};
+ghost use Rattle.std.specs.Prelude.{◌≡◌, length, Ok};
 ghost use Rattle.command_text.specs.Rules.{verdict};
 ghost use Rattle.command_rules.specs.declared.Offsets.TheVariants.{Answered};
 ghost use Rattle.command.specs.Answer.{told, answer_of};
@@ -10,7 +9,6 @@ ghost use Rattle.bench_commands.specs.Told.{in_one};
 
 use command::{Offsets, Params, decode_accepted, decode_params};
 use command_text::check_command_text;
-use text::Verdict;
 
 // An answer's rows, or a million and the refusal's number.
 fn tell(params: Params) -> u64
@@ -45,7 +43,7 @@ pub extern "C" fn bench_decode_params(
 
 // The call by an accepted text.
 fn decode_often(text: &[u8], payload: &[u8], rows: &mut [u64], times: u64) -> u64
-    requires { verdict text.now ≡ Accepted }
+    requires { verdict text.now ≡ Ok tt }
     ensures { result ≡ in_one (answer_of Answered text.now payload.now (length rows.old)) }
 {
     let mut k: u64 = 1;
@@ -67,7 +65,7 @@ pub extern "C" fn bench_decode_params_accepted(
     ensures { result ≡ in_one (answer_of Answered text.now payload.now (length rows.old)) }
 {
     match check_command_text(text) {
-        Verdict::Accepted => decode_often(text, payload, rows, times),
-        Verdict::Refused(refusal) => tell(Params::Refused(refusal)),
+        Ok(()) => decode_often(text, payload, rows, times),
+        Err(refusal) => tell(Params::Refused(refusal)),
     }
 }

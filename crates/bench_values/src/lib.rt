@@ -1,27 +1,25 @@
 // The calls on values for the benchmark, as a static library: each is made so many times, by a text that is checked once.
 #![tactic(auto)]
 
-ghost use Rattle.std.specs.Prelude.{◌≡◌, length};
-ghost use Rattle.text.specs.declared.Verdict.TheVariants.{Accepted};
+ghost use Rattle.std.specs.Prelude.{◌≡◌, length, Ok};
 ghost use Rattle.frame_text.specs.Rules.{verdict};
 ghost use Rattle.command_text.specs.Rules.{verdict as commandVerdict};
 ghost use Rattle.command_rules.specs.declared.Offsets.TheVariants.{Answered};
 ghost use Rattle.bench_values.specs.Told.{told, header_value, command_value};
 
-use buffer::Written;
 use command_rules::Offsets;
 use command_text::check_command_text;
 use frame_text::check_frame_text;
 use header_value::value_accepted;
-use text::Verdict;
+use refusal::Refusal;
 
 // A text's length, or 100,000 and the refusal's number.
-fn tell(written: Written) -> u64
+fn tell(written: Result<usize, Refusal>) -> u64
     ensures { result ≡ told written }
 {
     match written {
-        Written::Length(n) => n as u64,
-        Written::Refused(refusal) => 100000 + refusal.number() as u64,
+        Ok(n) => n as u64,
+        Err(refusal) => 100000 + refusal.number() as u64,
     }
 }
 
@@ -34,7 +32,7 @@ fn show_often(
     buffer: &mut [u8],
     times: u64,
 ) -> u64
-    requires { verdict text.now ≡ Accepted }
+    requires { verdict text.now ≡ Ok tt }
     ensures { result ≡ told (header_value text.now mpdu.now region speed row (length buffer.old)) }
 {
     let mut k: u64 = 1;
@@ -59,13 +57,13 @@ pub extern "C" fn bench_header_value(
     ensures { result ≡ told (header_value text.now mpdu.now region speed row (length buffer.old)) }
 {
     match check_frame_text(text) {
-        Verdict::Accepted => show_often(text, mpdu, region, speed, row, buffer, times),
-        Verdict::Refused(refusal) => tell(Written::Refused(refusal)),
+        Ok(()) => show_often(text, mpdu, region, speed, row, buffer, times),
+        Err(refusal) => tell(Err(refusal)),
     }
 }
 
 fn show_row_often(text: &[u8], payload: &[u8], row: usize, buffer: &mut [u8], times: u64) -> u64
-    requires { commandVerdict text.now ≡ Accepted }
+    requires { commandVerdict text.now ≡ Ok tt }
     ensures { result ≡ told (command_value Answered text.now payload.now row (length buffer.old)) }
 {
     let mut k: u64 = 1;
@@ -88,7 +86,7 @@ pub extern "C" fn bench_command_value(
     ensures { result ≡ told (command_value Answered text.now payload.now row (length buffer.old)) }
 {
     match check_command_text(text) {
-        Verdict::Accepted => show_row_often(text, payload, row, buffer, times),
-        Verdict::Refused(refusal) => tell(Written::Refused(refusal)),
+        Ok(()) => show_row_often(text, payload, row, buffer, times),
+        Err(refusal) => tell(Err(refusal)),
     }
 }

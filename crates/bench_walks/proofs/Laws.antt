@@ -10,52 +10,45 @@ use mir.Val.{Fits}
 use Rattle.refusal.specs.declared.Refusal.{Refusal}
 use Rattle.refusal.specs.Refusal.{number_of}
 use Rattle.text.specs.declared.Place.{Place}
-use Rattle.text.specs.declared.Verdict.{Verdict}
-use Rattle.text.specs.declared.Verdict.TheVariants as text
 use Rattle.frame_text.specs.Rules.{verdict}
 use Rattle.frame_definition.specs.Find.{Counted, FindsBase, IsCandidate, FindsCandidate}
 use Rattle.frame_definition.proofs.Candidates.{counted_starts}
 use Rattle.frame_definition.specs.declared.Candidate.{Candidate}
-use Rattle.frame_definition.specs.declared.Found.{Found}
-use Rattle.frame_definition.specs.declared.Found.TheVariants as found
-use Rattle.frame_definition.specs.declared.NextCandidate.{NextCandidate}
-use Rattle.frame_definition.specs.declared.NextCandidate.TheVariants as next
 use Rattle.header_fields.specs.Fields.{line_width}
 use Rattle.header_walk.specs.Walk.{Shaped}
 use Rattle.header.specs.Decode.{decoded, Decodes}
-use Rattle.header.specs.declared.Decoded.{Decoded}
-use Rattle.header.specs.declared.Decoded.TheVariants.{Header, Refused}
 use Rattle.header.specs.declared.DecodedHeader.{DecodedHeader}
 use Rattle.header.proofs.Laws.{base_readable, base_number, base_few, accepted-text}
 use Rattle.bench_walks.specs.Told.{told}
+use Rattle.std.specs.Prelude.{Option, Some, Result, Ok, Err}
 
 -- ---- answers
-pub tells-header : (x : Decoded) (h : DecodedHeader) → x ≡ Header h → h.rows ≡ told x
+pub tells-header : (x : Result DecodedHeader Refusal) (h : DecodedHeader) → x ≡ Ok h → h.rows ≡ told x
 tells-header x h e = rw e refl
 
-pub tells_refusal : (x : Decoded) (y : Refusal) (n : ℕ) → x ≡ Refused y → n ≡ number_of y → 1000 + n ≡ told x
+pub tells_refusal : (x : Result DecodedHeader Refusal) (y : Refusal) (n : ℕ) → x ≡ Err y → n ≡ number_of y → 1000 + n ≡ told x
 tells_refusal x y n e is = rw (e, is) refl
 
-pub tells-decoded : (t d : List ℕ) (region speed : ℕ) (table : List ℕ) (x : Decoded) (table' : List ℕ) (r n : ℕ)
+pub tells-decoded : (t d : List ℕ) (region speed : ℕ) (table : List ℕ) (x : Result DecodedHeader Refusal) (table' : List ℕ) (r n : ℕ)
     → Decodes t d region speed table x table' → r ≡ told x → length table ≡ n
     → r ≡ told (decoded t d region speed n)
 tells-decoded t d region speed table x table' r n decodes is size = rw (← size) (is ∙ ap told decodes.answer)
 
-pub tells_decoded' : (t d : List ℕ) (region speed : ℕ) (table : List ℕ) (x : Decoded) (table' : List ℕ) (r n : ℕ)
+pub tells_decoded' : (t d : List ℕ) (region speed : ℕ) (table : List ℕ) (x : Result DecodedHeader Refusal) (table' : List ℕ) (r n : ℕ)
     → Decodes t d region speed table x table' → r ≡ told x → n ≡ length table
     → r ≡ told (decoded t d region speed n)
 tells_decoded' t d region speed table x table' r n decodes is size = rw size (is ∙ ap told decodes.answer)
 
-pub tells_first : (t d : List ℕ) (region speed : ℕ) (table : List ℕ) (x : Decoded) (table' : List ℕ) (r : ℕ)
+pub tells_first : (t d : List ℕ) (region speed : ℕ) (table : List ℕ) (x : Result DecodedHeader Refusal) (table' : List ℕ) (r : ℕ)
     → Decodes t d region speed table x table' → r ≡ told x → r ≡ told (decoded t d region speed (length table))
 tells_first t d region speed table x table' r decodes is = is ∙ ap told decodes.answer
 
-pub tells_unfit : (t d : List ℕ) (region speed n : ℕ) (v : Verdict) (x : Refusal) (r : ℕ) → v ≡ verdict t → v ≡ text.Refused x
-    → r ≡ told (Refused x) → r ≡ told (decoded t d region speed n)
+pub tells_unfit : (t d : List ℕ) (region speed n : ℕ) (v : Result (Unit {0}) Refusal) (x : Refusal) (r : ℕ) → v ≡ verdict t → v ≡ Err x
+    → r ≡ told (Err x) → r ≡ told (decoded t d region speed n)
 tells_unfit t d region speed n v x r e q is = rw (sym e ∙ q) is
 
 -- ---- candidates
-module _ (t : List ℕ) (p : Place) (key h n : ℕ) (r : NextCandidate) (finds : FindsCandidate t p key h n r) (c : Candidate) (e : r ≡ next.At c) where
+module _ (t : List ℕ) (p : Place) (key h n : ℕ) (r : Option Candidate) (finds : FindsCandidate t p key h n r) (c : Candidate) (e : r ≡ Some c) where
   is : IsCandidate t p key h n c
   is = rw e at finds
 
@@ -66,7 +59,7 @@ module _ (t : List ℕ) (p : Place) (key h n : ℕ) (r : NextCandidate) (finds :
   count_fits = omega (arith, is.counted.headers_few, is.counted.readable.inn.at_in, is.counted.short)
 
 -- ---- the base
-pub base_at : (t : List ℕ) (key : ℕ) (r : Found) (p : Place) (n : ℕ) → FindsBase t key r → r ≡ found.At p n → FindsBase t key (found.At p n)
+pub base_at : (t : List ℕ) (key : ℕ) (r : Option (Place × ℕ)) (p : Place) (n : ℕ) → FindsBase t key r → r ≡ Some (p, n) → FindsBase t key (Some (p, n))
 base_at t key r p n finds e = rw e at finds
 
 -- ---- the walk

@@ -1,35 +1,33 @@
 // The walks for the benchmark, as a static library: each call is made so many times, so that what it costs can be told from what comes before it.
 #![tactic(auto)]
 
-ghost use Rattle.std.specs.Prelude.{◌≡◌, ◌+◌, ◌-◌, ◌*◌, ◌/◌, ◌≤◌, length};
+ghost use Rattle.std.specs.Prelude.{◌≡◌, ◌+◌, ◌-◌, ◌*◌, ◌/◌, ◌≤◌, length, Some, Ok};
 ghost use Rattle.refusal.specs.Refusal.{most_frame};
-ghost use Rattle.text.specs.declared.Verdict.TheVariants.{Accepted};
 ghost use Rattle.frame_text.specs.Rules.{verdict};
 ghost use Rattle.frame_definition.specs.Find.{FindsBase};
-ghost use Rattle.frame_definition.specs.declared.Found.TheVariants.{At};
 ghost use Rattle.header_fields.specs.Fields.{line_width};
 ghost use Rattle.header_paths.specs.Scratch.{scratch_width};
 ghost use Rattle.header_walk.specs.Walk.{Shaped};
 ghost use Rattle.header.specs.Decode.{decoded};
 ghost use Rattle.bench_walks.specs.Told.{told};
 
-use frame_definition::{Found, NextCandidate, base_key, find_base, next_candidate};
+use frame_definition::{base_key, find_base, next_candidate};
 use frame_text::check_frame_text;
-use header::{Decoded, decode_accepted, decode_header};
+use header::{decode_accepted, decode_header};
 use header_candidates::read_base;
 use header_fields::LINE_WIDTH;
 use header_paths::{BitOffset, SCRATCH_WIDTH};
 use header_walk::{Walked, walk_from};
-use refusal::MOST_FRAME;
-use text::{Place, Verdict};
+use refusal::{MOST_FRAME, Refusal};
+use text::Place;
 
 // An answer's rows, or 1,000 and the refusal's number.
-fn tell(decoded: Decoded) -> u64
+fn tell(decoded: Result<DecodedHeader, Refusal>) -> u64
     ensures { result ≡ told decoded }
 {
     match decoded {
-        Decoded::Header(header) => header.rows as u64,
-        Decoded::Refused(refusal) => 1000 + refusal.number() as u64,
+        Ok(header) => header.rows as u64,
+        Err(refusal) => 1000 + refusal.number() as u64,
     }
 }
 
@@ -62,7 +60,7 @@ fn decode_often(
     rows: &mut [u64],
     times: u64,
 ) -> u64
-    requires { verdict text.now ≡ Accepted }
+    requires { verdict text.now ≡ Ok tt }
     ensures { result ≡ told (decoded text.now mpdu.now region speed (length rows.old)) }
 {
     let mut k: u64 = 1;
@@ -86,21 +84,21 @@ pub extern "C" fn bench_decode_accepted(
     ensures { result ≡ told (decoded text.now mpdu.now region speed (length rows.old)) }
 {
     match check_frame_text(text) {
-        Verdict::Accepted => decode_often(text, mpdu, region, speed, rows, times),
-        Verdict::Refused(refusal) => tell(Decoded::Refused(refusal)),
+        Ok(()) => decode_often(text, mpdu, region, speed, rows, times),
+        Err(refusal) => tell(Err(refusal)),
     }
 }
 
 // Finds candidates, as many as are there and asked for.
 fn find_candidates(text: &[u8], key: u64, many: u64) -> u64
-    requires { verdict text.now ≡ Accepted }
+    requires { verdict text.now ≡ Ok tt }
 {
     let mut place = Place::start();
     let mut h: usize = 0;
     let mut n: usize = 0;
     let mut m: u64 = 0;
     while m < many {
-        let NextCandidate::At(candidate) = next_candidate(text, place, key, h, n) else {
+        let Some(candidate) = next_candidate(text, place, key, h, n) else {
             return m;
         };
         place = candidate.place;
@@ -113,22 +111,19 @@ fn find_candidates(text: &[u8], key: u64, many: u64) -> u64
 
 // Finds the base header and so many candidates.
 fn find_lines(text: &[u8], region: u64, speed: u64, many: u64) -> u64
-    requires { verdict text.now ≡ Accepted }
+    requires { verdict text.now ≡ Ok tt }
 {
     let key = base_key(text, region, speed);
     match find_base(text, key as u64) {
-        Found::At {
-            place: _,
-            params: _,
-        } => find_candidates(text, key as u64, many),
-        Found::Nothing => 0,
+        Some((_, _)) => find_candidates(text, key as u64, many),
+        None => 0,
     }
 }
 
 // Finding lines alone. Answers how many candidates were found.
 #[unsafe(no_mangle)]
 pub extern "C" fn bench_find(text: &[u8], region: u64, speed: u64, many: u64, times: u64) -> u64 {
-    let Verdict::Accepted = check_frame_text(text) else {
+    let Ok(()) = check_frame_text(text) else {
         return 0;
     };
     let mut found = 0;
@@ -142,8 +137,8 @@ pub extern "C" fn bench_find(text: &[u8], region: u64, speed: u64, many: u64, ti
 
 // Loads and walks the base header whose P lines follow the place.
 fn read_often(text: &[u8], mpdu: &[u8], key: u64, place: Place, n: usize, times: u64) -> u64
-    requires text_value { (verdict text.now ≡ Accepted) × (length mpdu.now ≤ most_frame) }
-    requires finds_base { FindsBase text.now key (At place n) }
+    requires text_value { (verdict text.now ≡ Ok tt) × (length mpdu.now ≤ most_frame) }
+    requires finds_base { FindsBase text.now key (Some (place, n)) }
 {
     let mut fields = [0u64; 128 * LINE_WIDTH];
     let mut scratch = [0u64; 128 * SCRATCH_WIDTH];
@@ -169,11 +164,11 @@ pub extern "C" fn bench_read_base(
     if MOST_FRAME < mpdu.len() {
         return 0;
     }
-    let Verdict::Accepted = check_frame_text(text) else {
+    let Ok(()) = check_frame_text(text) else {
         return 0;
     };
     let key = base_key(text, region, speed);
-    let Found::At { place, params } = find_base(text, key as u64) else {
+    let Some((place, params)) = find_base(text, key as u64) else {
         return 0;
     };
     read_often(text, mpdu, key as u64, place, params, times)

@@ -10,11 +10,9 @@ use lib.Seq.{sets, sets-eq, take_at}
 use borrow.Author.Tests.{le-leb, lt-leb}
 use Rattle.laws.proofs.Lists.{next, done}
 use Rattle.refusal.specs.declared.Refusal.TheVariants.{MoreBytes}
-use Rattle.text.specs.declared.Verdict.{Verdict}
-use Rattle.text.specs.declared.Verdict.TheVariants.{Accepted, Refused as NotAccepted}
 use Rattle.buffer.specs.Buffer.{answer_in, answer_by, buffer_after, Writes}
-use Rattle.buffer.specs.declared.Written.{Written}
-use Rattle.buffer.specs.declared.Written.TheVariants.{Length, Refused}
+use Rattle.std.specs.Prelude.{Result, Ok, Err}
+use Rattle.refusal.specs.declared.Refusal.{Refusal}
 
 -- one text put behind another
 pub sets-append : (to : List ℕ) (n : ℕ) (a b : List ℕ) → sets to n (a ++ b) ≡ sets (sets to n a) (n + length a) b
@@ -43,26 +41,26 @@ module _ (to to₀ bytes : List ℕ) (at i : ℕ) (inv : Puts to to₀ bytes at 
 
 -- ---- the answer
 module _ (l b : List ℕ) (n : ℕ) (is : n ≡ length l) where
-  pub writes_short : length b < n → Writes l b (Refused (MoreBytes n)) b
+  pub writes_short : length b < n → Writes l b (Err (MoreBytes n)) b
   writes_short h = record { answer = rw (is, lt-leb (length l) (length b) (omega arith)); buffer = refl }
 
-  pub writes_room : (b' : List ℕ) → b' ≡ sets b 0 l → n ≤ length b → Writes l b (Length n) b'
+  pub writes_room : (b' : List ℕ) → b' ≡ sets b 0 l → n ≤ length b → Writes l b (Ok n) b'
   writes_room b' e h =
       let z : 0 + length l ≡ length l = omega arith in
       record { answer = rw (is, le-leb (length l) (length b) (omega arith)); buffer = e ∙ sets-eq l b 0 (omega arith) ∙ rw z }
 
 -- ---- for callers: the length that is answered for a text, after a check by which that length is the text's
-module _ (v : Verdict) (l b : List ℕ) (size : ℕ) (r : Written) (b' : List ℕ) (n : ℕ) (long : v ≡ Accepted → size ≡ length l)
-    (answer : r ≡ answer_by v (answer_in size (length b))) (buffer : b' ≡ buffer_after l b r) (e : r ≡ Length n) where
+module _ (v : Result (Unit {0}) Refusal) (l b : List ℕ) (size : ℕ) (r : Result ℕ Refusal) (b' : List ℕ) (n : ℕ) (long : v ≡ Ok tt → size ≡ length l)
+    (answer : r ≡ answer_by v (answer_in size (length b))) (buffer : b' ≡ buffer_after l b r) (e : r ≡ Ok n) where
   is_length : n ≡ length l
   is_length = go v long (leb size (length b)) (sym e ∙ answer)
     where
-      go : (w : Verdict) → (w ≡ Accepted → size ≡ length l) → (fits : Bool)
-          → Length n ≡ answer_by w (cond fits (Length size) (Refused (MoreBytes size)))
+      go : (w : Result (Unit {0}) Refusal) → (w ≡ Ok tt → size ≡ length l) → (fits : Bool)
+          → Ok n ≡ answer_by w (cond fits (Ok size) (Err (MoreBytes size)))
           → n ≡ length l
-      go Accepted is true h = let z : n ≡ size = cc in z ∙ is refl
-      go Accepted is false h = absurd (let z : ◌≡◌ {A = ℕ} 0 1 = cc in omega arith)
-      go (NotAccepted x) is fits h = absurd (let z : ◌≡◌ {A = ℕ} 0 1 = cc in omega arith)
+      go (Ok tt) is true h = let z : n ≡ size = cc in z ∙ is refl
+      go (Ok tt) is false h = absurd (let z : ◌≡◌ {A = ℕ} 0 1 = cc in omega arith)
+      go (Err x) is fits h = absurd (let z : ◌≡◌ {A = ℕ} 0 1 = cc in omega arith)
 
   left : b' ≡ l ++ drop (length l) b
   left = rw e at buffer
@@ -78,11 +76,11 @@ module _ (v : Verdict) (l b : List ℕ) (size : ℕ) (r : Written) (b' : List �
   front_by = ap (take n) left ∙ take_at l (drop (length l) b) n (sym is_length)
 
 -- the same of a text that no check comes before
-module _ (l b : List ℕ) (r : Written) (b' : List ℕ) (n : ℕ) (so : Writes l b r b') (e : r ≡ Length n) where
+module _ (l b : List ℕ) (r : Result ℕ Refusal) (b' : List ℕ) (n : ℕ) (so : Writes l b r b') (e : r ≡ Ok n) where
   pub length-written : n ≤ length b'
-  length-written = length_by Accepted l b (length l) r b' n (λ z. refl) so.answer so.buffer e
+  length-written = length_by (Ok tt) l b (length l) r b' n (λ z. refl) so.answer so.buffer e
 
   pub front_written : take n b' ≡ l
-  front_written = front_by Accepted l b (length l) r b' n (λ z. refl) so.answer so.buffer e
+  front_written = front_by (Ok tt) l b (length l) r b' n (λ z. refl) so.answer so.buffer e
 
 pub ruleset laws = (put-start, put-more, put_done, writes_short, writes_room)

@@ -7,15 +7,6 @@ ghost use Rattle.buffer.specs.Buffer.{Writes};
 
 use refusal::Refusal;
 
-// What writing a text answers.
-#[derive(Clone, Copy)]
-pub enum Written {
-    // So many bytes are written.
-    Length(usize),
-    // There is no room, by 12; or what the text is written for refuses.
-    Refused(Refusal),
-}
-
 // Puts bytes into a buffer that has room for them, from `at` on.
 pub fn put(buffer: &mut [u8], at: usize, bytes: &[u8])
     requires { at + length bytes.now ≤ length buffer.old }
@@ -29,13 +20,13 @@ pub fn put(buffer: &mut [u8], at: usize, bytes: &[u8])
 }
 
 // Writes bytes at the front of a buffer, if it has room.
-pub fn write(bytes: &[u8], buffer: &mut [u8]) -> Written
+pub fn write(bytes: &[u8], buffer: &mut [u8]) -> Result<usize, Refusal>
     ensures { Writes bytes.now buffer.old result buffer.new }
 {
     let size = bytes.len();
     if buffer.len() < size {
-        return Written::Refused(Refusal::MoreBytes(size));
+        return Err(Refusal::MoreBytes(size));
     }
     put(buffer, 0, bytes);
-    Written::Length(size)
+    Ok(size)
 }

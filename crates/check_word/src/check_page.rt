@@ -10,7 +10,7 @@ use frame_text::check_frame_text;
 use output::prose::{say, say_number, show};
 use readers::line_fields::{find_piece, letter_of};
 use refusal::Refusal;
-use text::{Verdict, find};
+use text::find;
 use text_faults::advice::{advise_command_line, advise_frame_line};
 use text_faults::line_form::{command_count, frame_count};
 
@@ -218,11 +218,11 @@ fn say_refusal(name: &[u8], what: &[u8], is_frame: bool, text: &[u8], refusal: R
 // What is said of a text that is taken for a frame text.
 pub fn check_frame(name: &[u8], text: &[u8]) {
     match check_frame_text(text) {
-        Verdict::Accepted => {
+        Ok(()) => {
             say_accepted(name, b"frame", text, b"FBHPVDE");
             output::outcome::succeed();
         }
-        Verdict::Refused(refusal) => {
+        Err(refusal) => {
             say_refusal(name, b"frame", true, text, refusal);
             say(b"\n");
             output::outcome::refuse(refusal);
@@ -233,12 +233,12 @@ pub fn check_frame(name: &[u8], text: &[u8]) {
 // The same of a command text.
 pub fn check_command(name: &[u8], text: &[u8]) {
     match check_command_text(text) {
-        Verdict::Accepted => {
+        Ok(()) => {
             say_accepted(name, b"command", text, b"QGRATSUKM");
             say_retired(text);
             output::outcome::succeed();
         }
-        Verdict::Refused(refusal) => {
+        Err(refusal) => {
             say_refusal(name, b"command", false, text, refusal);
             say(b"\n");
             output::outcome::refuse(refusal);

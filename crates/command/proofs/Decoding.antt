@@ -16,8 +16,6 @@ use Rattle.refusal.specs.Refusal.{number_of}
 use Rattle.records.specs.declared.PayloadOffset.{PayloadOffset}
 use Rattle.text.specs.Text.{lines}
 use Rattle.text.specs.Records.{records}
-use Rattle.text.specs.declared.Verdict.{Verdict}
-use Rattle.text.specs.declared.Verdict.TheVariants.{Accepted, Refused as NotAccepted}
 use Rattle.command_text.specs.Form.{form}
 use Rattle.command_text.specs.Rules.{verdict}
 use Rattle.command_class.specs.Definition.{definition}
@@ -44,6 +42,7 @@ use Rattle.command_rules.proofs.Rows.{table-rows}
 use Rattle.command_rules.proofs.Bounds.{walk-most, walk_inside}
 use Rattle.command_rules.proofs.Slots.{entries_lined}
 use Rattle.command_rules.proofs.Wanting.{walk_adds}
+use Rattle.std.specs.Prelude.{Result, Ok, Err}
 
 -- ---- one pass
 pub body-rows : (w : Walked) (t t' : List ℕ) (r : Taken) (p : PayloadOffset) → Gives w 0 t 0 t' r → length w.rows ≤ length t / row_width
@@ -90,7 +89,7 @@ body_sure offsets x l body count t loaded h = let m = walk-most offsets body (en
 pub ruleset body_laws = (body-rows, body_needs, body-fits, body_wrote, body-part, body-inside, body_sure)
 
 -- ---- the table that a text is loaded into
-pub loaded_all : (x l : List ℕ) → verdict x ≡ Accepted → length l ≡ 256 * loaded_width → length (heads_of x) * loaded_width ≤ length l
+pub loaded_all : (x l : List ℕ) → verdict x ≡ Ok tt → length l ≡ 256 * loaded_width → length (heads_of x) * loaded_width ≤ length l
 loaded_all x l accepted size = let c = heads-count 1 (records form (lines x)) in let w = (accepted-within x accepted).1.lines in omega arith
 
 pub loaded_short : (x l : List ℕ) → length x ≤ 240 → length l ≡ 48 * loaded_width → length (heads_of x) * loaded_width ≤ length l
@@ -107,7 +106,7 @@ module _ (offsets : Offsets) (x payload t : List ℕ) where
   accepted-short h u =
       record { answer = rw (le-ltb 2048 (length payload) h, lt-ltb (length payload) 2 u) refl; table_is = refl; adds = λ z. absurd (omega arith) }
 
-  module _ (accepted : verdict x ≡ Accepted) (long : length payload ≤ 2048) (short : 2 ≤ length payload) where
+  module _ (accepted : verdict x ≡ Ok tt) (long : length payload ≤ 2048) (short : 2 ≤ length payload) where
     -- the body as it is lent
     the_body : take (length payload - 2) (drop 2 payload) ≡ body_of payload
     the_body = tail payload 2
@@ -151,17 +150,17 @@ module _ (offsets : Offsets) (x payload t : List ℕ) where
 pub ruleset accepted_laws = (loaded_all, loaded_short, accepted-long, accepted-short, accepted-room, accepted_fills)
 
 -- ---- by any text
-module _ (offsets : Offsets) (x payload t : List ℕ) (v : Verdict) (is-v : v ≡ verdict x) where
-  pub text-accepted : v ≡ Accepted → verdict x ≡ Accepted
+module _ (offsets : Offsets) (x payload t : List ℕ) (v : Result (Unit {0}) Refusal) (is-v : v ≡ verdict x) where
+  pub text-accepted : v ≡ Ok tt → verdict x ≡ Ok tt
   text-accepted e = sym is-v ∙ e
 
-  pub text-refused : (why : Refusal) → v ≡ NotAccepted why → Decodes offsets x payload t (told (Refused why)) t
+  pub text-refused : (why : Refusal) → v ≡ Err why → Decodes offsets x payload t (told (Refused why)) t
   unfolding told answer_of table_after AddsUp
   text-refused why e =
       let n = eqb-false (number_of why) 0 (numbered why) in
       record { answer = rw (← is-v, e) refl; table_is = rw (numbered why) refl; adds = λ z. absurd (n z) }
 
-  pub text-decoded : (a : Told) (t' : List ℕ) → DecodesBy offsets x payload t a t' → v ≡ Accepted → Decodes offsets x payload t a t'
+  pub text-decoded : (a : Told) (t' : List ℕ) → DecodesBy offsets x payload t a t' → v ≡ Ok tt → Decodes offsets x payload t a t'
   unfolding answer_of
   text-decoded a t' d e = record { answer = rw (← is-v, e) d.answer; table_is = d.table_is; adds = d.adds }
 

@@ -1,8 +1,6 @@
 -- C18, R10 to R12 (docs/RULES.md): what decoding a command answers and leaves in the table.
-use Rattle.std.specs.Prelude.{Bool, true, false, cond, ◌≡◌, List, ℕ, ◌/◌, eqb, leb, ltb, length, drop}
+use Rattle.std.specs.Prelude.{Bool, true, false, cond, ◌≡◌, List, ℕ, ◌/◌, eqb, leb, ltb, length, drop, Result, Ok, Err}
 use Rattle.refusal.specs.Refusal.{most_frame, number_of, carried_by}
-use Rattle.text.specs.declared.Verdict.{Verdict}
-use Rattle.text.specs.declared.Verdict.TheVariants.{Accepted, Refused as NotAccepted}
 use Rattle.command_text.specs.Rules.{verdict}
 use Rattle.command_class.specs.Definition.{Entry, definition}
 use Rattle.command_rules.specs.Rows.{row_width, table, rows_in}
@@ -14,6 +12,7 @@ use Rattle.command_rules.specs.Walk.{Walked, walk}
 use Rattle.command_rules.specs.Sum.{Adds}
 use Rattle.command.specs.declared.Params.{Params}
 use Rattle.command.specs.declared.Params.TheVariants.{Rows, Refused}
+use Rattle.refusal.specs.declared.Refusal.{Refusal}
 
 -- D1: which offsets a caller asks for
 abbrev pub offsets_by : Bool → Offsets
@@ -60,9 +59,9 @@ answer_by offsets ds payload room =
     (within (walk offsets (body_of payload) ds) room))
 
 -- R10, R11: the call checks the text itself, and 1 to 3 come first
-abbrev pub on_verdict : Verdict → Told → Told
-on_verdict Accepted answer = answer
-on_verdict (NotAccepted r) answer = refused (number_of r) (carried_by r)
+abbrev pub on_verdict : Result (Unit {0}) Refusal → Told → Told
+on_verdict (Ok tt) answer = answer
+on_verdict (Err r) answer = refused (number_of r) (carried_by r)
 
 -- C18, R10: what `decode_params` answers
 unfoldable pub answer_of : Offsets → List ℕ → List ℕ → ℕ → Told

@@ -4,8 +4,7 @@
 // table, and counts all. Where the table may be too small it is run first over an empty part, so that nothing is written before all rows are known to fit.
 #![tactic(auto)]
 
-ghost use Rattle.std.specs.Prelude.{◌≡◌, ◌*◌, ◌/◌, ◌<◌, ◌≤◌, length};
-ghost use Rattle.text.specs.declared.Verdict.TheVariants.{Accepted};
+ghost use Rattle.std.specs.Prelude.{◌≡◌, ◌*◌, ◌/◌, ◌<◌, ◌≤◌, length, Ok};
 ghost use Rattle.command_text.specs.Rules.{verdict};
 ghost use Rattle.command_schema.specs.Heads.{heads_of, entries_of};
 ghost use Rattle.command_schema.specs.Loaded.{loaded_width, IsLoaded};
@@ -21,7 +20,6 @@ use command_schema::LOADED_WIDTH;
 use command_walk::walk_params;
 use records::PayloadOffset;
 use refusal::{MOST_FRAME, Refusal};
-use text::Verdict;
 
 // The numbers of the loaded definition: it has at most 256 rows.
 pub const LOADED: usize = 256 * LOADED_WIDTH;
@@ -107,7 +105,7 @@ fn decode_by(
     body: &[u8],
     rows: &mut [u64],
 ) -> Params
-    requires { (verdict text.now ≡ Accepted) × (length (heads_of text.now) * loaded_width ≤ length loaded.old) × (length body.now < 65536) }
+    requires { (verdict text.now ≡ Ok tt) × (length (heads_of text.now) * loaded_width ≤ length loaded.old) × (length body.now < 65536) }
     ensures { Fills (walk offsets body.now (entries_of (heads_of text.now))) rows.old (told result) rows.new }
 {
     let count = command_schema::load(text, loaded);
@@ -116,7 +114,7 @@ fn decode_by(
 
 // The parameters of a command by a text that is accepted, with offsets read in one of the two ways, into the table, or refusal 4, 5 or 8.
 pub fn decode_accepted(text: &[u8], payload: &[u8], offsets: Offsets, rows: &mut [u64]) -> Params
-    requires { verdict text.now ≡ Accepted }
+    requires { verdict text.now ≡ Ok tt }
     ensures { DecodesBy offsets text.now payload.now rows.old (told result) rows.new }
 {
     let size = payload.len();
@@ -140,7 +138,7 @@ pub fn decode_params(text: &[u8], payload: &[u8], offsets: Offsets, rows: &mut [
     ensures { Decodes offsets text.now payload.now rows.old (told result) rows.new }
 {
     match command_text::check_command_text(text) {
-        Verdict::Accepted => decode_accepted(text, payload, offsets, rows),
-        Verdict::Refused(refusal) => Params::Refused(refusal),
+        Ok(()) => decode_accepted(text, payload, offsets, rows),
+        Err(refusal) => Params::Refused(refusal),
     }
 }

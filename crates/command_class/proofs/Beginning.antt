@@ -2,7 +2,6 @@
 use mathlib.Core.Path.{◌≡◌, refl, sym, ap, ◌∙◌}
 use mathlib.Core.Bool.{Bool, true, false, cond}
 use mathlib.Core.List.{List, [], ◌∷◌}
-use mathlib.Core.Option.{none}
 use Prim.Native.Nat.{ℕ, suc, ◌-◌, ◌<◌}
 use native.Mathlib.Nat.{add-zero}
 use native.Mathlib.Numerals.{add-one}
@@ -23,6 +22,7 @@ use Rattle.command_text.specs.Rules.{rules}
 use Rattle.command_class.specs.Definition.{letter, read_as, numbered, of_item, as_const, const_of}
 use Rattle.command_class.specs.Find.{Begins, Follows}
 use Rattle.command_class.proofs.Saying.{kind_letter}
+use Rattle.std.specs.Prelude.{None}
 
 -- the kind of a line is its first byte
 first_byte : (l : List ℕ) (fs : List (List ℕ)) (more : List ℕ) → first l ≡ ended fs more → (kind_of fs ≡ 0 → ⊥) → kind_of fs ≡ get_or l 0 0
@@ -88,7 +88,7 @@ pub follows_less : (t : List ℕ) (p q : Place) → p.at < length t → Follows 
 follows_less t p q inside follows = omega (arith, follows.on)
 
 -- only a K has a const's value and name
-pub const_alone : (x : Record) → (letter x ≡ 0x4b → ⊥) → (of_item as_const x ≡ none) × (const_of x ≡ [])
+pub const_alone : (x : Record) → (letter x ≡ 0x4b → ⊥) → (of_item as_const x ≡ None) × (const_of x ≡ [])
 const_alone (param q) h = (refl, refl)
 const_alone (group g) h = (refl, refl)
 const_alone (item (variant s)) h = (refl, refl)

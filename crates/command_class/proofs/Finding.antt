@@ -2,7 +2,6 @@
 use mathlib.Core.Path.{◌≡◌, refl, sym, ap, ◌∙◌}
 use mathlib.Core.Bool.{Bool, true, false, cond, ◌||◌}
 use mathlib.Core.List.{List, ◌∷◌}
-use mathlib.Core.Option.{some}
 use Prim.Native.Nat.{ℕ, ◌<◌}
 use native.Mathlib.Numerals.{add-one}
 use lib.Dec.{eqb}
@@ -21,11 +20,12 @@ use Rattle.command_class.specs.Definition.{Item, numbered, letter, read_as}
 use Rattle.command_class.specs.Find.{from, among}
 use Rattle.command_text.proofs.Keeping.{brief}
 use Rattle.command_class.proofs.Saying.{kind_letter}
+use Rattle.std.specs.Prelude.{Some}
 
 -- ---- a line of a text that is read
 pub record Lined (t : List ℕ) (p : Place) (l : Line) : Type 0 where
   pub says : Record
-  pub form_is : form (cells t l) ≡ some says
+  pub form_is : form (cells t l) ≡ Some says
   pub kind_is : read_as l.kind ≡ letter says
   pub lines : from t p ≡ record { line = p.line; says = says } ∷ from t l.next
   pub next : Readable rules t l.next

@@ -10,12 +10,12 @@ use borrow.Author.Tests.{leb-false}
 use Rattle.text.specs.Text.{lines}
 use Rattle.text.specs.Records.{records}
 use Rattle.text.specs.Honest.{Keeps}
-use Rattle.text.specs.declared.Verdict.TheVariants.{Accepted}
 use Rattle.text.proofs.Tests.{held, or_left}
 use Rattle.text.proofs.Honest.{accepted_keeps}
 use Rattle.command_text.specs.Form.{Record, form}
 use Rattle.command_text.specs.Rules.{begins, count, items, owned, grouped, shift, member, rules, verdict}
 use Rattle.command_class.specs.Limits.{FewUnderEach, WithinLimits}
+use Rattle.std.specs.Prelude.{Ok}
 
 few_lines : (before rs : List Record) → Keeps rules before rs → count before ≤ 256 → count rs + count before ≤ 256
 few_lines before [] keeps h = omega arith
@@ -47,7 +47,7 @@ each before (r ∷ rs) keeps = (here, each (r ∷ before) rs keeps.2)
     here b = let e : items (r ∷ before) ≡ 0 = rw b in omega (arith, few_items (r ∷ before) rs keeps.2 (omega arith))
 
 -- an accepted text has at most 60,000 bytes and keeps every limit
-pub accepted-within : (t : List ℕ) → verdict t ≡ Accepted → (length t ≤ 60000) × WithinLimits (records form (lines t))
+pub accepted-within : (t : List ℕ) → verdict t ≡ Ok tt → (length t ≤ 60000) × WithinLimits (records form (lines t))
 accepted-within t e =
     let k : (length t ≤ 60000) × Keeps rules [] (records form (lines t)) = accepted_keeps rules t e in
     (k.0, record { lines = omega (arith, few_lines [] (records form (lines t)) k.1 (omega arith)); under = each [] (records form (lines t)) k.1 })

@@ -2,7 +2,6 @@
 use mathlib.Core.Path.{◌≡◌, refl, sym, ap, ◌∙◌}
 use mathlib.Core.Bool.{Bool, true, false, cond, ◌||◌}
 use mathlib.Core.List.{List, [], ◌∷◌}
-use mathlib.Core.Option.{some}
 use Prim.Native.Nat.{ℕ, ◌+◌, ◌-◌, ◌≤◌, ◌<◌}
 use native.Mathlib.Omega.{arith}
 use lib.Dec.{eqb}
@@ -28,21 +27,22 @@ use Rattle.command_class.proofs.Saying.{kind_letter}
 use Rattle.command_class.proofs.Finding.{same_line, read_other}
 use Rattle.command_class.proofs.Rows.{said_good}
 use Rattle.command_class.proofs.Beginning.{const_alone}
+use Rattle.std.specs.Prelude.{Some}
 
 -- ---- what such a line says
 module _ (fs : List (List ℕ)) (formed : is_some (form fs) ≡ true) where
-  flag-said : kind_of fs ≡ 84 → (named_form fs ≡ true) × (form fs ≡ some (item (bit_flag (worth 0 (field 1 fs)) (field 2 fs))))
+  flag-said : kind_of fs ≡ 84 → (named_form fs ≡ true) × (form fs ≡ Some (item (bit_flag (worth 0 (field 1 fs)) (field 2 fs))))
   flag-said is = said_good fs (named_form fs) _ (rw is) formed
 
-  const_said : kind_of fs ≡ 75 → (named_form fs ≡ true) × (form fs ≡ some (item (const (worth 0 (field 1 fs)) (field 2 fs))))
+  const_said : kind_of fs ≡ 75 → (named_form fs ≡ true) × (form fs ≡ Some (item (const (worth 0 (field 1 fs)) (field 2 fs))))
   const_said is = said_good fs (named_form fs) _ (rw is) formed
 
   -- S, and U, which is read as one
-  field-said : read_as (kind_of fs) ≡ 83 → (bits_form fs ≡ true) × (form fs ≡ some (item (bit_field (bits_of fs))))
+  field-said : read_as (kind_of fs) ≡ 83 → (bits_form fs ≡ true) × (form fs ≡ Some (item (bit_field (bits_of fs))))
   field-said is = go (eqb (kind_of fs) 85) refl is
     where
       go : (b : Bool) → eqb (kind_of fs) 85 ≡ b → cond b 83 (kind_of fs) ≡ 83 → (bits_form fs ≡ true)
-          × (form fs ≡ some (item (bit_field (bits_of fs))))
+          × (form fs ≡ Some (item (bit_field (bits_of fs))))
       go true e q = said_good fs (bits_form fs) _ (rw (eqb-true (kind_of fs) 85 e)) formed
       go false e q = said_good fs (bits_form fs) _ (rw q) formed
 
@@ -106,9 +106,9 @@ module _ (t : List ℕ) (p : Place) (readable : Readable rules t p) (inside : p.
   some_one : among 84 83 75 kind ≡ true → kind ≡ 0 → ⊥
   some_one e z = let y : false ≡ true = rw z at e in let w : ◌≡◌ {A = ℕ} 0 1 = cc in omega arith
 
-  pub said_as : (x : Record) (r : Row) → form fs ≡ some x → kind ≡ letter x → r.kind ≡ kind → Says x r → Numbers t p r
+  pub said_as : (x : Record) (r : Row) → form fs ≡ Some x → kind ≡ letter x → r.kind ≡ kind → Says x r → Numbers t p r
   said_as x r is l k s =
-      let same : here.said ≡ x = let z : some here.said ≡ some x = sym here.form_is ∙ is in cc in
+      let same : here.said ≡ x = let z : Some here.said ≡ Some x = sym here.form_is ∙ is in cc in
       record {
         said = x;
         others = begin.others;
@@ -208,7 +208,7 @@ module _ (t : List ℕ) (p : Place) (readable : Readable rules t p) (inside : p.
       const_named d last =
           let s = const_said fs formed (is_const_lem is) in
           let same : here.said ≡ item (const (worth 0 (field 1 fs)) (field 2 fs)) =
-          (let z : some here.said ≡ some (item (const (worth 0 (field 1 fs)) (field 2 fs))) = sym here.form_is ∙ s.1 in cc) in
+          (let z : Some here.said ≡ Some (item (const (worth 0 (field 1 fs)) (field 2 fs))) = sym here.form_is ∙ s.1 in cc) in
           last.is ∙ stands_is t p fs 2 (e + 1) stands-name ∙ sym (ap const_in begin.lines ∙ ap const_of (sym said_is ∙ same))
 
   pub const_unnamed : (kind ≡ 75 → ⊥) → [] ≡ const_in (from t p)

@@ -2,7 +2,6 @@
 use mathlib.Core.Path.{◌≡◌, refl, sym, ap, ◌∙◌}
 use mathlib.Core.Bool.{true, false}
 use mathlib.Core.List.{List, [], ◌∷◌}
-use mathlib.Core.Option.{some}
 use Prim.Native.Nat.{ℕ, ◌+◌, ◌-◌, ◌≤◌, ◌<◌}
 use native.Mathlib.Omega.{arith}
 use lib.Dec.{eqb}
@@ -18,13 +17,13 @@ use Rattle.text.proofs.Tests.{and_left, and_right, value_of, digit-long}
 use Rattle.command_text.specs.Form.{param, type_of, known, param_words, param_condition, param_fields, param_form, param_of, form}
 use Rattle.command_text.specs.Rules.{rules}
 use Rattle.command_text.specs.declared.ParamType.{ParamType}
-use Rattle.command_text.specs.declared.Typed.TheVariants.{Is}
 use Rattle.command_text.proofs.Laws.{param-level, param_type_lem}
 use Rattle.command_class.specs.Find.{number_or, IsRead, IsCondition, Begins}
 use Rattle.command_class.specs.declared.Condition.{Condition}
 use Rattle.command_class.proofs.Finding.{read_other}
 use Rattle.command_class.proofs.Rows.{or-missing, param_good, read_numbers}
 use Rattle.command_class.proofs.Numbering.{fs, formed, kind_is, behind_kind, said_as}
+use Rattle.std.specs.Prelude.{Some}
 
 -- ---- the last two fields
 module _ (t : List ℕ) (a : ℕ) (two : length (fields_at t a) ≡ 2) where
@@ -59,7 +58,7 @@ module _ (t : List ℕ) (p : Place) (readable : Readable rules t p) (inside : p.
   abbrev gs : List (List ℕ)
   gs = fs t p readable inside 81 begin
 
-  asked : (param_form gs ≡ true) × ((type : ParamType) × (type_of (field 2 gs) ≡ Is type) × (form gs ≡ some (param (param_of gs type))))
+  asked : (param_form gs ≡ true) × ((type : ParamType) × (type_of (field 2 gs) ≡ Some type) × (form gs ≡ Some (param (param_of gs type))))
   asked =
       let k : kind_of gs ≡ 81 = read_other (kind_of gs) 81 (λ z. omega arith) (kind_is t p readable inside 81 begin) in
       param_good gs (param_form gs) (type_of (field 2 gs)) (rw k) (formed t p readable inside 81 begin)
@@ -116,15 +115,15 @@ module _ (t : List ℕ) (p : Place) (readable : Readable rules t p) (inside : p.
         passes = ended_passes t p c.end readable.inn (condition.end ∙ stands_condition.line) condition.inside
 
         pub param_read : (v : ℕ) (type : ParamType) → v ≡ value 1 (take (p.at + 3 - (p.at + 2)) (drop (p.at + 2) t))
-            → type_of (take (e - (p.at + 4)) (drop (p.at + 4) t)) ≡ Is type → IsRead t p (record {
+            → type_of (take (e - (p.at + 4)) (drop (p.at + 4) t)) ≡ Some type → IsRead t p (record {
               row = record { kind = 81; level = v; typed = type; offset = c.offset; mask = c.mask; shift = 0; value = 0; ascii = false };
               next = record { at = c.end + 1; line = p.line + 1 };
             })
         param_read v type v-is type_says =
             let w : param_condition gs ≡ true = and_right (param_words gs) (param_condition gs) asked-fields in
-            let same : asked.1.0 ≡ type = let z : Is asked.1.0 ≡ Is type = sym asked.1.1 ∙ (rw type_is at type_says) in cc in
+            let same : asked.1.0 ≡ type = let z : Some asked.1.0 ≡ Some type = sym asked.1.1 ∙ (rw type_is at type_says) in cc in
             read_numbers t p _ _ readable inside passes
-            (said_as t p readable inside 81 begin (param (param_of gs type)) _ (asked.1.2 ∙ ap (λ (x : ParamType). some (param (param_of gs x))) same)
+            (said_as t p readable inside 81 begin (param (param_of gs type)) _ (asked.1.2 ∙ ap (λ (x : ParamType). Some (param (param_of gs x))) same)
             refl refl (
               v-is ∙ ap (value 1) (level-ends.is ∙ stands_is t p gs 1 (p.at + 2) stands-level) ∙ value_of 1 (field 1 gs) (param-level gs asked-fields),
               refl,

@@ -2,13 +2,11 @@
 use mathlib.Core.Path.{◌≡◌, refl, sym, ap}
 use mathlib.Core.Bool.{Bool, true, false, cond}
 use mathlib.Core.List.{List, [], ◌∷◌}
-use mathlib.Core.Option.{Option, none, some}
 use Prim.Native.Nat.{ℕ, ◌≤◌}
 use native.Mathlib.Omega.{arith}
 use Rattle.text.specs.Text.{lines, up_to, optional_up_to, name}
 use Rattle.text.specs.Records.{records}
 use Rattle.text.specs.Print.{shown, or_dash, Clean, said, Prints, Faithful}
-use Rattle.text.specs.declared.Verdict.TheVariants.{Accepted}
 use Rattle.text.proofs.Printing.{clean_shown, clean_name, letter_clean, dash_clean, number_test, number_clean, shown-up_to, shown-worth, shown-given}
 use Rattle.text.proofs.Printing.{text-accepted, accepted-text}
 use Rattle.command_text.specs.Form.{Param, Bits, Record, param, group, item, Detail, variant, array, bit_flag, bit_field, const, bitmask, given, shift_of}
@@ -20,12 +18,12 @@ use Rattle.command_class.specs.Print.{digit, shift_shown, Spelling, ParamFits, I
 use Rattle.command_class.proofs.Saying.{reads}
 use Rattle.command_text.specs.declared.ParamType.{ParamType}
 use Rattle.command_text.specs.declared.ParamType.TheVariants.{Byte, StructByte, Const, Marker, Word, Bit24, Dword, Array, Variant, Bitmask, MultiArray}
-use Rattle.command_text.specs.declared.Typed.TheVariants.{Is}
+use Rattle.std.specs.Prelude.{Option, Some, None, Ok}
 
 -- ---- what is written, and read back
 number_back : (o : Option ℕ) → given (or_dash shown o) ≡ o
-number_back none = refl
-number_back (some k) = rw (shown-given k, shown-worth k)
+number_back None = refl
+number_back (Some k) = rw (shown-given k, shown-worth k)
 
 shift_test : (m : Bool) (n : ℕ) → n ≤ 255 → optional_up_to 255 (shift_shown m n) ≡ true
 shift_test true n h = refl
@@ -51,7 +49,7 @@ digit_clean : (b : Bool) → Clean (digit b)
 digit_clean true = record { tab = refl; end = refl }
 digit_clean false = record { tab = refl; end = refl }
 
-type_back : (type : ParamType) → type_of (type_name type) ≡ Is type
+type_back : (type : ParamType) → type_of (type_name type) ≡ Some type
 type_back Byte = refl
 type_back StructByte = refl
 type_back Const = refl
@@ -111,7 +109,7 @@ prints_bits w b f z = record {
     letter true = letter_clean 85 (omega arith) (omega arith)
     letter false = letter_clean 83 (omega arith) (omega arith)
 
-    go : (u : Bool) → form ((cond u 85 83 ∷ []) ∷ shown b.mask ∷ shift_shown w.missing b.shift ∷ b.name ∷ []) ≡ some (item (bit_field b))
+    go : (u : Bool) → form ((cond u 85 83 ∷ []) ∷ shown b.mask ∷ shift_shown w.missing b.shift ∷ b.name ∷ []) ≡ Some (item (bit_field b))
     go true =
         rw (
           shown-up_to 255 b.mask f.0,
@@ -197,7 +195,7 @@ faithful = record { prints = λ w f. prints_record w.spelling w.says f.fits f.ze
 
 -- a text is accepted exactly if it is the text of records that fit their forms, keep the limits and have their owners, within 60,000 bytes, where a
 -- shift of 0 may be left out and an S be written as a U
-pub accepted_exactly : (t : List ℕ) → (verdict t ≡ Accepted → IsCommandText t) × (IsCommandText t → verdict t ≡ Accepted)
+pub accepted_exactly : (t : List ℕ) → (verdict t ≡ Ok tt → IsCommandText t) × (IsCommandText t → verdict t ≡ Ok tt)
 accepted_exactly t = (accepted-text rules writing faithful t, λ is. (text-accepted rules writing faithful t is).0)
 
 -- such a text stands for what its lines say

@@ -2,7 +2,6 @@
 use mathlib.Core.Path.{◌≡◌, refl, sym, ap, ◌∙◌}
 use mathlib.Core.Bool.{Bool, true, false, cond, ◌&&◌, ◌||◌}
 use mathlib.Core.List.{List, ◌∷◌}
-use mathlib.Core.Option.{Option, none, some}
 use Prim.Native.Nat.{ℕ, ◌<◌}
 use native.Mathlib.Omega.{arith}
 use lib.Dec.{eqb, leb}
@@ -29,17 +28,16 @@ use Rattle.command_class.specs.Find.{from, Good, among, or_missing, optional_or,
 use Rattle.command_class.specs.declared.Row.{Row}
 use Rattle.command_text.specs.declared.ParamType.{ParamType}
 use Rattle.command_text.specs.declared.ParamType.TheVariants.{Byte}
-use Rattle.command_text.specs.declared.Typed.{Typed}
-use Rattle.command_text.specs.declared.Typed.TheVariants.{Is, Not}
 use Rattle.command_text.proofs.Laws.{group_shift, variant_shift}
 use Rattle.command_class.proofs.Saying.{kind_letter}
 use Rattle.command_class.proofs.Finding.{Lined, lined, same_line, read_other}
 use Rattle.command_class.proofs.Beginning.{follows_at}
+use Rattle.std.specs.Prelude.{Option, Some, None}
 
 -- ---- what may be missing
 module _ (l : List ℕ) where
   or-missing-given : (m d u : Bool) → (m || (d && u)) ≡ true
-      → optional_or (cond m Missing (text.given (cond d (cond u (number.Is (worth 0 l)) Over) number.Not))) ≡ or_missing (cond m none (some (worth 0 l)))
+      → optional_or (cond m Missing (text.given (cond d (cond u (number.Is (worth 0 l)) Over) number.Not))) ≡ or_missing (cond m None (Some (worth 0 l)))
   or-missing-given true d u e = refl
   or-missing-given false true true e = refl
   or-missing-given false true false e = absurd (let z : ◌≡◌ {A = ℕ} 0 1 = cc in omega arith)
@@ -65,15 +63,15 @@ module _ (s : List ℕ) (r : Optional) (is : r ≡ optional 255 s) where
 pub ruleset optional_laws = (optional-given, optional-missing, optional_wrong)
 
 -- ---- a line of a kind
-pub said_good : (fs : List (List ℕ)) (b : Bool) (y : Record) → form fs ≡ said b (some y) → is_some (form fs) ≡ true → (b ≡ true)
-    × (form fs ≡ some y)
+pub said_good : (fs : List (List ℕ)) (b : Bool) (y : Record) → form fs ≡ said b (Some y) → is_some (form fs) ≡ true → (b ≡ true)
+    × (form fs ≡ Some y)
 said_good fs true y e f = (refl, e)
 said_good fs false y e f = absurd (let z : ◌≡◌ {A = Bool} false true = rw e at f in let w : ◌≡◌ {A = ℕ} 0 1 = cc in omega arith)
 
-pub param_good : (fs : List (List ℕ)) (b : Bool) (o : Typed) → form fs ≡ said b (of_type fs o) → is_some (form fs) ≡ true → (b ≡ true)
-    × ((type : ParamType) × (o ≡ Is type) × (form fs ≡ some (param (param_of fs type))))
-param_good fs true (Is type) e f = (refl, (type, refl, e))
-param_good fs true Not e f = absurd (let z : ◌≡◌ {A = Bool} false true = rw e at f in let w : ◌≡◌ {A = ℕ} 0 1 = cc in omega arith)
+pub param_good : (fs : List (List ℕ)) (b : Bool) (o : Option ParamType) → form fs ≡ said b (of_type fs o) → is_some (form fs) ≡ true → (b ≡ true)
+    × ((type : ParamType) × (o ≡ Some type) × (form fs ≡ Some (param (param_of fs type))))
+param_good fs true (Some type) e f = (refl, (type, refl, e))
+param_good fs true None e f = absurd (let z : ◌≡◌ {A = Bool} false true = rw e at f in let w : ◌≡◌ {A = ℕ} 0 1 = cc in omega arith)
 param_good fs false o e f = absurd (let z : ◌≡◌ {A = Bool} false true = rw e at f in let w : ◌≡◌ {A = ℕ} 0 1 = cc in omega arith)
 
 module _ (t : List ℕ) (l : Line) (good : Good t l) where
@@ -89,7 +87,7 @@ module _ (t : List ℕ) (l : Line) (good : Good t l) where
 
   -- G
   module _ (is : l.kind ≡ 71) where
-    g_said : (group_form fs ≡ true) × (form fs ≡ some (group (group_of fs)))
+    g_said : (group_form fs ≡ true) × (form fs ≡ Some (group (group_of fs)))
     g_said = said_good fs (group_form fs) _ (rw (sym good.kind_is ∙ is)) good.formed
 
     pub group_has : (k : ℕ) → k < 5 → Has t l k
@@ -117,7 +115,7 @@ module _ (t : List ℕ) (l : Line) (good : Good t l) where
 
   -- R
   module _ (is : l.kind ≡ 82) where
-    r_said : (variant_form fs ≡ true) × (form fs ≡ some (item (variant (size_of fs))))
+    r_said : (variant_form fs ≡ true) × (form fs ≡ Some (item (variant (size_of fs))))
     r_said = said_good fs (variant_form fs) _ (rw (sym good.kind_is ∙ is)) good.formed
 
     pub variant_has : (k : ℕ) → k < 5 → Has t l k
@@ -144,7 +142,7 @@ module _ (t : List ℕ) (l : Line) (good : Good t l) where
 
   -- A
   module _ (is : l.kind ≡ 65) where
-    a_said : (array_form fs ≡ true) × (form fs ≡ some (item (array (worth 0 (field 1 fs)) (ascii_of (field 2 fs)))))
+    a_said : (array_form fs ≡ true) × (form fs ≡ Some (item (array (worth 0 (field 1 fs)) (ascii_of (field 2 fs)))))
     a_said = said_good fs (array_form fs) _ (rw (sym good.kind_is ∙ is)) good.formed
 
     pub array_has : (k : ℕ) → k < 3 → Has t l k
@@ -167,7 +165,7 @@ module _ (t : List ℕ) (l : Line) (good : Good t l) where
 
   -- M
   module _ (is : l.kind ≡ 77) where
-    m_said : (bitmask_form fs ≡ true) × (form fs ≡ some (item (bitmask (given (field 1 fs)))))
+    m_said : (bitmask_form fs ≡ true) × (form fs ≡ Some (item (bitmask (given (field 1 fs)))))
     m_said = said_good fs (bitmask_form fs) _ (rw (sym good.kind_is ∙ is)) good.formed
 
     pub bitmask_has : (k : ℕ) → k < 2 → Has t l k
@@ -205,15 +203,15 @@ module _ (t : List ℕ) (l : Line) (good : Good t l) where
       of_record (item (bitmask y)) e = read_other l.kind 77 (λ z. omega arith) e
 
       go : (x : Option Record) → form fs ≡ x → is_some x ≡ true → l.kind ≡ 77
-      go none e h = absurd (let z : ◌≡◌ {A = ℕ} 0 1 = cc in omega arith)
-      go (some x) e h = of_record x (ap read_as good.kind_is ∙ kind_letter fs x e)
+      go None e h = absurd (let z : ◌≡◌ {A = ℕ} 0 1 = cc in omega arith)
+      go (Some x) e h = of_record x (ap read_as good.kind_is ∙ kind_letter fs x e)
 
 -- ---- a field that names a type
-module _ (s : List ℕ) (r : Typed) (is : r ≡ type_of s) where
-  pub type_says : (type : ParamType) → r ≡ Is type → type_of s ≡ Is type
+module _ (s : List ℕ) (r : Option ParamType) (is : r ≡ type_of s) where
+  pub type_says : (type : ParamType) → r ≡ Some type → type_of s ≡ Some type
   type_says type e = sym is ∙ e
 
-  pub type_never : known (type_of s) ≡ true → r ≡ Not → type_of s ≡ Is Byte
+  pub type_never : known (type_of s) ≡ true → r ≡ None → type_of s ≡ Some Byte
   type_never h e = absurd (let z : false ≡ true = rw (sym is ∙ e) at h in let w : ◌≡◌ {A = ℕ} 0 1 = cc in omega arith)
 
 pub ruleset type_laws = (type_says, type_never)
@@ -251,7 +249,7 @@ module _ (t : List ℕ) (p : Place) (l : Line) (readable : Readable rules t p) (
 
   pub read_is : (r : Row) → Tells t l r → IsRead t p (record { row = r; next = l.next })
   read_is r h =
-      let same : line_here.says ≡ h.said = let z : some line_here.says ≡ some h.said = sym line_here.form_is ∙ h.form_is in cc in
+      let same : line_here.says ≡ h.said = let z : Some line_here.says ≡ Some h.said = sym line_here.form_is ∙ h.form_is in cc in
       record {
         said = h.said;
         lines = line_here.lines ∙ ap (λ (x : Record). record { line = p.line; says = x } ∷ from t l.next) same;

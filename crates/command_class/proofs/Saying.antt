@@ -2,7 +2,6 @@
 use mathlib.Core.Path.{◌≡◌, refl, sym, ap, subst, ◌∙◌}
 use mathlib.Core.Bool.{Bool, true, false, cond, ◌&&◌, ◌||◌}
 use mathlib.Core.List.{List, [], ◌∷◌}
-use mathlib.Core.Option.{Option, none, some}
 use Prim.Native.Nat.{ℕ, zero, suc, ◌≤◌}
 use native.Mathlib.Omega.{arith}
 use lib.Dec.{eqb}
@@ -19,18 +18,17 @@ use Rattle.command_text.specs.Form.{type_name, types, type_among, known, type_of
 use Rattle.command_text.specs.Form.{variant_fields, variant_form}
 use Rattle.command_text.specs.Form.{array_form, named_form, bits_fields, bits_form, bitmask_form, param_of, group_of, size_of, bits_of, of_type, said, param_said, form}
 use Rattle.command_text.specs.declared.ParamType.{ParamType}
-use Rattle.command_text.specs.declared.Typed.{Typed}
-use Rattle.command_text.specs.declared.Typed.TheVariants.{Is, Not}
 use Rattle.command_text.specs.Rules.{shift, rules}
 use Rattle.command_class.specs.Definition.{letter_of, letter, read_as}
 use Rattle.command_class.specs.Print.{digit, shift_shown, Spelling, print_item, print, Fits, writing}
+use Rattle.std.specs.Prelude.{Option, Some, None}
 
 -- ---- what a field says
 optional_reads : (l : List ℕ) → optional_up_to 255 l ≡ true → (or_dash shown (given l) ≡ l) × Optionally (λ n. n ≤ 255) (given l)
 optional_reads l e = go (missing l) refl e
   where
     go : (m : Bool) → missing l ≡ m → (m || up_to 255 l) ≡ true
-        → (or_dash shown (cond m none (some (worth 0 l))) ≡ l) × Optionally (λ n. n ≤ 255) (cond m none (some (worth 0 l)))
+        → (or_dash shown (cond m None (Some (worth 0 l))) ≡ l) × Optionally (λ n. n ≤ 255) (cond m None (Some (worth 0 l)))
     go true q h = (sym (missing_is l q), tt)
     go false q h = up_to_back 255 l h
 
@@ -60,11 +58,11 @@ digit_reads l e =
     go (suc zero) h = refl
     go (suc (suc n)) h = absurd (omega arith)
 
-type_reads : (these : List ParamType) (l : List ℕ) (type : ParamType) → type_among these l ≡ Is type → type_name type ≡ l
+type_reads : (these : List ParamType) (l : List ℕ) (type : ParamType) → type_among these l ≡ Some type → type_name type ≡ l
 type_reads [] l type e = absurd (let z : ◌≡◌ {A = ℕ} 0 1 = cc in omega arith)
 type_reads (t ∷ ts) l type e = by_test (same l (type_name t)) refl (type_reads ts l type) e
   where
-    by_test : (b : Bool) → same l (type_name t) ≡ b → (type_among ts l ≡ Is type → type_name type ≡ l) → cond b (Is t) (type_among ts l) ≡ Is type
+    by_test : (b : Bool) → same l (type_name t) ≡ b → (type_among ts l ≡ Some type → type_name type ≡ l) → cond b (Some t) (type_among ts l) ≡ Some type
         → type_name type ≡ l
     by_test true q ih h = let w : t ≡ type = cc in rw (← w) (sym (same_is l (type_name t) q))
     by_test false q ih h = ih h
@@ -83,7 +81,7 @@ module _ (fs : List (List ℕ)) where
   plain_line n x e p f =
       line n x (record { missing = false; enum = false }) e p f (λ q. absurd (let z : ◌≡◌ {A = ℕ} 0 1 = cc in omega arith))
 
-  param_reads : (type : ParamType) → kind_of fs ≡ 81 → type_of (field 2 fs) ≡ Is type → param_form fs ≡ true
+  param_reads : (type : ParamType) → kind_of fs ≡ 81 → type_of (field 2 fs) ≡ Some type → param_form fs ≡ true
       → Reads rules writing fs (param (param_of fs type))
   param_reads type k t e =
       let w : param_fields fs ≡ true = and_right (eqb (length fs) 6) _ e in
@@ -184,18 +182,18 @@ module _ (fs : List (List ℕ)) where
 
   -- ---- what the fields say
   module _ (x : Record) where
-    one : (b : Bool) (y : Record) → (b ≡ true → Reads rules writing fs y) → said b (some y) ≡ some x → Reads rules writing fs x
+    one : (b : Bool) (y : Record) → (b ≡ true → Reads rules writing fs y) → said b (Some y) ≡ Some x → Reads rules writing fs x
     one true y f e = let q : y ≡ x = cc in subst (Reads rules writing fs) q (f refl)
     one false y f e = absurd (let z : ◌≡◌ {A = ℕ} 0 1 = cc in omega arith)
 
-    one_param : (b : Bool) (o : Typed) → param_form fs ≡ b → type_of (field 2 fs) ≡ o
-        → ((type : ParamType) → type_of (field 2 fs) ≡ Is type → param_form fs ≡ true → Reads rules writing fs (param (param_of fs type)))
-        → said b (of_type fs o) ≡ some x → Reads rules writing fs x
-    one_param true (Is type) p t f e = let q : param (param_of fs type) ≡ x = cc in subst (Reads rules writing fs) q (f type t p)
-    one_param true Not p t f e = absurd (let z : ◌≡◌ {A = ℕ} 0 1 = cc in omega arith)
+    one_param : (b : Bool) (o : Option ParamType) → param_form fs ≡ b → type_of (field 2 fs) ≡ o
+        → ((type : ParamType) → type_of (field 2 fs) ≡ Some type → param_form fs ≡ true → Reads rules writing fs (param (param_of fs type)))
+        → said b (of_type fs o) ≡ Some x → Reads rules writing fs x
+    one_param true (Some type) p t f e = let q : param (param_of fs type) ≡ x = cc in subst (Reads rules writing fs) q (f type t p)
+    one_param true None p t f e = absurd (let z : ◌≡◌ {A = ℕ} 0 1 = cc in omega arith)
     one_param false o p t f e = absurd (let z : ◌≡◌ {A = ℕ} 0 1 = cc in omega arith)
 
-    pub reads : form fs ≡ some x → Reads rules writing fs x
+    pub reads : form fs ≡ Some x → Reads rules writing fs x
     reads e = by_kind (eqb (kind_of fs) 81) (eqb (kind_of fs) 71) (eqb (kind_of fs) 82) (eqb (kind_of fs) 65) (eqb (kind_of fs) 84) (eqb (kind_of fs) 83)
         (eqb (kind_of fs) 85) (eqb (kind_of fs) 75) (eqb (kind_of fs) 77)
         refl refl refl refl refl refl refl refl refl e
@@ -204,14 +202,14 @@ module _ (fs : List (List ℕ)) where
             → eqb (kind_of fs) 81 ≡ q → eqb (kind_of fs) 71 ≡ g → eqb (kind_of fs) 82 ≡ r → eqb (kind_of fs) 65 ≡ a → eqb (kind_of fs) 84 ≡ t
             → eqb (kind_of fs) 83 ≡ s → eqb (kind_of fs) 85 ≡ u → eqb (kind_of fs) 75 ≡ k → eqb (kind_of fs) 77 ≡ m
             → cond q (param_said fs)
-            (cond g (said (group_form fs) (some (group (group_of fs))))
-            (cond r (said (variant_form fs) (some (item (variant (size_of fs)))))
-            (cond a (said (array_form fs) (some (item (array (value (field 1 fs)) (ascii_of (field 2 fs))))))
-            (cond t (said (named_form fs) (some (item (bit_flag (value (field 1 fs)) (field 2 fs)))))
-            (cond s (said (bits_form fs) (some (item (bit_field (bits_of fs)))))
-            (cond u (said (bits_form fs) (some (item (bit_field (bits_of fs)))))
-            (cond k (said (named_form fs) (some (item (const (value (field 1 fs)) (field 2 fs)))))
-            (cond m (said (bitmask_form fs) (some (item (bitmask (given (field 1 fs)))))) none)))))))) ≡ some x
+            (cond g (said (group_form fs) (Some (group (group_of fs))))
+            (cond r (said (variant_form fs) (Some (item (variant (size_of fs)))))
+            (cond a (said (array_form fs) (Some (item (array (value (field 1 fs)) (ascii_of (field 2 fs))))))
+            (cond t (said (named_form fs) (Some (item (bit_flag (value (field 1 fs)) (field 2 fs)))))
+            (cond s (said (bits_form fs) (Some (item (bit_field (bits_of fs)))))
+            (cond u (said (bits_form fs) (Some (item (bit_field (bits_of fs)))))
+            (cond k (said (named_form fs) (Some (item (const (value (field 1 fs)) (field 2 fs)))))
+            (cond m (said (bitmask_form fs) (Some (item (bitmask (given (field 1 fs)))))) None)))))))) ≡ Some x
             → Reads rules writing fs x
         by_kind true g r a t s u k m eq eg er ea et es eu ek em e =
             one_param (param_form fs) (type_of (field 2 fs)) refl refl (λ type. param_reads type (eqb-true _ _ eq)) e
@@ -230,7 +228,7 @@ module _ (fs : List (List ℕ)) where
             absurd (let z : ◌≡◌ {A = ℕ} 0 1 = cc in omega arith)
 
     -- the kind of a line whose record this is
-    pub kind_letter : form fs ≡ some x → read_as (kind_of fs) ≡ letter x
+    pub kind_letter : form fs ≡ Some x → read_as (kind_of fs) ≡ letter x
     kind_letter e =
         let w : Reads rules writing fs x = reads e in
         ap (λ (gs : List (List ℕ)). read_as (kind_of gs)) (sym w.print_is) ∙ by_record w.line.spelling w.line.says ∙ ap letter w.says_it
@@ -252,7 +250,7 @@ module _ (fs : List (List ℕ)) where
         by_record w (group g) = refl
         by_record w (item d) = by_item w d
 
-    said_fits : form fs ≡ some x → Fits x
+    said_fits : form fs ≡ Some x → Fits x
     said_fits e = let w : Reads rules writing fs x = reads e in rw (← w.says_it) w.fits.fits
 
 -- every record of a text can be written
@@ -261,7 +259,7 @@ records_fit [] = tt
 records_fit (l ∷ []) = tt
 records_fit (l ∷ m ∷ ms) = go (form (fields l)) (said_fits (fields l)) (records_fit (m ∷ ms))
   where
-    go : (x : Option Record) → ((r : Record) → x ≡ some r → Fits r) → Every Fits (records form (m ∷ ms))
+    go : (x : Option Record) → ((r : Record) → x ≡ Some r → Fits r) → Every Fits (records form (m ∷ ms))
         → Every Fits (onto x (records form (m ∷ ms)))
-    go none f rest = rest
-    go (some r) f rest = (f r refl, rest)
+    go None f rest = rest
+    go (Some r) f rest = (f r refl, rest)

@@ -1,6 +1,5 @@
 -- T32 (docs/RULES.md): the definition that an accepted command text stands for, as plain data; and what C12 looks for in it.
-use Rattle.std.specs.Prelude.{ℕ, suc, Bool, true, false, cond, List, [], ◌∷◌, eqb}
-use Rattle.std.proofs.Math.Option.{Option, none, some}
+use Rattle.std.specs.Prelude.{ℕ, suc, Bool, true, false, cond, List, [], ◌∷◌, eqb, Option, Some, None}
 use Rattle.text.specs.Text.{lines}
 use Rattle.text.specs.Records.{records}
 use Rattle.text.specs.Listing.{listed}
@@ -79,22 +78,22 @@ read_as kind = cond (eqb kind letter_u) letter_s kind
 
 -- what f tells of an item
 abbrev pub of_item : {A : Type 0} → (Detail → Option A) → Record → Option A
-of_item f (param q) = none
-of_item f (group g) = none
+of_item f (param q) = None
+of_item f (group g) = None
 of_item f (item d) = f d
 
 -- the value of a K
 abbrev pub as_const : Detail → Option ℕ
-as_const (variant s) = none
-as_const (array length ascii) = none
-as_const (bit_flag mask name) = none
-as_const (bit_field b) = none
-as_const (const value name) = some value
-as_const (bitmask length) = none
+as_const (variant s) = None
+as_const (array length ascii) = None
+as_const (bit_flag mask name) = None
+as_const (bit_field b) = None
+as_const (const value name) = Some value
+as_const (bitmask length) = None
 
 abbrev pub is_value : ℕ → Option ℕ → Bool
-is_value v none = false
-is_value v (some value) = eqb value v
+is_value v None = false
+is_value v (Some value) = eqb value v
 
 -- C12: the line of the first K of this value, or 0
 abbrev pub first_const : ℕ → List Item → ℕ

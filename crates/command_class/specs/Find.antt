@@ -1,6 +1,5 @@
 -- How the answers of the code that looks things up in an accepted command text are read.
-use Rattle.std.specs.Prelude.{ℕ, ◌+◌, ◌<◌, Bool, true, ◌||◌, ◌≡◌, List, ◌∷◌, eqb, length, drop}
-use Rattle.std.proofs.Math.Option.{Option, none, some}
+use Rattle.std.specs.Prelude.{ℕ, ◌+◌, ◌<◌, Bool, true, ◌||◌, ◌≡◌, List, ◌∷◌, eqb, length, drop, Option, Some, None}
 use Rattle.text.specs.Text.{field, optional}
 use Rattle.text.specs.Scan.{cut}
 use Rattle.text.specs.Place.{kind_of, cells, Marked}
@@ -37,8 +36,8 @@ no_number = 256
 
 -- a number that may be missing
 abbrev pub or_missing : Option ℕ → ℕ
-or_missing none = no_number
-or_missing (some n) = n
+or_missing None = no_number
+or_missing (Some n) = n
 
 -- the same, of what a field says
 abbrev pub optional_or : Optional → ℕ
@@ -68,7 +67,7 @@ Says (item d) r = SaysItem d r
 -- a row tells what a line says
 pub record Tells (t : List ℕ) (l : Line) (r : Row) : Type 0 where
   pub said : Record
-  pub form_is : form (cells t l) ≡ some said
+  pub form_is : form (cells t l) ≡ Some said
   pub kind : r.kind ≡ letter said
   pub says : Says said r
 

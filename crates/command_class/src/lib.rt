@@ -2,7 +2,7 @@
 // Counterpart of command_class/schema.rs.
 #![tactic(auto)]
 
-ghost use Rattle.std.specs.Prelude.{◌≡◌, true, false, ◌<◌, eqb, length};
+ghost use Rattle.std.specs.Prelude.{◌≡◌, true, false, ◌<◌, eqb, length, Some};
 ghost use Rattle.text.specs.Fields.{fields_at};
 ghost use Rattle.text.specs.Records.{Readable};
 ghost use Rattle.command_text.specs.Letters.{letter_q, letter_g, letter_r, letter_a, letter_t, letter_s, letter_k, letter_m};
@@ -11,7 +11,7 @@ ghost use Rattle.command_text.specs.Rules.{rules};
 ghost use Rattle.command_class.specs.Definition.{under, read_as, first_const, value_in, const_in};
 ghost use Rattle.command_class.specs.Find.{from, Good, among, number_or, Tells, Numbers, IsRead, IsCondition, Begins, Follows};
 
-use command_text::{ParamType, Typed};
+use command_text::ParamType;
 use text::{Line, Optional, Place};
 
 // How a missing offset, mask or length is kept: the others are up to 255.
@@ -69,11 +69,11 @@ fn or_missing(s: &[u8]) -> u16
 // The type that a field names, where it names one.
 fn type_of(s: &[u8]) -> ParamType
     requires { known (type_of s.now) ≡ true }
-    ensures { type_of s.now ≡ Typed.Is result }
+    ensures { type_of s.now ≡ Some result }
 {
     match command_text::read_type(s) {
-        Typed::Is(found) => found,
-        Typed::Not => ParamType::Byte,
+        Some(found) => found,
+        None => ParamType::Byte,
     }
 }
 

@@ -7,7 +7,6 @@ use Rattle.records.specs.declared.BodyOffset.{BodyOffset}
 use Rattle.command_class.specs.Definition.{Parameter}
 use Rattle.command_lengths.specs.Entries.{entries}
 use Rattle.command_rules.specs.declared.Earlier.{Earlier}
-use Rattle.command_rules.specs.declared.Size.TheVariants.{Bytes}
 use Rattle.command_rules.proofs.Lengths.{size_agrees}
 use Rattle.command_lengths.proofs.Laws.{size-first}
 use Rattle.command_rules.specs.Field.{Field, field_of}
@@ -21,6 +20,7 @@ use Rattle.command_param.specs.Steps.{IsRead, IsAbsent, ReadsParam}
 use Rattle.command_param.specs.declared.Param.{Param}
 use Rattle.command_param.specs.declared.Param.TheVariants.{Read, Absent}
 use Rattle.command_groups.proofs.Entries.{Kept}
+use Rattle.std.specs.Prelude.{Some}
 
 -- a part of the table: from row k on
 param-from : (body : List ℕ) (q : Field) (es : List Earlier) (at n parent s left : ℕ) (d ys : List ℕ) (k rest : ℕ) (r : Param)
@@ -64,7 +64,7 @@ module _ (t : List ℕ) (l : Loaded) (p : Parameter) (is : IsParam t l p) (body 
       let w : IsRead body (field_in t l) (entries (take have kept)) at n parent s d m d' e x c = rw q at given in
       let v : IsRead body (field_of p) (entries (take have kept)) at n parent s d m d' e x c =
       subst (λ (f : Field). IsRead body f (entries (take have kept)) at n parent s d m d' e x c) is.field w in
-      let there : size_at body (field_of p) es at ≡ Bytes v.size = sym (by_all (field_of p)) ∙ v.there in
+      let there : size_at body (field_of p) es at ≡ Some v.size = sym (by_all (field_of p)) ∙ v.there in
       record {
         size = v.size;
         there = there;

@@ -13,7 +13,6 @@ use Rattle.command_class.specs.Definition.{Parameter}
 use Rattle.command_lengths.specs.Entries.{entries}
 use Rattle.command_rules.specs.Lengths.{least}
 use Rattle.command_rules.specs.declared.Earlier.{Earlier}
-use Rattle.command_rules.specs.declared.Size.TheVariants.{Missing}
 use Rattle.command_rules.specs.Field.{field_of}
 use Rattle.command_schema.specs.Heads.{heads_of, members_of}
 use Rattle.command_schema.specs.Loaded.{loaded_at, field_in, is_member, Stands, IsLoaded}
@@ -30,6 +29,7 @@ use Rattle.command_groups.specs.Steps.{Gives}
 use Rattle.command_groups.proofs.Entries.{Kept, kept-part, kept-start, kept_push}
 use Rattle.command_rules.proofs.Bounds.{members_bound}
 use Rattle.command_groups.proofs.Answers.{is_read, is_absent_lem}
+use Rattle.std.specs.Prelude.{None}
 
 -- what is left of the members, from loaded row j on
 pub record Members (t body : List ℕ) (count i start n parent s : ℕ) (d₀ d kept : List ℕ) (have at next j : ℕ) : Type 0 where
@@ -98,7 +98,7 @@ module _ (t l body : List ℕ) (count i n parent s : ℕ) (loaded : IsLoaded t l
 
     -- a member
     module _ (p : Parameter) (rest : members_of (drop j (heads_of t)) ≡ p ∷ members_of (drop (j + 1) (heads_of t))) (h : j < count) where
-      absent : size_at body (field_of p) g.es o.0 ≡ Missing → (d' : List ℕ) → d' ≡ d
+      absent : size_at body (field_of p) g.es o.0 ≡ None → (d' : List ℕ) → d' ≡ d
           → Gives (members body (members_of (drop i (heads_of t))) start [] n parent) s d₀ 0 d' (record { end = o; count = next })
       unfolding members
       absent e d' ed =

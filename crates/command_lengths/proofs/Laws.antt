@@ -2,7 +2,6 @@
 use mathlib.Core.Path.{◌≡◌, refl, sym, ap, ◌∙◌}
 use mathlib.Core.Bool.{Bool, true, false, cond, not, ◌||◌}
 use mathlib.Core.List.{List, [], ◌∷◌}
-use mathlib.Core.Option.{Option, none, some}
 use Prim.Native.Nat.{ℕ, zero, suc, ◌-◌, ◌^◌, ◌≤◌, ◌<◌}
 use native.Mathlib.Nat.{lt_of_le_of_lt, lt_of_lt_of_le, div-eq_of_lt}
 use native.Mathlib.Omega.{arith}
@@ -22,7 +21,7 @@ use Rattle.command_rules.specs.declared.Rule.TheVariants.{Fixed, Open, Counted}
 use Rattle.command_rules.specs.declared.Wanted.{Wanted}
 use Rattle.command_rules.specs.declared.Wanted.TheVariants.{Exactly, Rest}
 use Rattle.command_rules.specs.declared.Length.{Length}
-use Rattle.command_rules.specs.declared.Size.TheVariants.{Bytes, Missing}
+use Rattle.std.specs.Prelude.{Option, Some, None}
 
 -- ---- entries
 
@@ -126,21 +125,21 @@ module _ (w : Wanted) (rest : ℕ) where
   cut-more n q h = rw (q, lt-leb n rest h)
 
 module _ (offset mask : ℕ) (rule : Rule) (es : List Earlier) (rest : ℕ) where
-  pub size_none : rest ≡ 0 → Missing ≡ size_of (given offset) (given mask) rule es rest
+  pub size_none : rest ≡ 0 → None ≡ size_of (given offset) (given mask) rule es rest
   unfolding size_of
   size_none e = rw e
 
   module _ (x : Bool) (is_x : x ≡ holds (given offset) (given mask) es) (some_left : rest ≡ 0 → ⊥) where
-    pub size_absent : x ≡ false → Missing ≡ size_of (given offset) (given mask) rule es rest
+    pub size_absent : x ≡ false → None ≡ size_of (given offset) (given mask) rule es rest
     unfolding size_of
     size_absent f = rw (lt-ltb 0 rest (omega arith), ← is_x, f)
 
     module _ (w : Wanted) (l : Length) (is-w : w ≡ wanted rule es) (is-l : l ≡ cut w rest) (t : x ≡ true) where
-      pub size-zero : l.taken ≡ 0 → Missing ≡ size_of (given offset) (given mask) rule es rest
+      pub size-zero : l.taken ≡ 0 → None ≡ size_of (given offset) (given mask) rule es rest
       unfolding size_of
       size-zero z = rw (lt-ltb 0 rest (omega arith), ← is_x, t, ← is-w, ← is-l, eq-eqb l.taken 0 z)
 
-      pub size_is : (l.taken ≡ 0 → ⊥) → Bytes l ≡ size_of (given offset) (given mask) rule es rest
+      pub size_is : (l.taken ≡ 0 → ⊥) → Some l ≡ size_of (given offset) (given mask) rule es rest
       unfolding size_of
       size_is z = rw (lt-ltb 0 rest (omega arith), ← is_x, t, ← is-w, ← is-l, ne_eqb l.taken 0 z)
 
@@ -170,9 +169,9 @@ entry_first es k = go (ltb k 256) refl
     go false e = refl
 
 holds-first : (offset mask : Option ℕ) (es : List Earlier) → holds offset mask (take 256 es) ≡ holds offset mask es
-holds-first (some k) (some m) es = ap (meets m) (entry_first es k)
-holds-first (some k) none es = refl
-holds-first none mask es = refl
+holds-first (Some k) (Some m) es = ap (meets m) (entry_first es k)
+holds-first (Some k) None es = refl
+holds-first None mask es = refl
 
 wanted-first : (rule : Rule) (es : List Earlier) → wanted rule (take 256 es) ≡ wanted rule es
 wanted-first (Fixed n) es = refl

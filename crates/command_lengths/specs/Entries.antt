@@ -1,6 +1,5 @@
 -- How the code's numbers are read: the entries already answered, and a number that may be missing.
-use Rattle.std.specs.Prelude.{ℕ, cond, List, map, eqb, ltb}
-use Rattle.std.proofs.Math.Option.{Option, none, some}
+use Rattle.std.specs.Prelude.{ℕ, cond, List, map, eqb, ltb, Option, Some, None}
 use Rattle.command_class.specs.Find.{no_number}
 use Rattle.command_rules.specs.declared.Earlier.{Earlier}
 use Rattle.command_rules.specs.declared.Earlier.TheVariants.{Value, NoValue, NoEntry}
@@ -22,4 +21,4 @@ entries ns = map earlier ns
 
 -- a number of 0 to 255 that may be missing
 abbrev pub given : ℕ → Option ℕ
-given n = cond (ltb n no_number) (some n) none
+given n = cond (ltb n no_number) (Some n) None

@@ -8,7 +8,7 @@ ghost use Rattle.std.specs.Prelude.{◌≡◌};
 ghost use Rattle.command_lengths.specs.Entries.{earlier, entries, given};
 ghost use Rattle.command_rules.specs.Lengths.{meets, holds, masked, by_entry, wanted, cut, size_of, counted, repeats, entry_at};
 
-use command_rules::{BitShift, Earlier, Length, Rule, Size, Wanted};
+use command_rules::{BitShift, Earlier, Length, Rule, Wanted};
 
 // How an entry without value is kept: one with a value by its low byte.
 pub const NO_VALUE: u16 = 256;
@@ -124,20 +124,20 @@ fn cut_len(wanted: Wanted, rest: usize) -> Length
 }
 
 // The length of a Q, of the bytes that remain, if it exists.
-pub fn size_of(offset: u16, mask: u16, rule: Rule, es: &[u16], rest: usize) -> Size
+pub fn size_of(offset: u16, mask: u16, rule: Rule, es: &[u16], rest: usize) -> Option<Length>
     ensures { result ≡ size_of (given offset) (given mask) rule (entries es.now) rest }
 {
     if rest == 0 {
-        return Size::Missing;
+        return None;
     }
     if is_present(offset, mask, es) {
         let length = cut_len(variable_len(rule, es), rest);
         if length.taken == 0 {
-            return Size::Missing;
+            return None;
         }
-        return Size::Bytes(length);
+        return Some(length);
     }
-    Size::Missing
+    None
 }
 
 fn entry_count(e: Earlier, mask: u16, shift: BitShift) -> u16

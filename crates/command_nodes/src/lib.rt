@@ -1,35 +1,34 @@
 // The nodes that a parameter of a command addresses: BM2, BM4 and BM6 of docs/RULES.md. Such a parameter is the row of a Q whose type is BITMASK.
 #![tactic(auto)]
 
-ghost use Rattle.std.specs.Prelude.{◌≡◌};
-ghost use Rattle.text.specs.declared.Verdict.TheVariants.{Accepted};
+ghost use Rattle.std.specs.Prelude.{◌≡◌, Ok};
 ghost use Rattle.command_text.specs.Rules.{verdict};
 ghost use Rattle.command_nodes.specs.Fields.{param_type, type_read, is_bitmask, is_typed, is_mask};
 ghost use Rattle.command_nodes.specs.Answer.{RowNodes, LentNodes, CommandNodes};
 
 use command_class::{Row as Line, read_at};
-use command_row::{Found, bytes_of, row_accepted};
+use command_row::{bytes_of, row_accepted};
 use command_rows::{ROW_WIDTH, read_row};
 use command_rules::{Offsets, PARAM_KIND, Row};
-use command_text::{ParamType, Typed, check_command_text};
-use node_mask::{Listed, mask_nodes};
+use command_text::{ParamType, check_command_text};
+use node_mask::mask_nodes;
 use refusal::Refusal;
-use text::{Place, Verdict};
+use text::Place;
 
 // The type that a line says, if it is a Q.
-fn type_read(row: Line) -> Typed
+fn type_read(row: Line) -> Option<ParamType>
     ensures { result ≡ type_read row }
 {
     if row.kind == b'Q' {
         let typed = row.typed;
-        return Typed::Is(typed);
+        return Some(typed);
     }
-    Typed::Not
+    None
 }
 
 // The type of the Q on the line of this number.
-pub fn param_type(text: &[u8], line: u64) -> Typed
-    requires { verdict text.now ≡ Accepted }
+pub fn param_type(text: &[u8], line: u64) -> Option<ParamType>
+    requires { verdict text.now ≡ Ok tt }
     ensures { result ≡ param_type text.now line }
 {
     let mut place = Place::start();
@@ -41,7 +40,7 @@ pub fn param_type(text: &[u8], line: u64) -> Typed
         }
         place = read.next;
     }
-    Typed::Not
+    None
 }
 
 fn is_bitmask(kind: ParamType) -> bool
@@ -62,18 +61,18 @@ fn is_bitmask(kind: ParamType) -> bool
     }
 }
 
-fn is_typed(typed: Typed) -> bool
+fn is_typed(typed: Option<ParamType>) -> bool
     ensures { result ≡ is_typed typed }
 {
     match typed {
-        Typed::Is(kind) => is_bitmask(kind),
-        Typed::Not => false,
+        Some(kind) => is_bitmask(kind),
+        None => false,
     }
 }
 
 // Is it such a row, of this kind and on this line?
 fn is_mask(text: &[u8], kind: u64, line: u64) -> bool
-    requires { verdict text.now ≡ Accepted }
+    requires { verdict text.now ≡ Ok tt }
     ensures { result ≡ is_mask text.now kind line }
 {
     if kind != PARAM_KIND {
@@ -83,28 +82,40 @@ fn is_mask(text: &[u8], kind: u64, line: u64) -> bool
 }
 
 // The nodes of a row by a text that is accepted; or refusal 11, which carries the number of the row that was asked for, or 8.
-fn nodes_of_row(text: &[u8], payload: &[u8], row: Row, asked: usize, nodes: &mut [u16]) -> Listed
-    requires { verdict text.now ≡ Accepted }
+fn nodes_of_row(
+    text: &[u8],
+    payload: &[u8],
+    row: Row,
+    asked: usize,
+    nodes: &mut [u16],
+) -> Result<usize, Refusal>
+    requires { verdict text.now ≡ Ok tt }
     ensures { RowNodes text.now payload.now row asked nodes.old result nodes.new }
 {
     if is_mask(text, row.kind, row.line) {
         return mask_nodes(bytes_of(payload, row), nodes);
     }
-    Listed::Refused(Refusal::NoSuchField(asked))
+    Err(Refusal::NoSuchField(asked))
 }
 
 // The nodes of a row of a table that `decode_params` has filled; or refusal 1 to 3, 11, 4 or 8.
-pub fn row_nodes(text: &[u8], payload: &[u8], rows: &[u64], row: usize, nodes: &mut [u16]) -> Listed
+pub fn row_nodes(
+    text: &[u8],
+    payload: &[u8],
+    rows: &[u64],
+    row: usize,
+    nodes: &mut [u16],
+) -> Result<usize, Refusal>
     ensures { LentNodes text.now payload.now rows.now row nodes.old result nodes.new }
 {
     match check_command_text(text) {
-        Verdict::Accepted => {
+        Ok(()) => {
             if rows.len() / ROW_WIDTH <= row {
-                return Listed::Refused(Refusal::NoSuchField(row));
+                return Err(Refusal::NoSuchField(row));
             }
             nodes_of_row(text, payload, read_row(rows, row), row, nodes)
         }
-        Verdict::Refused(refusal) => Listed::Refused(refusal),
+        Err(refusal) => Err(refusal),
     }
 }
 
@@ -115,13 +126,13 @@ pub fn nodes_accepted(
     offsets: Offsets,
     row: usize,
     nodes: &mut [u16],
-) -> Listed
-    requires { verdict text.now ≡ Accepted }
+) -> Result<usize, Refusal>
+    requires { verdict text.now ≡ Ok tt }
     ensures { CommandNodes offsets text.now payload.now row nodes.old result nodes.new }
 {
     match row_accepted(text, payload, offsets, row) {
-        Found::Row(found) => nodes_of_row(text, payload, found, row, nodes),
-        Found::Refused(refusal) => Listed::Refused(refusal),
+        Ok(found) => nodes_of_row(text, payload, found, row, nodes),
+        Err(refusal) => Err(refusal),
     }
 }
 
@@ -132,11 +143,11 @@ pub fn command_nodes(
     offsets: Offsets,
     row: usize,
     nodes: &mut [u16],
-) -> Listed
+) -> Result<usize, Refusal>
     ensures { CommandNodes offsets text.now payload.now row nodes.old result nodes.new }
 {
     match check_command_text(text) {
-        Verdict::Accepted => nodes_accepted(text, payload, offsets, row, nodes),
-        Verdict::Refused(refusal) => Listed::Refused(refusal),
+        Ok(()) => nodes_accepted(text, payload, offsets, row, nodes),
+        Err(refusal) => Err(refusal),
     }
 }

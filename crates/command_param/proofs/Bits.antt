@@ -2,7 +2,6 @@
 use mathlib.Core.Path.{◌≡◌, refl, sym, ap, ◌∙◌}
 use mathlib.Core.Bool.{Bool, true, false}
 use mathlib.Core.List.{List, [], ◌∷◌}
-use mathlib.Core.Option.{none, some}
 use Prim.Native.Nat.{ℕ, suc, ◌+◌, ◌-◌, ◌≤◌, ◌<◌}
 use native.Mathlib.Nat.{zero-add}
 use native.Mathlib.Decide.{dec_lt}
@@ -29,6 +28,7 @@ use Rattle.command_rows.proofs.Laws.{written_none, length-written, written-more}
 use Rattle.command_rules.proofs.Children.{bits_count}
 use Rattle.command_rules.specs.Param.{bit_value, bit_row, bit_rows}
 use Rattle.command_param.specs.Steps.{bit_number}
+use Rattle.std.specs.Prelude.{Some, None}
 
 -- ---- a line
 module _ (b : ℕ) (l : Line) where
@@ -61,7 +61,7 @@ pub ruleset line_laws = (bit-other, bit_clear, bit-set, bit-row_is, among_laws)
 
 -- what a line says, by its numbers
 bit-said : (b : ℕ) (x : Record) (l : Line) → l.kind ≡ letter x → Says x l → among 84 83 83 l.kind ≡ true
-    → of_item (bit_value b) x ≡ some (bit_number b l)
+    → of_item (bit_value b) x ≡ Some (bit_number b l)
 bit-said b (param q) l k s h = absurd (let z : ◌≡◌ {A = Bool} false true = rw k at h in let w : ◌≡◌ {A = ℕ} 0 1 = cc in omega arith)
 bit-said b (group g) l k s h = absurd (let z : ◌≡◌ {A = Bool} false true = rw k at h in let w : ◌≡◌ {A = ℕ} 0 1 = cc in omega arith)
 bit-said b (item (variant v)) l k s h = absurd (let z : ◌≡◌ {A = Bool} false true = rw k at h in let w : ◌≡◌ {A = ℕ} 0 1 = cc in omega arith)
@@ -71,7 +71,7 @@ bit-said b (item (bit_field f)) l k s h = rw (k, s.0, s.1) refl
 bit-said b (item (const v n)) l k s h = absurd (let z : ◌≡◌ {A = Bool} false true = rw k at h in let w : ◌≡◌ {A = ℕ} 0 1 = cc in omega arith)
 bit-said b (item (bitmask n)) l k s h = absurd (let z : ◌≡◌ {A = Bool} false true = rw k at h in let w : ◌≡◌ {A = ℕ} 0 1 = cc in omega arith)
 
-no-bit-said : (b : ℕ) (x : Record) (l : Line) → l.kind ≡ letter x → among 84 83 83 l.kind ≡ false → of_item (bit_value b) x ≡ none
+no-bit-said : (b : ℕ) (x : Record) (l : Line) → l.kind ≡ letter x → among 84 83 83 l.kind ≡ false → of_item (bit_value b) x ≡ None
 no-bit-said b (param q) l k h = refl
 no-bit-said b (group g) l k h = refl
 no-bit-said b (item (variant v)) l k h = refl

@@ -14,8 +14,6 @@ use Rattle.command_lengths.specs.Entries.{entries, given, earlier}
 use Rattle.command_rules.specs.Lengths.{wanted, size_of, Agrees}
 use Rattle.command_rules.specs.declared.Rule.{Rule}
 use Rattle.command_rules.specs.declared.Length.{Length}
-use Rattle.command_rules.specs.declared.Size.{Size}
-use Rattle.command_rules.specs.declared.Size.TheVariants.{Bytes, Missing}
 use Rattle.command_rules.proofs.Lengths.{size-within, size_some, size_agrees}
 use Rattle.command_rules.specs.Field.{Field}
 use Rattle.command_schema.specs.Loaded.{rule_in, after, field_in, Stands}
@@ -26,13 +24,13 @@ use Rattle.command_rows.proofs.Laws.{written_none, written-left_out, written-mor
 use Rattle.command_rules.specs.Param.{in_payload, value_of, valued, or_zero, const_line, entry_of, bit_rows, child_rows, row_of, bytes_at, size_at, param_rows}
 use Rattle.command_rules.specs.Param.{param_entry}
 use Rattle.command_param.specs.Steps.{WritesParam, ReadsParam}
-use Rattle.command_rules.specs.declared.Uint.{Uint}
 use Rattle.command_param.specs.declared.Param.TheVariants.{Read, Absent}
 use Rattle.command_param.specs.declared.Wrote.{Wrote}
 use Rattle.command_param.proofs.Bits.{total_is, none_of}
+use Rattle.std.specs.Prelude.{Option, Some, None}
 
 -- ---- its own row
-pub row_is : (t : List ℕ) (q : Loaded) (bs : List ℕ) (start parent : ℕ) (value : Uint) (a v k lacking : ℕ) → value ≡ value_of bs
+pub row_is : (t : List ℕ) (q : Loaded) (bs : List ℕ) (start parent : ℕ) (value : Option ℕ) (a v k lacking : ℕ) → value ≡ value_of bs
     → a ≡ valued value
     → v ≡ or_zero value → k ≡ const_line (field_in t q) value
     → ◌≡◌ {A = Row} (record {
@@ -103,7 +101,7 @@ module _ (t : List ℕ) (q : Loaded) (body : List ℕ) (at : ℕ) (size : Length
   the_bytes : take (at + size.taken - at) (drop at body) ≡ bytes_at body at size.taken
   the_bytes = let z : at + size.taken - at ≡ size.taken = omega arith in rw z refl
 
-  pub param-written : (d' : List ℕ) (c : ℕ) (value : Uint) (e : ℕ)
+  pub param-written : (d' : List ℕ) (c : ℕ) (value : Option ℕ) (e : ℕ)
       → d ≡ written s d₀ 0 (row_of (field_in t q) parent (in_payload at) (take (at + size.taken - at) (drop at body)) size.lacking ∷ [])
       → Writes s d 1 (child_rows (field_in t q) (n + 1) start (take (at + size.taken - at) (drop at body))) d' c → start ≡ in_payload at
       → value ≡ value_of (take (at + size.taken - at) (drop at body)) → earlier e ≡ entry_of value
@@ -124,17 +122,17 @@ module _ (t : List ℕ) (q : Loaded) (body : List ℕ) (at : ℕ) (size : Length
 pub ruleset written_laws = (param-written)
 
 -- ---- a Q at a place of the body
-module _ (t : List ℕ) (q : Loaded) (body ns : List ℕ) (at n parent skip : ℕ) (d : List ℕ) (rest : ℕ) (rule : Rule) (s : Size)
+module _ (t : List ℕ) (q : Loaded) (body ns : List ℕ) (at n parent skip : ℕ) (d : List ℕ) (rest : ℕ) (rule : Rule) (s : Option Length)
     (is-s : s ≡ size_of (given q.optionaloffs) (given q.optionalmask) rule (entries ns) rest) (is-rule : rule ≡ rule_in q)
     (is-rest : rest ≡ length body - at) where
   here : s ≡ size_at body (field_in t q) (entries ns) at
   here = rw (is-rule, is-rest) at is-s
 
-  pub param_absent : s ≡ Missing → ReadsParam body (field_in t q) (entries ns) at n parent skip d 0 d Absent
+  pub param_absent : s ≡ None → ReadsParam body (field_in t q) (entries ns) at n parent skip d 0 d Absent
   param_absent e = record { there = sym here ∙ e; rows = refl }
 
-  module _ (size : Length) (e : s ≡ Bytes size) where
-    there : size_at body (field_in t q) (entries ns) at ≡ Bytes size
+  module _ (size : Length) (e : s ≡ Some size) where
+    there : size_at body (field_in t q) (entries ns) at ≡ Some size
     there = sym here ∙ e
 
     pub param-inside : at + size.taken ≤ length body

@@ -19,8 +19,7 @@ use Rattle.command_schema.specs.Loaded.{after, field_in, Stands}
 use Rattle.command_schema.specs.declared.Loaded.{Loaded}
 use Rattle.text.specs.declared.Place.{Place}
 use Rattle.command_rules.specs.Param.{big_endian, value_of, valued, or_zero, const_line, entry_of}
-use Rattle.command_rules.specs.declared.Uint.{Uint}
-use Rattle.command_rules.specs.declared.Uint.TheVariants.{Is, Not}
+use Rattle.std.specs.Prelude.{Option, Some, None}
 
 -- ---- read_uint: what is read so far, and what is left
 pub record Reading (s : List ℕ) (v i : ℕ) : Type 0 where
@@ -47,46 +46,46 @@ module _ (s : List ℕ) (v i : ℕ) (k : Reading s v i) where
   pub reading-times-fits : i < length s → length s ≤ 8 → Fits w64 (v * 256)
   reading-times-fits h m = let f = reading-fits 0 (omega arith) h m in rw add-zero at f
 
-  pub reading_done : 1 ≤ length s → length s ≤ 8 → length s ≤ i → Is v ≡ value_of s
+  pub reading_done : 1 ≤ length s → length s ≤ 8 → length s ≤ i → Some v ≡ value_of s
   unfolding big_endian
   reading_done some few h = rw (le-leb 1 (length s) some, le-leb (length s) 8 few, k.so, done s i h)
 
-pub uint_none : (s : List ℕ) → length s < 1 → Not ≡ value_of s
+pub uint_none : (s : List ℕ) → length s < 1 → None ≡ value_of s
 uint_none s h = rw (lt-leb 1 (length s) h)
 
-pub uint_long : (s : List ℕ) → 1 ≤ length s → 8 < length s → Not ≡ value_of s
+pub uint_long : (s : List ℕ) → 1 ≤ length s → 8 < length s → None ≡ value_of s
 uint_long s some h = rw (le-leb 1 (length s) some, lt-leb (length s) 8 h)
 
 pub ruleset uint_laws = (reading-start, reading-more, reading-fits, reading-times-fits, reading_done, uint_none, uint_long)
 
 -- ---- what a value is for a row and for those after it
-module _ (value : Uint) where
-  pub entry_none : value ≡ Not → earlier 256 ≡ entry_of value
+module _ (value : Option ℕ) where
+  pub entry_none : value ≡ None → earlier 256 ≡ entry_of value
   entry_none e = rw e refl
 
-  pub entry_is : (v e : ℕ) → e ≡ v % 256 → value ≡ Is v → earlier e ≡ entry_of value
+  pub entry_is : (v e : ℕ) → e ≡ v % 256 → value ≡ Some v → earlier e ≡ entry_of value
   entry_is v e ee q = let l : v % 256 < 256 = omega arith in rw (ee, q, lt-ltb (v % 256) 256 l) refl
 
-  pub valued_is : (v : ℕ) → value ≡ Is v → 1 ≡ valued value
+  pub valued_is : (v : ℕ) → value ≡ Some v → 1 ≡ valued value
   valued_is v q = rw q
 
-  pub valued_not : value ≡ Not → 0 ≡ valued value
+  pub valued_not : value ≡ None → 0 ≡ valued value
   valued_not q = rw q
 
-  pub zero_is : (v : ℕ) → value ≡ Is v → v ≡ or_zero value
+  pub zero_is : (v : ℕ) → value ≡ Some v → v ≡ or_zero value
   zero_is v q = rw q
 
-  pub zero-not : value ≡ Not → 0 ≡ or_zero value
+  pub zero-not : value ≡ None → 0 ≡ or_zero value
   zero-not q = rw q
 
   module _ (t : List ℕ) (q : Loaded) where
-    pub const_not : value ≡ Not → 0 ≡ const_line (field_in t q) value
+    pub const_not : value ≡ None → 0 ≡ const_line (field_in t q) value
     const_not e = rw e
 
-    pub const_other : (v : ℕ) → value ≡ Is v → (q.named ≡ 1 → ⊥) → 0 ≡ const_line (field_in t q) value
+    pub const_other : (v : ℕ) → value ≡ Some v → (q.named ≡ 1 → ⊥) → 0 ≡ const_line (field_in t q) value
     const_other v e h = rw (e, ne_eqb q.named 1 h)
 
-    pub const_is : (v low : ℕ) (p : Place) (r : ℕ) → p ≡ after q → low ≡ v % 256 → r ≡ first_const low (under (from t p)) → value ≡ Is v
+    pub const_is : (v low : ℕ) (p : Place) (r : ℕ) → p ≡ after q → low ≡ v % 256 → r ≡ first_const low (under (from t p)) → value ≡ Some v
         → q.named ≡ 1 → r ≡ const_line (field_in t q) value
     const_is v low p r ep el er e h = rw (e, eq-eqb q.named 1 h, ← el) (rw ep at er)
 

@@ -1,5 +1,5 @@
 -- What the functions answer that read a Q, over the definitions of the rules. The table t, which passes over s rows, becomes t', from row k on.
-use Rattle.std.specs.Prelude.{cond, ◌≡◌, List, ℕ, ◌+◌, eqb, length}
+use Rattle.std.specs.Prelude.{cond, ◌≡◌, List, ℕ, ◌+◌, eqb, length, Some, None}
 use Rattle.std.specs.Int.Bits.{bit_and}
 use Rattle.records.specs.declared.BodyOffset.{BodyOffset}
 use Rattle.command_text.specs.Letters.{letter_t}
@@ -8,7 +8,6 @@ use Rattle.command_lengths.specs.Entries.{earlier}
 use Rattle.command_rules.specs.Lengths.{masked, wanted, Agrees}
 use Rattle.command_rules.specs.declared.Earlier.{Earlier}
 use Rattle.command_rules.specs.declared.Length.{Length}
-use Rattle.command_rules.specs.declared.Size.TheVariants.{Bytes, Missing}
 use Rattle.command_rules.specs.Field.{Field}
 use Rattle.command_rows.specs.Rows.{written}
 use Rattle.command_rules.specs.Param.{size_at, param_rows, param_entry}
@@ -30,7 +29,7 @@ module _ (body : List ℕ) (q : Field) (es : List Earlier) (at n parent s : ℕ)
   -- a Q is there: where it ends, that its length agrees with what it wanted (L4), which entry it is, how many rows it has
   pub record IsRead (e : BodyOffset) (x c : ℕ) : Type 0 where
     pub size : Length
-    pub there : size_at body q es at ≡ Bytes size
+    pub there : size_at body q es at ≡ Some size
     pub end : e.0 ≡ at + size.taken
     pub agrees : Agrees (wanted q.rule es) size
     pub entry : earlier x ≡ param_entry body at size.taken
@@ -39,7 +38,7 @@ module _ (body : List ℕ) (q : Field) (es : List Earlier) (at n parent s : ℕ)
 
   -- it is not there
   pub record IsAbsent : Type 0 where
-    pub there : size_at body q es at ≡ Missing
+    pub there : size_at body q es at ≡ None
     pub rows : t' ≡ t
 
   abbrev pub ReadsParam : Param → Type 0

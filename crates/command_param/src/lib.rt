@@ -14,7 +14,7 @@ ghost use Rattle.command_param.specs.Steps.{bit_number, WritesParam, ReadsParam}
 
 use command_class::Row as Line;
 use command_lengths::NO_VALUE;
-use command_rules::{BIT_KIND, BitShift, Length, PARAM_KIND, Row, Size, Uint};
+use command_rules::{BIT_KIND, BitShift, Length, PARAM_KIND, Row};
 use command_schema::Loaded;
 use records::{BodyOffset, PayloadOffset};
 
@@ -70,14 +70,14 @@ fn as_u16(x: u8) -> u16
 }
 
 // A number of 1 to 8 bytes, the first highest.
-pub fn read_uint(bytes: &[u8]) -> Uint
+pub fn read_uint(bytes: &[u8]) -> Option<u64>
     ensures { result ≡ value_of bytes.now }
 {
     if bytes.len() < 1 {
-        return Uint::Not;
+        return None;
     }
     if 8 < bytes.len() {
-        return Uint::Not;
+        return None;
     }
     let mut v: u64 = 0;
     let mut i: usize = 0;
@@ -85,7 +85,7 @@ pub fn read_uint(bytes: &[u8]) -> Uint
         v = v * 256 + wide(bytes[i]);
         i += 1;
     }
-    Uint::Is(v)
+    Some(v)
 }
 
 fn low_byte(v: u64) -> u16
@@ -95,21 +95,21 @@ fn low_byte(v: u64) -> u16
 }
 
 // The entry that a value is for those after it: its low byte, or that there is none.
-fn entry_of(value: Uint) -> u16
+fn entry_of(value: Option<u64>) -> u16
     ensures { earlier result ≡ entry_of value }
 {
-    let Uint::Is(v) = value else {
+    let Some(v) = value else {
         return NO_VALUE;
     };
     low_byte(v)
 }
 
 // The line of the K that names a Q's value, or 0.
-fn const_line(text: &[u8], q: Loaded, value: Uint) -> u64
+fn const_line(text: &[u8], q: Loaded, value: Option<u64>) -> u64
     requires { Stands text.now q }
     ensures { result ≡ const_line (field_in text.now q) value }
 {
-    let Uint::Is(v) = value else {
+    let Some(v) = value else {
         return 0;
     };
     if q.named != 1 {
@@ -118,21 +118,21 @@ fn const_line(text: &[u8], q: Loaded, value: Uint) -> u64
     command_class::find_const(text, q.next(), low_byte(v)) as u64
 }
 
-fn valued_of(value: Uint) -> u64
+fn valued_of(value: Option<u64>) -> u64
     ensures { result ≡ valued value }
 {
     match value {
-        Uint::Is(_) => 1,
-        Uint::Not => 0,
+        Some(_) => 1,
+        None => 0,
     }
 }
 
-fn or_zero(value: Uint) -> u64
+fn or_zero(value: Option<u64>) -> u64
     ensures { result ≡ or_zero value }
 {
     match value {
-        Uint::Is(v) => v,
-        Uint::Not => 0,
+        Some(v) => v,
+        None => 0,
     }
 }
 
@@ -333,13 +333,8 @@ pub fn decode_param(
 {
     let at = spot.at;
     let rest = remaining(body, at);
-    let Size::Bytes(size) = command_lengths::size_of(
-        q.optionaloffs,
-        q.optionalmask,
-        q.rule(),
-        es,
-        rest,
-    ) else {
+    let Some(size) = command_lengths::size_of(q.optionaloffs, q.optionalmask, q.rule(), es, rest)
+    else {
         return Param::Absent;
     };
     let wrote = write_param(text, q, body, spot, size, rows);

@@ -9,8 +9,6 @@ use lib.ListN.{length}
 use borrow.Author.Tests.{eqb-false}
 use Rattle.refusal.proofs.Numbers.{numbered}
 use Rattle.refusal.specs.Refusal.{number_of}
-use Rattle.text.specs.declared.Verdict.{Verdict}
-use Rattle.text.specs.declared.Verdict.TheVariants as text
 use Rattle.command_text.specs.Rules.{verdict}
 use Rattle.command_class.specs.Definition.{definition}
 use Rattle.command_rules.specs.Rows.{row_width, table, rows_in}
@@ -21,6 +19,8 @@ use Rattle.command_rules.specs.Walk.{walk}
 use Rattle.command_rules.proofs.Rows.{table-rows}
 use Rattle.command.specs.Answer.{Told, answered, refused, body_of, within, on_verdict, answer_by, answer_of, table_after, Decodes}
 use Rattle.command_row.specs.Answer.{nth, row_by, row_of}
+use Rattle.std.specs.Prelude.{Result, Ok, Err}
+use Rattle.refusal.specs.declared.Refusal.{Refusal}
 
 abbrev rows_by : Offsets → List ℕ → List ℕ → List Row
 rows_by offsets x payload = (walk offsets (body_of payload) (definition x)).rows
@@ -46,11 +46,11 @@ module _ (offsets : Offsets) (x payload t : List ℕ) (a : Told) (t' : List ℕ)
   long false true e eb ec = absurd (let n : a.refusal ≡ 5 = rw e refl in omega arith)
   long false false e eb ec = rw (← eb, ← ec) (fits (leb (length (rows_by offsets x payload)) (length t / row_width)) e)
 
-  judged : (v : Verdict) → v ≡ verdict x → a ≡ on_verdict v (answer_by offsets (definition x) payload (length t))
+  judged : (v : Result (Unit {0}) Refusal) → v ≡ verdict x → a ≡ on_verdict v (answer_by offsets (definition x) payload (length t))
       → row_of offsets x payload k ≡ nth k (rows_in a.rows t')
   unfolding row_of answer_by
-  judged text.Accepted is e = rw (← is) (long (ltb 2048 (length payload)) (ltb (length payload) 2) e refl refl)
-  judged (text.Refused r) is e = absurd (let n : a.refusal ≡ number_of r = rw e refl in eqb-false (number_of r) 0 (numbered r) (sym n ∙ z))
+  judged (Ok tt) is e = rw (← is) (long (ltb 2048 (length payload)) (ltb (length payload) 2) e refl refl)
+  judged (Err r) is e = absurd (let n : a.refusal ≡ number_of r = rw e refl in eqb-false (number_of r) 0 (numbered r) (sym n ∙ z))
 
   -- BM5: it is the row of this number of those that stand in the table
   pub row-decoded : row_of offsets x payload k ≡ nth k (rows_in a.rows t')

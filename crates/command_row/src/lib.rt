@@ -2,8 +2,7 @@
 // lent has room for that row alone.
 #![tactic(auto)]
 
-ghost use Rattle.std.specs.Prelude.{◌≡◌, ◌*◌, ◌<◌, ◌≤◌, length};
-ghost use Rattle.text.specs.declared.Verdict.TheVariants.{Accepted};
+ghost use Rattle.std.specs.Prelude.{◌≡◌, ◌*◌, ◌<◌, ◌≤◌, length, Ok};
 ghost use Rattle.command_text.specs.Rules.{verdict};
 ghost use Rattle.command_class.specs.Definition.{definition};
 ghost use Rattle.command_schema.specs.Heads.{heads_of, entries_of};
@@ -17,40 +16,43 @@ use command_rules::{Offsets, Row};
 use command_text::check_command_text;
 use command_walk::walk_params;
 use refusal::{MOST_FRAME, Refusal};
-use text::Verdict;
-
-// The row that was asked for, or a refusal.
-#[derive(Clone, Copy)]
-pub enum Found {
-    Row(Row),
-    Refused(Refusal),
-}
 
 // The row of this number of a body, by a text that is loaded into a table with room for it.
-fn row_by(text: &[u8], loaded: &mut [u16], offsets: Offsets, body: &[u8], row: usize) -> Found
-    requires { (verdict text.now ≡ Accepted) × (length (heads_of text.now) * loaded_width ≤ length loaded.old) × (length body.now < 65536) }
+fn row_by(
+    text: &[u8],
+    loaded: &mut [u16],
+    offsets: Offsets,
+    body: &[u8],
+    row: usize,
+) -> Result<Row, Refusal>
+    requires { (verdict text.now ≡ Ok tt) × (length (heads_of text.now) * loaded_width ≤ length loaded.old) × (length body.now < 65536) }
     ensures { result ≡ nth row (walk offsets body.now (entries_of (heads_of text.now))).rows }
 {
     let count = command_schema::load(text, loaded);
     let mut one = [0u64; ROW_WIDTH];
     let taken = walk_params(text, loaded, count, offsets, body, row, &mut one);
     if taken.count <= row {
-        return Found::Refused(Refusal::NoSuchField(row));
+        return Err(Refusal::NoSuchField(row));
     }
-    Found::Row(read_row(&one, 0))
+    Ok(read_row(&one, 0))
 }
 
 // The row of this number, from 0, of a command by a text that is accepted; or refusal 4, 5 or 11.
-pub fn row_accepted(text: &[u8], payload: &[u8], offsets: Offsets, row: usize) -> Found
-    requires { verdict text.now ≡ Accepted }
+pub fn row_accepted(
+    text: &[u8],
+    payload: &[u8],
+    offsets: Offsets,
+    row: usize,
+) -> Result<Row, Refusal>
+    requires { verdict text.now ≡ Ok tt }
     ensures { result ≡ row_by offsets (definition text.now) payload.now row }
 {
     let size = payload.len();
     if MOST_FRAME < size {
-        return Found::Refused(Refusal::TooLong(size));
+        return Err(Refusal::TooLong(size));
     }
     if size < 2 {
-        return Found::Refused(Refusal::TooShort(size));
+        return Err(Refusal::TooShort(size));
     }
     if text.len() <= SHORT {
         let mut short = [0u16; LOADED_SHORT];
@@ -61,12 +63,17 @@ pub fn row_accepted(text: &[u8], payload: &[u8], offsets: Offsets, row: usize) -
 }
 
 // The row of this number, from 0, of a command, with offsets read in one of the two ways; or refusal 1 to 5 or 11.
-pub fn command_row(text: &[u8], payload: &[u8], offsets: Offsets, row: usize) -> Found
+pub fn command_row(
+    text: &[u8],
+    payload: &[u8],
+    offsets: Offsets,
+    row: usize,
+) -> Result<Row, Refusal>
     ensures { result ≡ row_of offsets text.now payload.now row }
 {
     match check_command_text(text) {
-        Verdict::Accepted => row_accepted(text, payload, offsets, row),
-        Verdict::Refused(refusal) => Found::Refused(refusal),
+        Ok(()) => row_accepted(text, payload, offsets, row),
+        Err(refusal) => Err(refusal),
     }
 }
 

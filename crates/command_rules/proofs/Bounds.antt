@@ -11,8 +11,6 @@ use Rattle.command_class.specs.Definition.{Parameter, Entry, single, repeated}
 use Rattle.command_rules.specs.Lengths.{repeats}
 use Rattle.command_rules.specs.declared.Earlier.{Earlier}
 use Rattle.command_rules.specs.declared.Length.{Length}
-use Rattle.command_rules.specs.declared.Size.{Size}
-use Rattle.command_rules.specs.declared.Size.TheVariants.{Bytes, Missing}
 use Rattle.command_rules.proofs.Lengths.{size-within, size_some}
 use Rattle.command_rules.specs.Field.{Field, field_of}
 use Rattle.command_rules.specs.Limits.{Small, SmallAll, SmallEntries}
@@ -20,6 +18,7 @@ use Rattle.command_rules.specs.Param.{in_payload, bit_rows, bytes_at, size_at, p
 use Rattle.command_rules.proofs.Children.{bits_count}
 use Rattle.command_rules.specs.Walk.{Walked, ended, after, once, on_size, members, turn, repetition_row, repetitions, group_at, outer, walk, unvalued}
 use Rattle.command_rules.specs.declared.Offsets.{Offsets}
+use Rattle.std.specs.Prelude.{Option, Some, None}
 
 -- a walk from a place goes forward, within the body, and has at most so many rows a byte
 pub record Bound (b size at : ℕ) (w : Walked) : Type 0 where
@@ -31,7 +30,7 @@ stays : (b size at : ℕ) → Bound b size at (ended at)
 stays b size at = record { forward = omega arith; inside = omega arith; few = omega arith }
 
 -- what a Q takes, and how many rows it has
-pub size_facts : (body : List ℕ) (q : Field) (es : List Earlier) (at : ℕ) (l : Length) → size_at body q es at ≡ Bytes l
+pub size_facts : (body : List ℕ) (q : Field) (es : List Earlier) (at : ℕ) (l : Length) → size_at body q es at ≡ Some l
     → (0 < l.taken) × (l.taken ≤ length body - at)
 size_facts body q es at l e =
     (size_some q.offset q.mask q.rule es (length body - at) l e, size-within q.offset q.mask q.rule es (length body - at) l e)
@@ -53,7 +52,7 @@ members_bound body (q ∷ qs) at es n parent small =
     go (size_at body (field_of q) es at) refl (λ size. members_bound body qs (at + size.taken) (es ++ (param_entry body at size.taken ∷ []))
     (n + length (param_rows body (field_of q) at size n parent)) parent small.1)
   where
-    go : (s : Size) → size_at body (field_of q) es at ≡ s
+    go : (s : Option Length) → size_at body (field_of q) es at ≡ s
         → ((size : Length) → Bound 33 (length body) (at + size.taken)
         (members body qs (at + size.taken) (es ++ (param_entry body at size.taken ∷ []))
         (n + length (param_rows body (field_of q) at size n parent)) parent))
@@ -64,7 +63,7 @@ members_bound body (q ∷ qs) at es n parent small =
         (members body qs (at + size.taken) (es ++ (param_entry body at size.taken ∷ []))
         (n + length (param_rows body (field_of q) at size n parent)) parent))
         (ended at))
-    go (Bytes size) e more =
+    go (Some size) e more =
         let f = size_facts body (field_of q) es at size e in
         let f0 = f.0 in
         let f1 = f.1 in
@@ -74,7 +73,7 @@ members_bound body (q ∷ qs) at es n parent small =
         let g1 = g.inside in
         let g2 = g.few in
         record { forward = omega arith; inside = omega arith; few = rw length-append (omega arith) }
-    go Missing e more = stays 33 (length body) at
+    go None e more = stays 33 (length body) at
 
 pub turn_bound : (body : List ℕ) (qs : List Parameter) (at n : ℕ) → SmallAll qs → Bound 33 (length body) at (turn body qs at n)
 unfolding turn
@@ -115,7 +114,7 @@ outer_bound offsets body [] at es n small = stays 34 (length body) at
 outer_bound offsets body (single q ∷ ds) at es n small =
     go (size_at body (field_of q) es at) refl (λ at' es' n'. outer_bound offsets body ds at' es' n' small.1)
   where
-    go : (s : Size) → size_at body (field_of q) es at ≡ s
+    go : (s : Option Length) → size_at body (field_of q) es at ≡ s
         → ((at' : ℕ) (es' : List Earlier) (n' : ℕ) → Bound 34 (length body) at' (outer offsets body ds at' es' n'))
         → Bound 34 (length body) at
         (on_size s
@@ -123,7 +122,7 @@ outer_bound offsets body (single q ∷ ds) at es n small =
         after (param_rows body (field_of q) at size n 0)
         (outer offsets body ds (at + size.taken) (es ++ (param_entry body at size.taken ∷ [])) (n + length (param_rows body (field_of q) at size n 0))))
         (outer offsets body ds at (es ++ unvalued offsets 0) n))
-    go (Bytes size) e more =
+    go (Some size) e more =
         let f = size_facts body (field_of q) es at size e in
         let f0 = f.0 in
         let f1 = f.1 in
@@ -133,7 +132,7 @@ outer_bound offsets body (single q ∷ ds) at es n small =
         let g1 = r.inside in
         let g2 = r.few in
         record { forward = omega arith; inside = omega arith; few = rw length-append (omega arith) }
-    go Missing e more = more at (es ++ unvalued offsets 0) n
+    go None e more = more at (es ++ unvalued offsets 0) n
 outer_bound offsets body (repeated line g qs ∷ ds) at es n small =
     go (repetitions body line qs (repeats g.offset g.mask (record { 0 = g.shift }) es (length body - at)) 0 at n)
     (repetitions_bound body line qs (repeats g.offset g.mask (record { 0 = g.shift }) es (length body - at)) 0 at n small.0)

@@ -2,7 +2,6 @@
 use mathlib.Core.Path.{◌≡◌, refl}
 use mathlib.Core.Bool.{Bool, true, false, cond, not, ◌&&◌}
 use mathlib.Core.List.{List}
-use mathlib.Core.Option.{Option}
 use Prim.Native.Nat.{ℕ, ◌-◌, ◌≤◌, ◌<◌}
 use native.Mathlib.Omega.{arith}
 use lib.Dec.{eqb, ltb, leb}
@@ -13,7 +12,7 @@ use Rattle.command_rules.specs.declared.Rule.{Rule}
 use Rattle.command_rules.specs.declared.Wanted.{Wanted}
 use Rattle.command_rules.specs.declared.Wanted.TheVariants.{Exactly, Rest}
 use Rattle.command_rules.specs.declared.Length.{Length}
-use Rattle.command_rules.specs.declared.Size.TheVariants.{Bytes, Missing}
+use Rattle.std.specs.Prelude.{Option, Some, None}
 
 -- a Q that exists takes a byte or more, and at most what remains
 least-within : (a b : ℕ) → least a b ≤ b
@@ -50,12 +49,12 @@ cut_all (Exactly n) rest h = least-all n rest h
 cut_all Rest rest h = refl
 
 module _ (offset mask : Option ℕ) (rule : Rule) (es : List Earlier) (rest : ℕ) (l : Length)
-    (is : size_of offset mask rule es rest ≡ Bytes l) where
+    (is : size_of offset mask rule es rest ≡ Some l) where
   pub size_is : cut (wanted rule es) rest ≡ l
   unfolding size_of
   size_is = go (exists offset mask rule es rest) is
     where
-      go : (x : Bool) → cond x (Bytes (cut (wanted rule es) rest)) Missing ≡ Bytes l → cut (wanted rule es) rest ≡ l
+      go : (x : Bool) → cond x (Some (cut (wanted rule es) rest)) None ≡ Some l → cut (wanted rule es) rest ≡ l
       go true e = cc
       go false e = absurd (let z : ◌≡◌ {A = ℕ} 0 1 = cc in omega arith)
 
@@ -78,7 +77,7 @@ module _ (offset mask : Option ℕ) (rule : Rule) (es : List Earlier) (rest : �
       ne-zero m f = omega arith
 
       go : (a b c : Bool) → eqb (cut (wanted rule es) rest).taken 0 ≡ c
-          → cond (a && (b && not c)) (Bytes (cut (wanted rule es) rest)) Missing ≡ Bytes l
+          → cond (a && (b && not c)) (Some (cut (wanted rule es) rest)) None ≡ Some l
           → 0 < l.taken
       go true true true q e = absurd (let z : ◌≡◌ {A = ℕ} 0 1 = cc in omega arith)
       go true true false q e = rw size_is at (ne-zero (cut (wanted rule es) rest).taken (eqb-false (cut (wanted rule es) rest).taken 0 q))

@@ -11,16 +11,16 @@ use Rattle.command_rules.specs.declared.Length.{Length}
 use Rattle.command_rules.specs.declared.Offsets.{Offsets}
 use Rattle.command_rules.specs.declared.Offsets.TheVariants.{Answered, Position}
 use Rattle.command_rules.specs.declared.Row.{Row}
-use Rattle.command_rules.specs.declared.Size.TheVariants.{Bytes}
 use Rattle.command_rules.specs.Field.{field_of}
 use Rattle.command_rules.specs.Param.{size_at, param_rows, param_entry}
 use Rattle.command_rules.specs.Walk.{Walked, after, members, outer}
+use Rattle.std.specs.Prelude.{Some}
 
 -- each of these Qs exists, one behind the other from a place of the body on, after these entries
 unfoldable pub Exist : List ℕ → List Parameter → ℕ → List Earlier → Type 0
 Exist body [] at es = Unit {0}
 Exist body (q ∷ qs) at es =
-    (size : Length) × (size_at body (field_of q) es at ≡ Bytes size) × Exist body qs (at + size.taken) (es ++ (param_entry body at size.taken ∷ []))
+    (size : Length) × (size_at body (field_of q) es at ≡ Some size) × Exist body qs (at + size.taken) (es ++ (param_entry body at size.taken ∷ []))
 
 -- what they give: their rows, the place behind them, the entries with theirs, the next row
 pub record Front : Type 0 where

@@ -2,7 +2,6 @@
 use mathlib.Core.Path.{◌≡◌, refl, sym, ap, ◌∙◌, subst}
 use mathlib.Core.Bool.{Bool, true, false, cond}
 use mathlib.Core.List.{List, [], ◌∷◌, ◌++◌, append_assoc, append-nil}
-use mathlib.Core.Option.{Option, none, some}
 use Prim.Native.Nat.{ℕ, zero, suc, ◌+◌, ◌-◌, ◌≤◌, ◌<◌}
 use native.Mathlib.Nat.{add-zero}
 use native.Mathlib.Omega.{arith}
@@ -14,8 +13,6 @@ use Rattle.command_class.specs.Definition.{Item, Parameter, Entry, single, repea
 use Rattle.command_rules.specs.Lengths.{repeats}
 use Rattle.command_rules.specs.declared.Earlier.{Earlier}
 use Rattle.command_rules.specs.declared.Length.{Length}
-use Rattle.command_rules.specs.declared.Size.{Size}
-use Rattle.command_rules.specs.declared.Size.TheVariants.{Bytes, Missing}
 use Rattle.command_rules.specs.Field.{Field, field_of}
 use Rattle.command_rules.specs.declared.Row.{Row}
 use Rattle.command_rules.specs.Param.{in_payload, bit_value, bit_onto, bit_rows, row_of, bytes_at, size_at, param_rows, param_entry}
@@ -24,6 +21,7 @@ use Rattle.command_rules.specs.declared.Offsets.{Offsets}
 use Rattle.command_rules.specs.Sum.{children_of, Follow, bytes, AllParams, OnByte, Inside, Placed, CutAtEnd}
 use Rattle.command_rules.proofs.Lengths.{size-all}
 use Rattle.command_rules.proofs.Bounds.{size_facts}
+use Rattle.std.specs.Prelude.{Option, Some, None}
 
 -- ---- children of rows that stand together
 pub children_append : (c : ℕ) (a b : List Row) → children_of c (a ++ b) ≡ children_of c a ++ children_of c b
@@ -66,8 +64,8 @@ bits_leaves b p s [] = tt
 bits_leaves b p s (i ∷ is) = go (of_item (bit_value b) i.says) (bits_leaves b p s is)
   where
     go : (v : Option ℕ) → Leaves p s (bit_rows b p s is) → Leaves p s (bit_onto i.line p s v (bit_rows b p s is))
-    go none ih = ih
-    go (some v) ih = (refl, refl, refl, refl, ih)
+    go None ih = ih
+    go (Some v) ih = (refl, refl, refl, refl, ih)
 
 no_leaves : (p s : ℕ) → Leaves p s []
 unfolding Leaves
@@ -120,7 +118,7 @@ pub record Shape (rs : List Row) (at size n parent : ℕ) : Type 0 where
   pub leaves : Leaves (n + 1) (in_payload at) kids
   pub on : OnByte row kids
 
-pub shape : (body : List ℕ) (q : Field) (es : List Earlier) (at : ℕ) (size : Length) (n parent : ℕ) → size_at body q es at ≡ Bytes size
+pub shape : (body : List ℕ) (q : Field) (es : List Earlier) (at : ℕ) (size : Length) (n parent : ℕ) → size_at body q es at ≡ Some size
     → Shape (param_rows body q at size n parent) at size.taken n parent
 unfolding param_rows
 shape body q es at size n parent there = go (eqb (length (bytes_at body at size.taken)) 1) refl
@@ -237,7 +235,7 @@ inner_members body (q ∷ qs) at es n parent =
     go (size_at body (field_of q) es at) refl (λ size. inner_members body qs (at + size.taken) (es ++ (param_entry body at size.taken ∷ []))
     (n + length (param_rows body (field_of q) at size n parent)) parent)
   where
-    go : (s : Size) → size_at body (field_of q) es at ≡ s
+    go : (s : Option Length) → size_at body (field_of q) es at ≡ s
         → ((size : Length) → Inner (members body qs (at + size.taken) (es ++ (param_entry body at size.taken ∷ []))
         (n + length (param_rows body (field_of q) at size n parent)) parent) (at + size.taken) (n + length (param_rows body (field_of q) at size n parent)) parent)
         → Inner
@@ -248,10 +246,10 @@ inner_members body (q ∷ qs) at es n parent =
         (n + length (param_rows body (field_of q) at size n parent)) parent))
         (ended at))
         at n parent
-    go (Bytes size) e more =
+    go (Some size) e more =
         inner_more (param_rows body (field_of q) at size n parent) at size.taken n parent _ (shape body (field_of q) es at size n parent e)
         (size_facts body (field_of q) es at size e).0 (more size)
-    go Missing e more = inner_end at n parent
+    go None e more = inner_end at n parent
 
 -- ---- what stands in the outer list
 pub record Outermost (w : Walked) (at n : ℕ) : Type 0 where
@@ -381,7 +379,7 @@ unfolding outer group_at
 outermost offsets body [] at es n = outermost_end at n
 outermost offsets body (single q ∷ ds) at es n = go (size_at body (field_of q) es at) refl (λ at' es' n'. outermost offsets body ds at' es' n')
   where
-    go : (s : Size) → size_at body (field_of q) es at ≡ s
+    go : (s : Option Length) → size_at body (field_of q) es at ≡ s
         → ((at' : ℕ) (es' : List Earlier) (n' : ℕ) → Outermost (outer offsets body ds at' es' n') at' n')
         → Outermost
         (on_size s
@@ -390,11 +388,11 @@ outermost offsets body (single q ∷ ds) at es n = go (size_at body (field_of q)
         (outer offsets body ds (at + size.taken) (es ++ (param_entry body at size.taken ∷ [])) (n + length (param_rows body (field_of q) at size n 0))))
         (outer offsets body ds at (es ++ unvalued offsets 0) n))
         at n
-    go (Bytes size) e more =
+    go (Some size) e more =
         outermost_param (param_rows body (field_of q) at size n 0) at size.taken n _ (shape body (field_of q) es at size n 0 e)
         (size_facts body (field_of q) es at size e).0
         (more (at + size.taken) (es ++ (param_entry body at size.taken ∷ [])) (n + length (param_rows body (field_of q) at size n 0)))
-    go Missing e more = more at (es ++ unvalued offsets 0) n
+    go None e more = more at (es ++ unvalued offsets 0) n
 outermost offsets body (repeated line g qs ∷ ds) at es n =
     go (repetitions body line qs (repeats g.offset g.mask (record { 0 = g.shift }) es (length body - at)) 0 at n)
     (outermost_repetitions body line qs (repeats g.offset g.mask (record { 0 = g.shift }) es (length body - at)) 0 at n)
@@ -421,10 +419,10 @@ cut_bits size b p s [] = tt
 cut_bits size b p s (i ∷ is) = go (of_item (bit_value b) i.says) (cut_bits size b p s is)
   where
     go : (v : Option ℕ) → CutAtEnd size (bit_rows b p s is) → CutAtEnd size (bit_onto i.line p s v (bit_rows b p s is))
-    go none ih = ih
-    go (some v) ih = (λ h. absurd (omega arith), ih)
+    go None ih = ih
+    go (Some v) ih = (λ h. absurd (omega arith), ih)
 
-cut-param : (body : List ℕ) (q : Field) (es : List Earlier) (at : ℕ) (size : Length) (n parent : ℕ) → size_at body q es at ≡ Bytes size
+cut-param : (body : List ℕ) (q : Field) (es : List Earlier) (at : ℕ) (size : Length) (n parent : ℕ) → size_at body q es at ≡ Some size
     → CutAtEnd (2 + length body) (param_rows body q at size n parent)
 unfolding CutAtEnd param_rows
 cut-param body q es at size n parent there = (own, kids (eqb (length (bytes_at body at size.taken)) 1))
@@ -449,7 +447,7 @@ cut_members body [] at es n parent = cut-none (2 + length body)
 cut_members body (q ∷ qs) at es n parent =
     go (size_at body (field_of q) es at) refl (λ at' es' n'. cut_members body qs at' es' n' parent)
   where
-    go : (s : Size) → size_at body (field_of q) es at ≡ s
+    go : (s : Option Length) → size_at body (field_of q) es at ≡ s
         → ((at' : ℕ) (es' : List Earlier) (n' : ℕ) → CutAtEnd (2 + length body) (members body qs at' es' n' parent).rows)
         → CutAtEnd (2 + length body)
         (on_size s
@@ -458,10 +456,10 @@ cut_members body (q ∷ qs) at es n parent =
         (members body qs (at + size.taken) (es ++ (param_entry body at size.taken ∷ []))
         (n + length (param_rows body (field_of q) at size n parent)) parent))
         (ended at)).rows
-    go (Bytes size) e more =
+    go (Some size) e more =
         cut-append (2 + length body) (param_rows body (field_of q) at size n parent) _ (cut-param body (field_of q) es at size n parent e)
         (more (at + size.taken) (es ++ (param_entry body at size.taken ∷ [])) (n + length (param_rows body (field_of q) at size n parent)))
-    go Missing e more = cut-none (2 + length body)
+    go None e more = cut-none (2 + length body)
 
 cut_repetition : (size line at end k : ℕ) (rs : List Row) → CutAtEnd size rs → CutAtEnd size (repetition_row line at end k ∷ rs)
 unfolding CutAtEnd repetition_row
@@ -493,7 +491,7 @@ unfolding outer group_at
 cut-outer offsets body [] at es n = cut-none (2 + length body)
 cut-outer offsets body (single q ∷ ds) at es n = go (size_at body (field_of q) es at) refl (λ at' es' n'. cut-outer offsets body ds at' es' n')
   where
-    go : (s : Size) → size_at body (field_of q) es at ≡ s
+    go : (s : Option Length) → size_at body (field_of q) es at ≡ s
         → ((at' : ℕ) (es' : List Earlier) (n' : ℕ) → CutAtEnd (2 + length body) (outer offsets body ds at' es' n').rows)
         → CutAtEnd (2 + length body)
         (on_size s
@@ -501,10 +499,10 @@ cut-outer offsets body (single q ∷ ds) at es n = go (size_at body (field_of q)
         after (param_rows body (field_of q) at size n 0)
         (outer offsets body ds (at + size.taken) (es ++ (param_entry body at size.taken ∷ [])) (n + length (param_rows body (field_of q) at size n 0))))
         (outer offsets body ds at (es ++ unvalued offsets 0) n)).rows
-    go (Bytes size) e more =
+    go (Some size) e more =
         cut-append (2 + length body) (param_rows body (field_of q) at size n 0) _ (cut-param body (field_of q) es at size n 0 e)
         (more (at + size.taken) (es ++ (param_entry body at size.taken ∷ [])) (n + length (param_rows body (field_of q) at size n 0)))
-    go Missing e more = more at (es ++ unvalued offsets 0) n
+    go None e more = more at (es ++ unvalued offsets 0) n
 cut-outer offsets body (repeated line g qs ∷ ds) at es n =
     cut-append (2 + length body) (group_at body line g qs es at n).rows _
     (cut-repetitions body line qs (repeats g.offset g.mask (record { 0 = g.shift }) es (length body - at)) 0 at n)

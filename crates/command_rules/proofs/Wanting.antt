@@ -18,10 +18,6 @@ use Rattle.command_rules.specs.declared.Wanted.{Wanted}
 use Rattle.command_rules.specs.declared.Earlier.{Earlier}
 use Rattle.command_rules.specs.declared.Earlier.TheVariants.{Value, NoValue}
 use Rattle.command_rules.specs.declared.Length.{Length}
-use Rattle.command_rules.specs.declared.Size.{Size}
-use Rattle.command_rules.specs.declared.Size.TheVariants.{Bytes, Missing}
-use Rattle.command_rules.specs.declared.Uint.{Uint}
-use Rattle.command_rules.specs.declared.Uint.TheVariants.{Is, Not}
 use Rattle.command_rules.specs.declared.Row.{Row}
 use Rattle.command_rules.specs.Field.{Field, field_of}
 use Rattle.command_rules.specs.Param.{in_payload, value_of, valued, or_zero, entry_of, bit_rows, row_of, bytes_at, size_at, param_rows, param_entry}
@@ -36,19 +32,20 @@ use Rattle.command_rules.proofs.Sums.{children_append, neither, Leaves, bits_lea
 use Rattle.command_rules.proofs.Sums.{repetition_one}
 use Rattle.command_rules.proofs.Slots.{OnLine, Under, Passed, under_later, on-under, passed_later, Kept, kept_own, kept-none, kept_group, kept-found}
 use Rattle.command_rules.proofs.Sums.{outermost, follow_sum, cut-outer}
+use Rattle.std.specs.Prelude.{Option, Some, None}
 
 abbrev Among : Parameter → List Parameter → Type 0
 Among q qs = Memᴰ q qs
 
 -- ---- the entry that a row is
-entry_own : (u : Uint) → cond (eqb (valued u) 1) (Value (or_zero u % 256)) NoValue ≡ entry_of u
-entry_own (Is v) = refl
-entry_own Not = refl
+entry_own : (u : Option ℕ) → cond (eqb (valued u) 1) (Value (or_zero u % 256)) NoValue ≡ entry_of u
+entry_own (Some v) = refl
+entry_own None = refl
 
 first-row : (a b : Row) (xs ys : List Row) → a ∷ xs ≡ b ∷ ys → a ≡ b
 first-row a b xs ys e = cc
 
-module _ (body : List ℕ) (q : Field) (es : List Earlier) (at : ℕ) (size : Length) (n parent : ℕ) (there : size_at body q es at ≡ Bytes size) where
+module _ (body : List ℕ) (q : Field) (es : List Earlier) (at : ℕ) (size : Length) (n parent : ℕ) (there : size_at body q es at ≡ Some size) where
   abbrev own : Row
   own = row_of q parent (in_payload at) (bytes_at body at size.taken) size.lacking
 
@@ -116,7 +113,7 @@ module _ (offsets : Offsets) (all : List Entry) where
   met_leaves before p s (k ∷ ks) h = (λ z. absurd (omega (arith, h.0)), met_leaves (before ++ (k ∷ [])) p s ks h.4)
 
   met-param : (body : List ℕ) (q : Parameter) (es : List Earlier) (at : ℕ) (size : Length) (n parent : ℕ) (before : List Row)
-      → size_at body (field_of q) es at ≡ Bytes size → Among q (params_of all) → Finds es parent before
+      → size_at body (field_of q) es at ≡ Some size → Among q (params_of all) → Finds es parent before
       → AllMeet offsets all before (param_rows body (field_of q) at size n parent)
   unfolding AllMeet param_rows
   met-param body q es at size n parent before there stands finds = (λ z. mine, kids (eqb (length (bytes_at body at size.taken)) 1))
@@ -149,7 +146,7 @@ module _ (offsets : Offsets) (all : List Entry) where
   met_end before n = record { met = met-none before; fresh = λ c h. refl }
 
   met-more : (body : List ℕ) (q : Parameter) (es : List Earlier) (at : ℕ) (size : Length) (n parent : ℕ) (before rows : List Row)
-      → size_at body (field_of q) es at ≡ Bytes size → Among q (params_of all) → parent ≤ n → Finds es parent before
+      → size_at body (field_of q) es at ≡ Some size → Among q (params_of all) → parent ≤ n → Finds es parent before
       → Met (before ++ param_rows body (field_of q) at size n parent) (n + length (param_rows body (field_of q) at size n parent)) rows
       → Met before n (param_rows body (field_of q) at size n parent ++ rows)
   met-more body q es at size n parent before rows there stands low finds rest =
@@ -178,7 +175,7 @@ module _ (offsets : Offsets) (all : List Entry) where
       go (size_at body (field_of q) es at) refl
       (λ at' es' n' before'. met-members body qs at' es' n' parent before' (λ p i. stand p (Memᴰ.tail i)) inner)
     where
-      go : (s : Size) → size_at body (field_of q) es at ≡ s
+      go : (s : Option Length) → size_at body (field_of q) es at ≡ s
           → ((at' : ℕ) (es' : List Earlier) (n' : ℕ) (before' : List Row) → parent ≤ n'
           → es' ≡ map entry_in (children_of parent before')
           → Met before' n' (members body qs at' es' n' parent).rows)
@@ -189,11 +186,11 @@ module _ (offsets : Offsets) (all : List Entry) where
           (members body qs (at + size.taken) (es ++ (param_entry body at size.taken ∷ []))
           (n + length (param_rows body (field_of q) at size n parent)) parent))
           (ended at)).rows
-      go (Bytes size) e more =
+      go (Some size) e more =
           met-more body q es at size n parent before _ e (stand q (Memᴰ.head refl)) low (finds_inner es parent before inner known)
           (more (at + size.taken) (es ++ (param_entry body at size.taken ∷ [])) (n + length (param_rows body (field_of q) at size n parent))
           (before ++ param_rows body (field_of q) at size n parent) (omega arith) (with_own body (field_of q) es at size n parent e before low known))
-      go Missing e more = met_end before n
+      go None e more = met_end before n
 
   -- ---- a repetition: its row is the entry, without value
   record Turned (line : ℕ) (before : List Row) (n : ℕ) (w : Walked) : Type 0 where
@@ -346,14 +343,14 @@ module _ (offsets : Offsets) (all : List Entry) where
   met-outer body (single q ∷ ds) stand done low at es n before k clear =
       go (size_at body (field_of q) es at) refl (met-outer body ds (λ p i. stand p (Memᴰ.tail i)))
     where
-      go : (s : Size) → size_at body (field_of q) es at ≡ s → Goes body ds
+      go : (s : Option Length) → size_at body (field_of q) es at ≡ s → Goes body ds
           → AllMeet offsets all before
           (on_size s
           (λ size.
           after (param_rows body (field_of q) at size n 0)
           (outer offsets body ds (at + size.taken) (es ++ (param_entry body at size.taken ∷ [])) (n + length (param_rows body (field_of q) at size n 0))))
           (outer offsets body ds at (es ++ unvalued offsets 0) n)).rows
-      go (Bytes size) e more =
+      go (Some size) e more =
           let rs : List Row = param_rows body (field_of q) at size n 0 in
           let tops : children_of 0 (before ++ rs) ≡ children_of 0 before ++ (own body (field_of q) es at size n 0 e ∷ []) =
           children_append 0 before rs ∙ ap (λ (l : List Row). children_of 0 before ++ l) (own_child body (field_of q) es at size n 0 e (omega arith)) in
@@ -364,7 +361,7 @@ module _ (offsets : Offsets) (all : List Entry) where
           (knows_own done ds low es (children_of 0 before) q (own body (field_of q) es at size n 0 e) (param_entry body at size.taken) k refl
           (own_entry body (field_of q) es at size n 0 e)))
           (λ c h. neither c before rs (clear c (omega arith)) (own_fresh body (field_of q) es at size n 0 e c (omega arith) h)))
-      go Missing e more =
+      go None e more =
           more (done ++ (single q ∷ [])) (suc q.line) at (es ++ unvalued offsets 0) n before (knows_none done ds low es (children_of 0 before) q k) clear
   met-outer body (repeated line g qs ∷ ds) stand done low at es n before k clear =
       go (repetitions body line qs (repeats g.offset g.mask (record { 0 = g.shift }) es (length body - at)) 0 at n)

@@ -1,6 +1,5 @@
 -- C4 to C6 and C12 (docs/RULES.md): what the walk looks at in a Q, with its first M, A and R resolved.
-use Rattle.std.specs.Prelude.{ℕ, Bool, true, false, cond, not, ◌&&◌, ◌||◌, List, [], ◌∷◌, eqb}
-use Rattle.std.proofs.Math.Option.{Option, none, some}
+use Rattle.std.specs.Prelude.{ℕ, Bool, true, false, cond, not, ◌&&◌, ◌||◌, List, [], ◌∷◌, eqb, Option, Some, None}
 use Rattle.command_text.specs.Form.{Size, Detail, variant, array, bit_flag, bit_field, const, bitmask}
 use Rattle.command_text.specs.declared.ParamType.{ParamType}
 use Rattle.command_text.specs.declared.ParamType.TheVariants.{Byte, StructByte, Const, Marker, Word, Bit24, Dword, Array, Variant, Bitmask, MultiArray}
@@ -11,58 +10,58 @@ use Rattle.command_rules.specs.declared.Rule.TheVariants.{Fixed, Open, Counted}
 -- ---- the first line of a kind under a Q
 
 abbrev pub or_else : {A : Type 0} → Option A → Option A → Option A
-or_else none b = b
-or_else (some a) b = some a
+or_else None b = b
+or_else (Some a) b = Some a
 
 -- what the first of these lines tells, of those of which f tells something
 abbrev pub first : {A : Type 0} → (Detail → Option A) → List Item → Option A
-first f [] = none
+first f [] = None
 first f (i ∷ is) = or_else (of_item f i.says) (first f is)
 
 -- what an R says
 abbrev pub as_variant : Detail → Option Size
-as_variant (variant s) = some s
-as_variant (array length ascii) = none
-as_variant (bit_flag mask name) = none
-as_variant (bit_field b) = none
-as_variant (const value name) = none
-as_variant (bitmask length) = none
+as_variant (variant s) = Some s
+as_variant (array length ascii) = None
+as_variant (bit_flag mask name) = None
+as_variant (bit_field b) = None
+as_variant (const value name) = None
+as_variant (bitmask length) = None
 
 -- an A's length, and whether it is ascii
 abbrev pub as_array : Detail → Option (ℕ × Bool)
-as_array (variant s) = none
-as_array (array length ascii) = some (length, ascii)
-as_array (bit_flag mask name) = none
-as_array (bit_field b) = none
-as_array (const value name) = none
-as_array (bitmask length) = none
+as_array (variant s) = None
+as_array (array length ascii) = Some (length, ascii)
+as_array (bit_flag mask name) = None
+as_array (bit_field b) = None
+as_array (const value name) = None
+as_array (bitmask length) = None
 
 -- an M's length, if it says one
 abbrev pub as_bitmask : Detail → Option (Option ℕ)
-as_bitmask (variant s) = none
-as_bitmask (array length ascii) = none
-as_bitmask (bit_flag mask name) = none
-as_bitmask (bit_field b) = none
-as_bitmask (const value name) = none
-as_bitmask (bitmask length) = some length
+as_bitmask (variant s) = None
+as_bitmask (array length ascii) = None
+as_bitmask (bit_flag mask name) = None
+as_bitmask (bit_field b) = None
+as_bitmask (const value name) = None
+as_bitmask (bitmask length) = Some length
 
 -- ---- what a Q's own lines say of its length
 
 -- C4: by the first A
 abbrev pub array_rule : Option (ℕ × Bool) → Rule
-array_rule none = Open
-array_rule (some a) = Fixed a.0
+array_rule None = Open
+array_rule (Some a) = Fixed a.0
 
 -- C6: by the first R
 abbrev pub variant_rule : Option Size → Rule
-variant_rule none = Open
-variant_rule (some s) = cond (eqb s.offset 255 || eqb s.mask 0) Open (Counted s.offset s.mask (record { 0 = s.shift }))
+variant_rule None = Open
+variant_rule (Some s) = cond (eqb s.offset 255 || eqb s.mask 0) Open (Counted s.offset s.mask (record { 0 = s.shift }))
 
--- C5: by the first M; one without a length hands over to R, as none does
+-- C5: by the first M; one without a length hands over to R, as None does
 abbrev pub variable_rule : Option (Option ℕ) → Option Size → Rule
-variable_rule none r = variant_rule r
-variable_rule (some none) r = variant_rule r
-variable_rule (some (some n)) r = Fixed n
+variable_rule None r = variant_rule r
+variable_rule (Some None) r = variant_rule r
+variable_rule (Some (Some n)) r = Fixed n
 
 -- C4: by the type
 abbrev pub rule_of : ParamType → Option (Option ℕ) → Option (ℕ × Bool) → Option Size → Rule
@@ -81,12 +80,12 @@ rule_of MultiArray m a r = variable_rule m r
 -- ---- whose value is named
 
 abbrev pub array_ascii : Option (ℕ × Bool) → Bool
-array_ascii none = false
-array_ascii (some a) = a.1
+array_ascii None = false
+array_ascii (Some a) = a.1
 
 abbrev pub variant_ascii : Option Size → Bool
-variant_ascii none = false
-variant_ascii (some s) = s.ascii
+variant_ascii None = false
+variant_ascii (Some s) = s.ascii
 
 abbrev pub is_const : ParamType → Bool
 is_const Byte = false

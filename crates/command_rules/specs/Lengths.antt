@@ -1,6 +1,5 @@
 -- C2, C3, C6 to C8, C13, L1 and L2 (docs/RULES.md): whether a Q exists, how many bytes it takes and lacks, and how often a group repeats.
-use Rattle.std.specs.Prelude.{ℕ, ◌+◌, ◌-◌, ◌/◌, ◌^◌, ◌≡◌, Bool, true, false, cond, not, ◌&&◌, ◌||◌, List, eqb, leb, ltb, get_or}
-use Rattle.std.proofs.Math.Option.{Option, none, some}
+use Rattle.std.specs.Prelude.{ℕ, ◌+◌, ◌-◌, ◌/◌, ◌^◌, ◌≡◌, Bool, true, false, cond, not, ◌&&◌, ◌||◌, List, eqb, leb, ltb, get_or, Option, Some, None}
 use Rattle.std.specs.Int.Bits.{bit_and}
 use Rattle.command_rules.specs.declared.Earlier.{Earlier}
 use Rattle.command_rules.specs.declared.Earlier.TheVariants.{Value, NoValue, NoEntry}
@@ -10,8 +9,6 @@ use Rattle.command_rules.specs.declared.Rule.TheVariants.{Fixed, Open, Counted}
 use Rattle.command_rules.specs.declared.Wanted.{Wanted}
 use Rattle.command_rules.specs.declared.Wanted.TheVariants.{Exactly, Rest}
 use Rattle.command_rules.specs.declared.Length.{Length}
-use Rattle.command_rules.specs.declared.Size.{Size}
-use Rattle.command_rules.specs.declared.Size.TheVariants.{Bytes, Missing}
 
 -- C2: how many entries of a list an offset can count to
 abbrev pub most_entries : ℕ
@@ -31,13 +28,13 @@ meets mask NoEntry = false
 
 -- C3: does the condition hold
 abbrev pub holds : Option ℕ → Option ℕ → List Earlier → Bool
-holds (some k) (some mask) es = meets mask (entry_at es k)
-holds (some k) none es = true
-holds none mask es = true
+holds (Some k) (Some mask) es = meets mask (entry_at es k)
+holds (Some k) None es = true
+holds None mask es = true
 
 -- ---- lengths
 
--- C6, C11, C13: some bits of a byte, as a number
+-- C6, C11, C13: Some bits of a byte, as a number
 abbrev pub masked : ℕ → ℕ → BitShift → ℕ
 masked b mask shift = bit_and b mask / 2 ^ shift.0
 
@@ -66,8 +63,8 @@ abbrev pub exists : Option ℕ → Option ℕ → Rule → List Earlier → ℕ 
 exists offset mask rule es rest = ltb 0 rest && (holds offset mask es && not (eqb (cut (wanted rule es) rest).taken 0))
 
 -- C8: its length, of those that are left
-unfoldable pub size_of : Option ℕ → Option ℕ → Rule → List Earlier → ℕ → Size
-size_of offset mask rule es rest = cond (exists offset mask rule es rest) (Bytes (cut (wanted rule es) rest)) Missing
+unfoldable pub size_of : Option ℕ → Option ℕ → Rule → List Earlier → ℕ → Option Length
+size_of offset mask rule es rest = cond (exists offset mask rule es rest) (Some (cut (wanted rule es) rest)) None
 
 -- L4: a length agrees with what was wanted
 abbrev pub Agrees : Wanted → Length → Type 0

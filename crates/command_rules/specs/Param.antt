@@ -1,6 +1,5 @@
 -- C1, C10 to C12, C16 and L3 (docs/RULES.md): a Q that exists: its value, its row, its bit children.
-use Rattle.std.specs.Prelude.{cond, ◌&&◌, List, [], ◌∷◌, ℕ, ◌+◌, ◌-◌, ◌*◌, ◌%◌, eqb, leb, length, get_or, take, drop}
-use Rattle.std.proofs.Math.Option.{Option, none, some}
+use Rattle.std.specs.Prelude.{cond, ◌&&◌, List, [], ◌∷◌, ℕ, ◌+◌, ◌-◌, ◌*◌, ◌%◌, eqb, leb, length, get_or, take, drop, Option, Some, None}
 use Rattle.std.specs.Int.Bits.{bit_and}
 use Rattle.command_text.specs.Form.{Detail, variant, array, bit_flag, bit_field, const, bitmask}
 use Rattle.command_class.specs.Definition.{Item, of_item, first_const}
@@ -8,12 +7,9 @@ use Rattle.command_rules.specs.Lengths.{masked, size_of}
 use Rattle.command_rules.specs.declared.Earlier.{Earlier}
 use Rattle.command_rules.specs.declared.Earlier.TheVariants.{Value, NoValue}
 use Rattle.command_rules.specs.declared.Length.{Length}
-use Rattle.command_rules.specs.declared.Size.{Size}
 use Rattle.command_rules.specs.Field.{Field}
 use Rattle.command_rules.specs.declared.Row.{Row}
 use Rattle.command_rules.specs.Rows.{param_kind, bit_kind}
-use Rattle.command_rules.specs.declared.Uint.{Uint}
-use Rattle.command_rules.specs.declared.Uint.TheVariants.{Is, Not}
 
 -- C1: a place of the body, counted from the payload's first byte
 abbrev pub in_payload : ℕ → ℕ
@@ -27,38 +23,38 @@ big_endian v [] = v
 big_endian v (b ∷ bs) = big_endian (v * 256 + b) bs
 
 -- C10: the value of bytes, if they have one
-abbrev pub value_of : List ℕ → Uint
-value_of bs = cond (leb 1 (length bs) && leb (length bs) 8) (Is (big_endian 0 bs)) Not
+abbrev pub value_of : List ℕ → Option ℕ
+value_of bs = cond (leb 1 (length bs) && leb (length bs) 8) (Some (big_endian 0 bs)) None
 
 -- C16: numbers 5 and 6 of a row
-abbrev pub valued : Uint → ℕ
-valued (Is v) = 1
-valued Not = 0
+abbrev pub valued : Option ℕ → ℕ
+valued (Some v) = 1
+valued None = 0
 
-abbrev pub or_zero : Uint → ℕ
-or_zero (Is v) = v
-or_zero Not = 0
+abbrev pub or_zero : Option ℕ → ℕ
+or_zero (Some v) = v
+or_zero None = 0
 
 -- C12: the line of the K that names the value, or 0
-abbrev pub const_line : Field → Uint → ℕ
-const_line q (Is v) = cond q.named (first_const (v % 256) q.items) 0
-const_line q Not = 0
+abbrev pub const_line : Field → Option ℕ → ℕ
+const_line q (Some v) = cond q.named (first_const (v % 256) q.items) 0
+const_line q None = 0
 
 -- C2: the entry that it is for those after it
-abbrev pub entry_of : Uint → Earlier
-entry_of (Is v) = Value (v % 256)
-entry_of Not = NoValue
+abbrev pub entry_of : Option ℕ → Earlier
+entry_of (Some v) = Value (v % 256)
+entry_of None = NoValue
 
 -- ---- bit children
 
 -- C11: the value of a T or S line on the byte b
 abbrev pub bit_value : ℕ → Detail → Option ℕ
-bit_value b (variant s) = none
-bit_value b (array length ascii) = none
-bit_value b (bit_flag mask name) = some (cond (eqb (bit_and b mask) 0) 0 1)
-bit_value b (bit_field f) = some (masked b f.mask (record { 0 = f.shift }))
-bit_value b (const value name) = none
-bit_value b (bitmask length) = none
+bit_value b (variant s) = None
+bit_value b (array length ascii) = None
+bit_value b (bit_flag mask name) = Some (cond (eqb (bit_and b mask) 0) 0 1)
+bit_value b (bit_field f) = Some (masked b f.mask (record { 0 = f.shift }))
+bit_value b (const value name) = None
+bit_value b (bitmask length) = None
 
 -- C16: the row of a bit child
 abbrev pub bit_row : ℕ → ℕ → ℕ → ℕ → Row
@@ -67,8 +63,8 @@ bit_row line parent start v =
 
 -- its row, if a line has one, in front of others
 abbrev pub bit_onto : ℕ → ℕ → ℕ → Option ℕ → List Row → List Row
-bit_onto line parent start none rs = rs
-bit_onto line parent start (some v) rs = bit_row line parent start v ∷ rs
+bit_onto line parent start None rs = rs
+bit_onto line parent start (Some v) rs = bit_row line parent start v ∷ rs
 
 -- C11: the rows of the byte b, which stands at `start`
 unfoldable pub bit_rows : ℕ → ℕ → ℕ → List Item → List Row
@@ -102,7 +98,7 @@ abbrev pub bytes_at : List ℕ → ℕ → ℕ → List ℕ
 bytes_at body at n = take n (drop at body)
 
 -- the length of a Q at a place of the body, if it exists there, after these entries
-abbrev pub size_at : List ℕ → Field → List Earlier → ℕ → Size
+abbrev pub size_at : List ℕ → Field → List Earlier → ℕ → Option Length
 size_at body q es at = size_of q.offset q.mask q.rule es (length body - at)
 
 -- C17: the rows of a Q whose own is row n, and which has this length at a place of the body

@@ -1,5 +1,5 @@
 -- C9, C13 to C17, D1 to D3 and L3 (docs/RULES.md): the members of a repetition, the repetitions of a group, the outer list.
-use Rattle.std.specs.Prelude.{cond, List, [], ◌∷◌, ◌++◌, ℕ, zero, suc, ◌+◌, ◌-◌, ltb, length, replicate}
+use Rattle.std.specs.Prelude.{cond, List, [], ◌∷◌, ◌++◌, ℕ, zero, suc, ◌+◌, ◌-◌, ltb, length, replicate, Option, Some, None}
 use Rattle.command_text.specs.Form.{Group}
 use Rattle.command_class.specs.Definition.{Parameter, Entry, single, repeated}
 use Rattle.command_rules.specs.Lengths.{repeats}
@@ -8,8 +8,6 @@ use Rattle.command_rules.specs.declared.Earlier.TheVariants.{NoValue, NoEntry}
 use Rattle.command_rules.specs.declared.Offsets.{Offsets}
 use Rattle.command_rules.specs.declared.Offsets.TheVariants.{Answered, Position}
 use Rattle.command_rules.specs.declared.Length.{Length}
-use Rattle.command_rules.specs.declared.Size.{Size}
-use Rattle.command_rules.specs.declared.Size.TheVariants.{Bytes, Missing}
 use Rattle.command_rules.specs.Field.{field_of}
 use Rattle.command_rules.specs.declared.Row.{Row}
 use Rattle.command_rules.specs.Rows.{repetition_kind}
@@ -34,9 +32,9 @@ abbrev pub once : Walked → Walked
 once w = record { rows = w.rows; end = w.end; times = w.times + 1 }
 
 -- by whether a Q exists
-abbrev pub on_size : {A : Type 0} → Size → (Length → A) → A → A
-on_size (Bytes n) f a = f n
-on_size Missing f a = a
+abbrev pub on_size : {A : Type 0} → Option Length → (Length → A) → A → A
+on_size (Some n) f a = f n
+on_size None f a = a
 
 -- C14: the members from a place of the body on, up to the first that doesn't exist. `es` are the entries of this repetition so far, n is the next
 -- row, `parent` the repetition's row + 1.

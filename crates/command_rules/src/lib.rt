@@ -50,20 +50,6 @@ pub struct Length {
     pub lacking: usize,
 }
 
-// The length of a Q, if it exists.
-#[derive(Clone, Copy)]
-pub enum Size {
-    Bytes(Length),
-    Missing,
-}
-
-// A value of 1 to 8 bytes, if it is one.
-#[derive(Clone, Copy)]
-pub enum Uint {
-    Is(u64),
-    Not,
-}
-
 // C16: the kind of a parameter's row.
 pub const PARAM_KIND: u64 = 0;
 

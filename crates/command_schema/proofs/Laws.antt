@@ -2,7 +2,6 @@
 use mathlib.Core.Path.{◌≡◌, refl}
 use mathlib.Core.Bool.{Bool, true, false, cond}
 use mathlib.Core.List.{List}
-use mathlib.Core.Option.{none, some}
 use Prim.Native.Nat.{ℕ, ◌*◌, ◌≤◌, ◌<◌}
 use native.Mathlib.Omega.{arith}
 use lib.Dec.{eqb}
@@ -24,6 +23,7 @@ use Rattle.command_schema.specs.declared.Loaded.{Loaded}
 use Rattle.command_schema.specs.declared.items.Gathered.{Gathered}
 use Rattle.command_schema.specs.declared.items.ArrayAttrib.{ArrayAttrib}
 use Rattle.command_schema.specs.declared.items.Variant.{Variant}
+use Rattle.std.specs.Prelude.{Some, None}
 
 -- ---- a loaded row
 module _ (l : Loaded) where
@@ -146,7 +146,7 @@ module _ (a : ArrayAttrib) where
   array_length : a.len ≡ length_number (array_rule (array_said a))
   array_length = go (eqb a.len 256) refl
     where
-      go : (b : Bool) → eqb a.len 256 ≡ b → a.len ≡ length_number (array_rule (cond b none (some (a.len, a.ascii))))
+      go : (b : Bool) → eqb a.len 256 ≡ b → a.len ≡ length_number (array_rule (cond b None (Some (a.len, a.ascii))))
       go true e = eqb-true a.len 256 e
       go false e = refl
 
@@ -158,7 +158,7 @@ module _ (g : Gathered) where
       → x ≡ length_number (variable_rule (bitmask_in g) (variant_in g))
   bitmask_over x e h = go (eqb g.bitmask 257)
     where
-      go : (b : Bool) → x ≡ length_number (variable_rule (cond b none (some (given g.bitmask))) (variant_in g))
+      go : (b : Bool) → x ≡ length_number (variable_rule (cond b None (Some (given g.bitmask))) (variant_in g))
       go true = e
       go false = rw (le-ltb g.bitmask 256 h) e
 

@@ -14,7 +14,6 @@ use Rattle.rows.proofs.Parts.{length-put}
 use Rattle.text.specs.Text.{lines}
 use Rattle.text.specs.Records.{records, Readable}
 use Rattle.text.specs.declared.Place.{Place}
-use Rattle.text.specs.declared.Verdict.TheVariants.{Accepted}
 use Rattle.text.proofs.Reading.{readable-start, rest_end}
 use Rattle.command_text.specs.Form.{Param, Group, Record, param, group, item, variant, array, bit_flag, bit_field, const, bitmask, form}
 use Rattle.command_text.specs.Rules.{rules, verdict}
@@ -35,6 +34,7 @@ use Rattle.command_schema.specs.declared.items.Under.{Under}
 use Rattle.command_schema.proofs.Heads.{heads-count, heads_small}
 use Rattle.command_schema.proofs.Resolving.{AllFit, from_fit, under-from_fit, given_back, gathered_bitmask, gathered_array, gathered_variant}
 use Rattle.command_schema.proofs.Resolving.{gathered_bits, rule_by, rule_back, bitmask_small, array_small, variant_agrees}
+use Rattle.std.specs.Prelude.{Ok}
 
 -- ---- rows of the table
 
@@ -205,7 +205,7 @@ pub record Loading (t d₀ d : List ℕ) (p : Place) (n : ℕ) : Type 0 where
   pub most : n ≤ 256
   pub short : length t ≤ 60000
 
-pub loading_start : (t d : List ℕ) (p : Place) → verdict t ≡ Accepted → length (heads_of t) * loaded_width ≤ length d
+pub loading_start : (t d : List ℕ) (p : Place) → verdict t ≡ Ok tt → length (heads_of t) * loaded_width ≤ length d
     → p ≡ record { at = 0; line = 1 } → Loading t d d p 0
 loading_start t d p e size q =
     let w = accepted-within t e in

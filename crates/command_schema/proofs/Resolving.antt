@@ -2,7 +2,6 @@
 use mathlib.Core.Path.{◌≡◌, refl, sym, ap, ◌∙◌}
 use mathlib.Core.Bool.{Bool, true, false, cond, ◌||◌}
 use mathlib.Core.List.{List, [], ◌∷◌}
-use mathlib.Core.Option.{Option, none, some}
 use Prim.Native.Nat.{ℕ, suc, ◌+◌, ◌≤◌}
 use native.Mathlib.Nat.{add-zero}
 use native.Mathlib.Omega.{arith}
@@ -27,6 +26,7 @@ use Rattle.command_rules.specs.Field.{or_else, first, as_variant, as_array, as_b
 use Rattle.command_schema.specs.Gathered.{noted, gathered, bitmask_in, array_in, variant_in, length_number}
 use Rattle.command_rules.specs.Limits.{is_bits, count_bits}
 use Rattle.command_schema.specs.declared.items.Gathered.{Gathered}
+use Rattle.std.specs.Prelude.{Option, Some, None}
 
 -- ---- lines that say numbers of 0 to 255
 abbrev pub AllFit : List Item → Type 0
@@ -52,13 +52,13 @@ under-from_fit t p = under_fit (from t p) (from_fit t p)
 
 -- ---- the first of a kind
 
-or-none : {A : Type 0} (a : Option A) → or_else a none ≡ a
-or-none none = refl
-or-none (some x) = refl
+or-none : {A : Type 0} (a : Option A) → or_else a None ≡ a
+or-none None = refl
+or-none (Some x) = refl
 
 or_assoc : {A : Type 0} (a b c : Option A) → or_else (or_else a b) c ≡ or_else a (or_else b c)
-or_assoc none b c = refl
-or_assoc (some x) b c = refl
+or_assoc None b c = refl
+or_assoc (Some x) b c = refl
 
 -- a line that a test passes over or takes changes nothing that f looks at
 alike : {A : Type 0} (f : Gathered → A) (b : Bool) (x y : Gathered) → f x ≡ f y → f (cond b x y) ≡ f y
@@ -77,12 +77,12 @@ by_steps f a step g (i ∷ is) fit =
 
 -- the first M
 pub given_back : (l : Option ℕ) → Optionally (λ n. n ≤ 255) l → given (or_missing l) ≡ l
-given_back none h = refl
-given_back (some n) h = rw (lt-ltb n 256 (omega arith))
+given_back None h = refl
+given_back (Some n) h = rw (lt-ltb n 256 (omega arith))
 
 said_at_all : (l : Option ℕ) → Optionally (λ n. n ≤ 255) l → eqb (or_missing l) 257 ≡ false
-said_at_all none h = refl
-said_at_all (some n) h = ne_eqb n 257 (λ e. omega arith)
+said_at_all None h = refl
+said_at_all (Some n) h = ne_eqb n 257 (λ e. omega arith)
 
 bitmask_step : (g : Gathered) (r : Record) → Fits r → bitmask_in (noted g r) ≡ or_else (bitmask_in g) (of_item as_bitmask r)
 bitmask_step g (param q) fit = sym (or-none (bitmask_in g))
@@ -96,7 +96,7 @@ bitmask_step g (item (bitmask l)) fit = go (eqb g.bitmask 257) refl
   where
     go : (b : Bool) → eqb g.bitmask 257 ≡ b
         → bitmask_in (cond b (record { bitmask = or_missing l; array = g.array; variant = g.variant; bits = g.bits }) g)
-        ≡ or_else (cond b none (some (given g.bitmask))) (some l)
+        ≡ or_else (cond b None (Some (given g.bitmask))) (Some l)
     go true e = rw (said_at_all l fit, given_back l fit) refl
     go false e = rw e refl
 
@@ -112,7 +112,7 @@ array_step g (item (array n a)) fit = go (eqb g.array.len 256) refl
   where
     go : (b : Bool) → eqb g.array.len 256 ≡ b
         → array_in (cond b (record { bitmask = g.bitmask; array = record { len = n; ascii = a }; variant = g.variant; bits = g.bits }) g)
-        ≡ or_else (cond b none (some (g.array.len, g.array.ascii))) (some (n, a))
+        ≡ or_else (cond b None (Some (g.array.len, g.array.ascii))) (Some (n, a))
     go true e = rw (ne_eqb n 256 (λ z. omega arith)) refl
     go false e = rw e refl
 array_step g (item (bit_flag m n)) fit = sym (or-none (array_in g))
@@ -137,13 +137,13 @@ variant_step g (item (variant v)) fit = go (eqb g.variant.paramoffs 256) refl
               record { paramoffs = v.offset; sizemask = v.mask; sizeoffs = v.shift; ascii = v.ascii };
           bits = g.bits;
         }) g)
-        ≡ or_else (cond b none (some (record {
+        ≡ or_else (cond b None (Some (record {
           offset = g.variant.paramoffs;
           mask = g.variant.sizemask;
           shift = g.variant.sizeoffs;
           ascii =
               g.variant.ascii;
-        }))) (some v)
+        }))) (Some v)
     go true e = let h : v.offset ≤ 255 = fit.0 in rw (ne_eqb v.offset 256 (λ z. omega arith)) refl
     go false e = rw e refl
 variant_step g (item (array n a)) fit = alike variant_in (eqb g.array.len 256) _ g refl ∙ sym (or-none (variant_in g))
@@ -189,13 +189,13 @@ fixed_back n offset mask shift h = rw (lt-ltb n 256 (omega arith))
 
 -- an R's numbers, where there is one
 abbrev pub Agrees : Option Size → ℕ → ℕ → ℕ → Type 0
-Agrees none offset mask shift = Unit {0}
-Agrees (some s) offset mask shift = (offset ≡ s.offset) × (mask ≡ s.mask) × (shift ≡ s.shift)
+Agrees None offset mask shift = Unit {0}
+Agrees (Some s) offset mask shift = (offset ≡ s.offset) × (mask ≡ s.mask) × (shift ≡ s.shift)
 
 module _ (offset mask shift : ℕ) where
   variant_back : (r : Option Size) → Agrees r offset mask shift → rule_by (length_number (variant_rule r)) offset mask shift ≡ variant_rule r
-  variant_back none h = refl
-  variant_back (some s) h = go (eqb s.offset 255 || eqb s.mask 0)
+  variant_back None h = refl
+  variant_back (Some s) h = go (eqb s.offset 255 || eqb s.mask 0)
     where
       go : (b : Bool)
           → rule_by (length_number (cond b Open (Counted s.offset s.mask (record { 0 = s.shift })))) offset mask shift
@@ -205,13 +205,13 @@ module _ (offset mask shift : ℕ) where
 
   variable_back : (m : Option (Option ℕ)) (r : Option Size) → Optionally (Optionally (λ n. n ≤ 255)) m → Agrees r offset mask shift
       → rule_by (length_number (variable_rule m r)) offset mask shift ≡ variable_rule m r
-  variable_back none r fm h = variant_back r h
-  variable_back (some none) r fm h = variant_back r h
-  variable_back (some (some n)) r fm h = fixed_back n offset mask shift fm
+  variable_back None r fm h = variant_back r h
+  variable_back (Some None) r fm h = variant_back r h
+  variable_back (Some (Some n)) r fm h = fixed_back n offset mask shift fm
 
   array_back : (a : Option (ℕ × Bool)) → Optionally (λ a. a.0 ≤ 255) a → rule_by (length_number (array_rule a)) offset mask shift ≡ array_rule a
-  array_back none h = refl
-  array_back (some a) h = fixed_back a.0 offset mask shift h
+  array_back None h = refl
+  array_back (Some a) h = fixed_back a.0 offset mask shift h
 
   pub rule_back : (type : ParamType) (m : Option (Option ℕ)) (a : Option (ℕ × Bool)) (r : Option Size)
       → Optionally (Optionally (λ n. n ≤ 255)) m → Optionally (λ a. a.0 ≤ 255) a → Agrees r offset mask shift
@@ -264,7 +264,7 @@ pub variant_agrees : (g : Gathered) → Agrees (variant_in g) g.variant.paramoff
 variant_agrees g = go (eqb g.variant.paramoffs 256)
   where
     go : (b : Bool)
-        → Agrees (cond b none (some (record {
+        → Agrees (cond b None (Some (record {
           offset = g.variant.paramoffs;
           mask = g.variant.sizemask;
           shift = g.variant.sizeoffs;

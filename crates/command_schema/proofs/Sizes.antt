@@ -2,7 +2,6 @@
 use mathlib.Core.Path.{◌≡◌, refl}
 use mathlib.Core.Bool.{Bool, true, false, cond, ◌&&◌}
 use mathlib.Core.List.{List, [], ◌∷◌}
-use mathlib.Core.Option.{Option, none, some}
 use Prim.Native.Nat.{ℕ, suc, ◌+◌, ◌*◌, ◌≤◌}
 use native.Mathlib.Omega.{arith}
 use lib.Dec.{eqb}
@@ -19,6 +18,7 @@ use Rattle.command_text.specs.Form as form
 use Rattle.command_text.specs.Rules.{begins, count}
 use Rattle.command_schema.specs.Heads.{heads_of}
 use Rattle.command_schema.proofs.Heads.{heads-count}
+use Rattle.std.specs.Prelude.{Option, Some, None}
 
 -- ---- the bytes of pieces, each with the byte that parts it from the next
 abbrev total : List (List ℕ) → ℕ
@@ -40,13 +40,13 @@ few_pieces (p ∷ ps) = let h = few_pieces ps in omega arith
 
 -- ---- a Q or G has at least five fields
 abbrev Long : List (List ℕ) → Option Record → Type 0
-Long fs none = Unit {0}
-Long fs (some r) = begins r ≡ true → 5 ≤ length fs
+Long fs None = Unit {0}
+Long fs (Some r) = begins r ≡ true → 5 ≤ length fs
 
 module _ (fs : List (List ℕ)) where
   enough : 5 ≤ length fs → (x : Option Record) → Long fs x
-  enough h none = tt
-  enough h (some r) = λ e. h
+  enough h None = tt
+  enough h (Some r) = λ e. h
 
   counted : (n : ℕ) (others : Bool) (x : Option Record) → 5 ≤ n → Long fs (said (eqb (length fs) n && others) x)
   counted n others x h = go (eqb (length fs) n) refl
@@ -55,7 +55,7 @@ module _ (fs : List (List ℕ)) where
       go true e = enough (omega (arith, eqb-true (length fs) n e)) (said others x)
       go false e = tt
 
-  short : (b : Bool) (d : Detail) → Long fs (said b (some (item d)))
+  short : (b : Bool) (d : Detail) → Long fs (said b (Some (item d)))
   short true d = λ e. absurd (let z : ◌≡◌ {A = ℕ} 0 1 = cc in omega arith)
   short false d = tt
 
@@ -67,16 +67,16 @@ module _ (fs : List (List ℕ)) where
       by_kind : (q g r a t s u k m : Bool)
           → Long fs
           (cond q (param_said fs)
-          (cond g (said (group_form fs) (some (group (form.group_of fs))))
-          (cond r (said (variant_form fs) (some (item (variant (form.size_of fs)))))
-          (cond a (said (array_form fs) (some (item (array (form.value (field 1 fs)) (form.ascii_of (field 2 fs))))))
-          (cond t (said (named_form fs) (some (item (bit_flag (form.value (field 1 fs)) (field 2 fs)))))
-          (cond s (said (bits_form fs) (some (item (bit_field (form.bits_of fs)))))
-          (cond u (said (bits_form fs) (some (item (bit_field (form.bits_of fs)))))
-          (cond k (said (named_form fs) (some (item (const (form.value (field 1 fs)) (field 2 fs)))))
-          (cond m (said (bitmask_form fs) (some (item (bitmask (form.given (field 1 fs)))))) none)))))))))
+          (cond g (said (group_form fs) (Some (group (form.group_of fs))))
+          (cond r (said (variant_form fs) (Some (item (variant (form.size_of fs)))))
+          (cond a (said (array_form fs) (Some (item (array (form.value (field 1 fs)) (form.ascii_of (field 2 fs))))))
+          (cond t (said (named_form fs) (Some (item (bit_flag (form.value (field 1 fs)) (field 2 fs)))))
+          (cond s (said (bits_form fs) (Some (item (bit_field (form.bits_of fs)))))
+          (cond u (said (bits_form fs) (Some (item (bit_field (form.bits_of fs)))))
+          (cond k (said (named_form fs) (Some (item (const (form.value (field 1 fs)) (field 2 fs)))))
+          (cond m (said (bitmask_form fs) (Some (item (bitmask (form.given (field 1 fs)))))) None)))))))))
       by_kind true g r a t s u k m = counted 6 (param_fields fs) (of_type fs (type_of (field 2 fs))) (omega arith)
-      by_kind false true r a t s u k m = counted 5 (group_fields fs) (some (group (form.group_of fs))) (omega arith)
+      by_kind false true r a t s u k m = counted 5 (group_fields fs) (Some (group (form.group_of fs))) (omega arith)
       by_kind false false true a t s u k m = short (variant_form fs) _
       by_kind false false false true t s u k m = short (array_form fs) _
       by_kind false false false false true s u k m = short (named_form fs) _
@@ -93,8 +93,8 @@ lines_long (l ∷ m ∷ ms) = go (form (fields l)) (form-long (fields l)) (lines
   where
     go : (x : Option Record) → Long (fields l) x → count (records form (m ∷ ms)) * 5 ≤ total (m ∷ ms)
         → count (onto x (records form (m ∷ ms))) * 5 ≤ total (l ∷ m ∷ ms)
-    go none long ih = omega arith
-    go (some r) long ih = by (begins r) refl
+    go None long ih = omega arith
+    go (Some r) long ih = by (begins r) refl
       where
         by : (b : Bool) → begins r ≡ b → cond b (suc (count (records form (m ∷ ms)))) (count (records form (m ∷ ms))) * 5 ≤ total (l ∷ m ∷ ms)
         by true e =

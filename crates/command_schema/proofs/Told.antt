@@ -10,7 +10,6 @@ use lib.ListN.{length, drop, drop_of_length-le}
 use borrow.Author.Tests.{eqb-true, eq-eqb}
 use Rattle.text.specs.Text.{lines}
 use Rattle.text.specs.Records.{records}
-use Rattle.text.specs.declared.Verdict.TheVariants.{Accepted}
 use Rattle.command_text.specs.Form.{Group, form}
 use Rattle.command_text.specs.Rules.{verdict}
 use Rattle.command_class.specs.Definition.{Parameter, single, repeated}
@@ -21,6 +20,7 @@ use Rattle.command_schema.specs.Heads.{Head, is_q, is_g, heads_of, members_of, e
 use Rattle.command_schema.specs.Loaded.{SmallHeads, loaded_at, field_in, is_member, is_outer, Stands, TellsG, Tells, Told, IsLoaded}
 use Rattle.command_schema.specs.declared.Loaded.{Loaded}
 use Rattle.command_schema.proofs.Heads.{heads_small}
+use Rattle.std.specs.Prelude.{Ok}
 
 -- ---- the head that row j tells
 pub record HeadAt (t d : List ℕ) (j : ℕ) (hs : List Head) : Type 0 where
@@ -126,7 +126,7 @@ small_entries (is_q q ∷ hs) h = go (eqb q.says.level 0) (small_entries hs h.1)
 small_entries (is_g line g ∷ hs) h = (small_members hs h.1, small_entries hs h.1)
 
 -- the entries of an accepted text
-pub accepted_small : (t : List ℕ) → verdict t ≡ Accepted → SmallEntries (entries_of (heads_of t))
+pub accepted_small : (t : List ℕ) → verdict t ≡ Ok tt → SmallEntries (entries_of (heads_of t))
 accepted_small t e = small_entries (heads_of t) (heads_small 1 (records form (lines t)) (accepted-within t e).1.under)
 
 module _ (t d : List ℕ) (n : ℕ) (loaded : IsLoaded t d n) where

@@ -1,6 +1,5 @@
 -- What is gathered of the lines under a Q: its first M, A and R, and how many T and S lines there are.
-use Rattle.std.specs.Prelude.{ℕ, ◌+◌, ◌≤◌, Bool, false, cond, ◌≡◌, List, [], ◌∷◌, eqb}
-use Rattle.std.proofs.Math.Option.{Option, none, some}
+use Rattle.std.specs.Prelude.{ℕ, ◌+◌, ◌≤◌, Bool, false, cond, ◌≡◌, List, [], ◌∷◌, eqb, Option, Some, None}
 use Rattle.text.specs.Records.{Readable}
 use Rattle.text.specs.declared.Place.{Place}
 use Rattle.command_text.specs.Form.{Record, Size, param, group, item, Detail, variant, array, bit_flag, bit_field, const, bitmask}
@@ -96,17 +95,17 @@ pub record Gathers (t : List ℕ) (p : Place) (r : Under) : Type 0 where
 
 -- the first M, A and R, as they are gathered
 abbrev pub bitmask_in : Gathered → Option (Option ℕ)
-bitmask_in g = cond (eqb g.bitmask no_bitmask) none (some (given g.bitmask))
+bitmask_in g = cond (eqb g.bitmask no_bitmask) None (Some (given g.bitmask))
 
 abbrev pub array_said : ArrayAttrib → Option (ℕ × Bool)
-array_said a = cond (eqb a.len no_number) none (some (a.len, a.ascii))
+array_said a = cond (eqb a.len no_number) None (Some (a.len, a.ascii))
 
 abbrev pub array_in : Gathered → Option (ℕ × Bool)
 array_in g = array_said g.array
 
 abbrev pub variant_said : Variant → Option Size
 variant_said v =
-    cond (eqb v.paramoffs no_number) none (some (record { offset = v.paramoffs; mask = v.sizemask; shift = v.sizeoffs; ascii = v.ascii }))
+    cond (eqb v.paramoffs no_number) None (Some (record { offset = v.paramoffs; mask = v.sizemask; shift = v.sizeoffs; ascii = v.ascii }))
 
 abbrev pub variant_in : Gathered → Option Size
 variant_in g = variant_said g.variant

@@ -4,10 +4,9 @@
 
 mod items;
 
-ghost use Rattle.std.specs.Prelude.{◌≡◌, ◌+◌, ◌*◌, ◌<◌, ◌≤◌, length};
+ghost use Rattle.std.specs.Prelude.{◌≡◌, ◌+◌, ◌*◌, ◌<◌, ◌≤◌, length, Ok};
 ghost use Rattle.text.specs.Judge.{most_bytes};
 ghost use Rattle.text.specs.Records.{Readable};
-ghost use Rattle.text.specs.declared.Verdict.TheVariants.{Accepted};
 ghost use Rattle.rows.specs.Rows.{put};
 ghost use Rattle.command_text.specs.Rules.{rules, verdict};
 ghost use Rattle.command_schema.specs.Heads.{heads_of};
@@ -213,7 +212,7 @@ fn load_with_items(
 
 // Loads an accepted text into a table that has room for it, and returns how many rows it has.
 pub fn load(text: &[u8], table: &mut [u16]) -> usize
-    requires { (verdict text.now ≡ Accepted) × (length (heads_of text.now) * loaded_width ≤ length table.old) }
+    requires { (verdict text.now ≡ Ok tt) × (length (heads_of text.now) * loaded_width ≤ length table.old) }
     ensures { IsLoaded text.now table.new result }
 {
     let mut place = Place::start();

@@ -2,7 +2,6 @@
 use mathlib.Core.Path.{◌≡◌, refl, sym, ap}
 use mathlib.Core.Bool.{Bool, true, false, cond}
 use mathlib.Core.List.{List, []}
-use mathlib.Core.Option.{Option, none, some}
 use Prim.Native.Nat.{ℕ, suc, ◌+◌, ◌-◌, ◌≤◌, ◌<◌}
 use native.Mathlib.Omega.{arith}
 use lib.Dec.{eqb, leb, ltb}
@@ -13,7 +12,6 @@ use Rattle.text.specs.Judge.{Checks}
 use Rattle.text.specs.Place.{cells, Steps}
 use Rattle.text.specs.declared.Place.{Place}
 use Rattle.text.specs.declared.Line.{Line}
-use Rattle.text.specs.declared.Verdict.TheVariants.{Accepted, Refused}
 use Rattle.text.proofs.Tests.{alike}
 use Rattle.text.proofs.Judging.{Brief, Outcome, on, passed, astray, wrong, Meets, Checked, checked_long, checked_start, checked_end, checked_on}
 use Rattle.text.proofs.Judging.{checked_passed, checked_lost, checked_wrong}
@@ -26,6 +24,7 @@ use Rattle.command_kept.specs.declared.Judged.TheVariants.{On, Passed, Lost, Wro
 use Rattle.command_text.specs.Form.{Param, Group, Detail, Record, param, group, item, form}
 use Rattle.command_text.specs.Rules.{count, items, owned, grouped, shift_in, rules}
 use Rattle.command_text.specs.Shape.{shape}
+use Rattle.std.specs.Prelude.{Option, Some, None, Ok, Err}
 
 -- ---- what is kept
 pub record Tells (before : List Record) (k : Kept) : Type 0 where
@@ -44,11 +43,11 @@ outcome Lost = astray
 outcome Wrong = wrong
 
 module _ (before : List Record) (k : Kept) (tells : Tells before k) where
-  meets-item : (d : Detail) → Meets rules Tells before (some (item d)) (outcome (judged k (shape (some (item d)))))
+  meets-item : (d : Detail) → Meets rules Tells before (Some (item d)) (outcome (judged k (shape (Some (item d)))))
   meets-item d = go k.owned (leb 32 k.items) (ltb 7 (shift_in d)) refl (sym tells.owns) (rw tells.holds) refl
     where
       go : (a b c : Bool) → k.owned ≡ a → owned before ≡ a → leb 32 (items before) ≡ b → ltb 7 (shift_in d) ≡ c
-          → Meets rules Tells before (some (item d)) (outcome (cond a (cond b Passed (cond c Lost
+          → Meets rules Tells before (Some (item d)) (outcome (cond a (cond b Passed (cond c Lost
           (On (record { count = k.count; owned = k.owned; grouped = k.grouped; items = k.items + 1 })))) Lost))
       go false b c o p q s = (item d, refl, rw p, rw p)
       go true true c o p q s = (item d, refl, rw (p, q))
@@ -61,24 +60,24 @@ module _ (before : List Record) (k : Kept) (tells : Tells before k) where
         record { counted = tells.counted; owns = tells.owns; groups = tells.groups; holds = omega (arith, tells.holds) },
       )
 
-  meets_group : (g : Group) → Meets rules Tells before (some (group g)) (outcome (judged k (shape (some (group g)))))
+  meets_group : (g : Group) → Meets rules Tells before (Some (group g)) (outcome (judged k (shape (Some (group g)))))
   meets_group g = go (leb 256 k.count) (ltb 7 g.shift) (rw tells.counted) refl
     where
       go : (a b : Bool) → leb 256 (count before) ≡ a → ltb 7 g.shift ≡ b
-          → Meets rules Tells before (some (group g)) (outcome (cond a Passed (cond b Lost
+          → Meets rules Tells before (Some (group g)) (outcome (cond a Passed (cond b Lost
           (On (record { count = k.count + 1; owned = false; grouped = true; items = 0 })))))
       go true b p q = (group g, refl, p)
       go false true p q = (group g, refl, p, q)
       go false false p q = (group g, refl, p, q, record { counted = omega (arith, tells.counted); owns = refl; groups = refl; holds = refl })
 
-  meets-param : (q : Param) → Meets rules Tells before (some (param q)) (outcome (judged k (shape (some (param q)))))
+  meets-param : (q : Param) → Meets rules Tells before (Some (param q)) (outcome (judged k (shape (Some (param q)))))
   meets-param q = go (leb 256 k.count) (eqb q.level 1) k.grouped (rw tells.counted) refl (sym tells.groups)
     where
       counted : k.count + 1 ≡ suc (count before)
       counted = omega (arith, tells.counted)
 
       go : (a b c : Bool) → leb 256 (count before) ≡ a → eqb q.level 1 ≡ b → grouped before ≡ c
-          → Meets rules Tells before (some (param q)) (outcome (cond a Passed (cond b
+          → Meets rules Tells before (Some (param q)) (outcome (cond a Passed (cond b
           (cond c (On (record { count = k.count + 1; owned = true; grouped = true; items = 0 })) Lost)
           (On (record { count = k.count + 1; owned = true; grouped = false; items = 0 })))))
       go true b c p s g = (param q, refl, p)
@@ -88,16 +87,16 @@ module _ (before : List Record) (k : Kept) (tells : Tells before k) where
 
   -- the code's judgement is that of the rules
   pub meets : (x : Option Record) → Meets rules Tells before x (outcome (judged k (shape x)))
-  meets none = refl
-  meets (some (param q)) = meets-param q
-  meets (some (group g)) = meets_group g
-  meets (some (item d)) = meets-item d
+  meets None = refl
+  meets (Some (param q)) = meets-param q
+  meets (Some (group g)) = meets_group g
+  meets (Some (item d)) = meets-item d
 
 -- ---- no form has more than nine fields
 pub brief : Brief rules
 brief = record { empty = refl; long = long }
   where
-    long : (fs : List (List ℕ)) → 9 < length fs → form fs ≡ none
+    long : (fs : List (List ℕ)) → 9 < length fs → form fs ≡ None
     long fs h =
         let not2 : eqb (length fs) 2 ≡ false = ne_eqb (length fs) 2 (λ e. omega arith) in
         let not3 : eqb (length fs) 3 ≡ false = ne_eqb (length fs) 3 (λ e. omega arith) in
@@ -107,13 +106,13 @@ brief = record { empty = refl; long = long }
         rw (not2, not3, not4, not5, not6) (simp alike)
 
 -- ---- the loop over the lines
-pub check_long : (t : List ℕ) → 60000 < length t → Checks rules t (Refused (refusal.Limit 0))
+pub check_long : (t : List ℕ) → 60000 < length t → Checks rules t (Err (refusal.Limit 0))
 check_long t h = checks rules t _ (checked_long rules Tells t h)
 
 pub check_start : (t : List ℕ) (p : Place) (k : Kept) → p ≡ record { at = 0; line = 1 } → k ≡ nothing → Checked rules Tells t p k
 check_start t p k e f = checked_start rules Tells t p k (tells-nothing k f) e
 
-pub check_end : (t : List ℕ) (p : Place) (k : Kept) → Checked rules Tells t p k → length t ≤ 60000 → length t ≤ p.at → Checks rules t Accepted
+pub check_end : (t : List ℕ) (p : Place) (k : Kept) → Checked rules Tells t p k → length t ≤ 60000 → length t ≤ p.at → Checks rules t (Ok tt)
 check_end t p k c short h = checks rules t _ (checked_end rules Tells t p k c short h)
 
 module _ (t : List ℕ) (p : Place) (k : Kept) (l : Line) (f : Form) (j : Judged) (c : Checked rules Tells t p k) (inside : p.at < length t)
@@ -129,13 +128,13 @@ module _ (t : List ℕ) (p : Place) (k : Kept) (l : Line) (f : Form) (j : Judged
   check_less k' e = omega (arith, step.passes.on)
 
   module _ (short : length t ≤ 60000) where
-    pub check_passed : j ≡ Passed → Checks rules t (Refused (refusal.Limit p.line))
+    pub check_passed : j ≡ Passed → Checks rules t (Err (refusal.Limit p.line))
     check_passed e = checks rules t _ (checked_passed rules Tells brief t p k l c inside step (outcome j) met short (ap outcome e))
 
-    pub check_lost : j ≡ Lost → Checks rules t (Refused (refusal.Owner p.line))
+    pub check_lost : j ≡ Lost → Checks rules t (Err (refusal.Owner p.line))
     check_lost e = checks rules t _ (checked_lost rules Tells brief t p k l c inside step (outcome j) met short (ap outcome e))
 
-    pub check_wrong : j ≡ Wrong → Checks rules t (Refused (refusal.Form p.line))
+    pub check_wrong : j ≡ Wrong → Checks rules t (Err (refusal.Form p.line))
     check_wrong e = checks rules t _ (checked_wrong rules Tells brief t p k l c inside step (outcome j) met short (ap outcome e))
 
 pub ruleset check_laws = (check_long, check_start, check_end, check_on, check_less, check_passed, check_lost, check_wrong)

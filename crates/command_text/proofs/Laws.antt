@@ -2,7 +2,6 @@
 use mathlib.Core.Path.{◌≡◌, refl, sym, ap, ◌∙◌}
 use mathlib.Core.Bool.{Bool, true, false, ◌&&◌}
 use mathlib.Core.List.{List}
-use mathlib.Core.Option.{Option, some}
 use Prim.Native.Nat.{ℕ}
 use native.Mathlib.Omega.{arith}
 use lib.Dec.{eqb}
@@ -23,69 +22,68 @@ use Rattle.command_text.specs.Form.{group_of, size_of, bits_of, of_type, said, p
 use Rattle.command_text.specs.Shape.{late_types, last_types, tagged, shape}
 use Rattle.command_text.specs.declared.ParamType.{ParamType}
 use Rattle.command_text.specs.declared.ParamType.TheVariants as kind
-use Rattle.command_text.specs.declared.Typed.{Typed}
-use Rattle.command_text.specs.declared.Typed.TheVariants.{Is, Not}
+use Rattle.std.specs.Prelude.{Option, Some, None}
 
 -- ---- the names of types
 module _ (s : List ℕ) (a : Bool) (is-a : a ≡ same s (type_name kind.Variant)) where
-  pub type_variant : a ≡ true → Is kind.Variant ≡ type_among last_types s
+  pub type_variant : a ≡ true → Some kind.Variant ≡ type_among last_types s
   type_variant e = rw (sym is-a ∙ e)
 
   module _ (b : Bool) (is_b : b ≡ same s (type_name kind.Bitmask)) where
-    pub type_bitmask : a ≡ false → b ≡ true → Is kind.Bitmask ≡ type_among last_types s
+    pub type_bitmask : a ≡ false → b ≡ true → Some kind.Bitmask ≡ type_among last_types s
     type_bitmask ea e = rw (sym is-a ∙ ea, sym is_b ∙ e)
 
     module _ (c : Bool) (is_c : c ≡ same s (type_name kind.MultiArray)) where
-      pub type_multi_array : a ≡ false → b ≡ false → c ≡ true → Is kind.MultiArray ≡ type_among last_types s
+      pub type_multi_array : a ≡ false → b ≡ false → c ≡ true → Some kind.MultiArray ≡ type_among last_types s
       type_multi_array ea eb e = rw (sym is-a ∙ ea, sym is_b ∙ eb, sym is_c ∙ e)
 
-      pub type_none : a ≡ false → b ≡ false → c ≡ false → Not ≡ type_among last_types s
+      pub type_none : a ≡ false → b ≡ false → c ≡ false → None ≡ type_among last_types s
       type_none ea eb ec = rw (sym is-a ∙ ea, sym is_b ∙ eb, sym is_c ∙ ec)
 
 module _ (s : List ℕ) (a : Bool) (is-a : a ≡ same s (type_name kind.Word)) where
-  pub type_word : a ≡ true → Is kind.Word ≡ type_among late_types s
+  pub type_word : a ≡ true → Some kind.Word ≡ type_among late_types s
   type_word e = rw (sym is-a ∙ e)
 
   module _ (b : Bool) (is_b : b ≡ same s (type_name kind.Bit24)) where
-    pub type_bit24 : a ≡ false → b ≡ true → Is kind.Bit24 ≡ type_among late_types s
+    pub type_bit24 : a ≡ false → b ≡ true → Some kind.Bit24 ≡ type_among late_types s
     type_bit24 ea e = rw (sym is-a ∙ ea, sym is_b ∙ e)
 
     module _ (c : Bool) (is_c : c ≡ same s (type_name kind.Dword)) where
-      pub type_dword : a ≡ false → b ≡ false → c ≡ true → Is kind.Dword ≡ type_among late_types s
+      pub type_dword : a ≡ false → b ≡ false → c ≡ true → Some kind.Dword ≡ type_among late_types s
       type_dword ea eb e = rw (sym is-a ∙ ea, sym is_b ∙ eb, sym is_c ∙ e)
 
       module _ (d : Bool) (is-d : d ≡ same s (type_name kind.Array)) where
-        pub type_array : a ≡ false → b ≡ false → c ≡ false → d ≡ true → Is kind.Array ≡ type_among late_types s
+        pub type_array : a ≡ false → b ≡ false → c ≡ false → d ≡ true → Some kind.Array ≡ type_among late_types s
         type_array ea eb ec e = rw (sym is-a ∙ ea, sym is_b ∙ eb, sym is_c ∙ ec, sym is-d ∙ e)
 
-        pub type_last : (r : Typed) → r ≡ type_among last_types s → a ≡ false → b ≡ false → c ≡ false → d ≡ false
+        pub type_last : (r : Option ParamType) → r ≡ type_among last_types s → a ≡ false → b ≡ false → c ≡ false → d ≡ false
             → r ≡ type_among late_types s
         type_last r is ea eb ec ed = is ∙ rw (sym is-a ∙ ea, sym is_b ∙ eb, sym is_c ∙ ec, sym is-d ∙ ed)
 
 module _ (s : List ℕ) (a : Bool) (is-a : a ≡ same s (type_name kind.Byte)) where
-  pub type_byte : a ≡ true → Is kind.Byte ≡ type_of s
+  pub type_byte : a ≡ true → Some kind.Byte ≡ type_of s
   type_byte e = rw (sym is-a ∙ e)
 
   module _ (b : Bool) (is_b : b ≡ same s (type_name kind.StructByte)) where
-    pub type_struct_byte : a ≡ false → b ≡ true → Is kind.StructByte ≡ type_of s
+    pub type_struct_byte : a ≡ false → b ≡ true → Some kind.StructByte ≡ type_of s
     type_struct_byte ea e = rw (sym is-a ∙ ea, sym is_b ∙ e)
 
     module _ (c : Bool) (is_c : c ≡ same s (type_name kind.Const)) where
-      pub type_const : a ≡ false → b ≡ false → c ≡ true → Is kind.Const ≡ type_of s
+      pub type_const : a ≡ false → b ≡ false → c ≡ true → Some kind.Const ≡ type_of s
       type_const ea eb e = rw (sym is-a ∙ ea, sym is_b ∙ eb, sym is_c ∙ e)
 
       module _ (d : Bool) (is-d : d ≡ same s (type_name kind.Marker)) where
-        pub type_marker : a ≡ false → b ≡ false → c ≡ false → d ≡ true → Is kind.Marker ≡ type_of s
+        pub type_marker : a ≡ false → b ≡ false → c ≡ false → d ≡ true → Some kind.Marker ≡ type_of s
         type_marker ea eb ec e = rw (sym is-a ∙ ea, sym is_b ∙ eb, sym is_c ∙ ec, sym is-d ∙ e)
 
-        pub type_late : (r : Typed) → r ≡ type_among late_types s → a ≡ false → b ≡ false → c ≡ false → d ≡ false → r ≡ type_of s
+        pub type_late : (r : Option ParamType) → r ≡ type_among late_types s → a ≡ false → b ≡ false → c ≡ false → d ≡ false → r ≡ type_of s
         type_late r is ea eb ec ed = is ∙ rw (sym is-a ∙ ea, sym is_b ∙ eb, sym is_c ∙ ec, sym is-d ∙ ed)
 
-module _ (r a : Typed) (says : r ≡ a) where
-  pub known_is : (type : ParamType) → r ≡ Is type → true ≡ known a
+module _ (r a : Option ParamType) (says : r ≡ a) where
+  pub known_is : (type : ParamType) → r ≡ Some type → true ≡ known a
   known_is type e = rw (← says, e)
 
-  pub known-not : r ≡ Not → false ≡ known a
+  pub known-not : r ≡ None → false ≡ known a
   known-not e = rw (← says, e)
 
 pub of_type_lem : (s f : List ℕ) (r : Bool) → s ≡ f → r ≡ known (type_of s) → r ≡ known (type_of f)
@@ -144,24 +142,24 @@ module _ (fs : List (List ℕ)) where
 
 module _ (t : List ℕ) (l : Line) (b : Bool) (v : ℕ) where
   pub group_is : b ≡ group_fields (cells t l) → l.fields ≡ 5 → b ≡ true → v ≡ text.value 255 (field 4 (cells t l))
-      → Group v ≡ shape (said (group_form (cells t l)) (some (group (group_of (cells t l)))))
+      → Group v ≡ shape (said (group_form (cells t l)) (Some (group (group_of (cells t l)))))
   group_is good h e at-v =
       let u : up_to 255 (field 4 (cells t l)) ≡ true = group_shift (cells t l) (sym good ∙ e) in
-      fields_good t l 5 (group_fields (cells t l)) (some (group (group_of (cells t l)))) b good h e (Group v)
+      fields_good t l 5 (group_fields (cells t l)) (Some (group (group_of (cells t l)))) b good h e (Group v)
       (ap Group (at-v ∙ value_of 255 (field 4 (cells t l)) u))
 
   pub variant_is : b ≡ variant_fields (cells t l) → l.fields ≡ 5 → b ≡ true → v ≡ optional_value 255 (field 3 (cells t l))
-      → Item v ≡ shape (said (variant_form (cells t l)) (some (item (variant (size_of (cells t l))))))
+      → Item v ≡ shape (said (variant_form (cells t l)) (Some (item (variant (size_of (cells t l))))))
   variant_is good h e at-v =
       let u : optional_up_to 255 (field 3 (cells t l)) ≡ true = variant_shift (cells t l) (sym good ∙ e) in
-      fields_good t l 5 (variant_fields (cells t l)) (some (item (variant (size_of (cells t l))))) b good h e (Item v)
+      fields_good t l 5 (variant_fields (cells t l)) (Some (item (variant (size_of (cells t l))))) b good h e (Item v)
       (ap Item (at-v ∙ optional-value_of 255 (field 3 (cells t l)) u))
 
   pub bits_is : b ≡ bits_fields (cells t l) → l.fields ≡ 4 → b ≡ true → v ≡ optional_value 255 (field 2 (cells t l))
-      → Item v ≡ shape (said (bits_form (cells t l)) (some (item (bit_field (bits_of (cells t l))))))
+      → Item v ≡ shape (said (bits_form (cells t l)) (Some (item (bit_field (bits_of (cells t l))))))
   bits_is good h e at-v =
       let u : optional_up_to 255 (field 2 (cells t l)) ≡ true = bits_shift (cells t l) (sym good ∙ e) in
-      fields_good t l 4 (bits_fields (cells t l)) (some (item (bit_field (bits_of (cells t l))))) b good h e (Item v)
+      fields_good t l 4 (bits_fields (cells t l)) (Some (item (bit_field (bits_of (cells t l))))) b good h e (Item v)
       (ap Item (at-v ∙ optional-value_of 255 (field 2 (cells t l)) u))
 
   pub param_is : b ≡ param_fields (cells t l) → l.fields ≡ 6 → b ≡ true → v ≡ text.value 1 (field 1 (cells t l))
@@ -172,15 +170,15 @@ module _ (t : List ℕ) (l : Line) (b : Bool) (v : ℕ) where
       fields_good t l 6 (param_fields (cells t l)) (of_type (cells t l) (type_of (field 2 (cells t l)))) b good h e (Param v)
       (ap Param (at-v ∙ value_of 1 (field 1 (cells t l)) u) ∙ go (type_of (field 2 (cells t l))) k)
     where
-      go : (y : Typed) → known y ≡ true → Param (text.worth 0 (field 1 (cells t l))) ≡ shape (of_type (cells t l) y)
-      go (Is type) q = refl
-      go Not q = absurd (let z : ◌≡◌ {A = ℕ} 0 1 = cc in omega arith)
+      go : (y : Option ParamType) → known y ≡ true → Param (text.worth 0 (field 1 (cells t l))) ≡ shape (of_type (cells t l) y)
+      go (Some type) q = refl
+      go None q = absurd (let z : ◌≡◌ {A = ℕ} 0 1 = cc in omega arith)
 
 pub ruleset read_laws = (count_bad, fields_bad, group_is, variant_is, bits_is, param_is)
 
 -- ---- by the kind
 module _ (fs : List (List ℕ)) (k : ℕ) (kind : k ≡ kind_of fs) where
-  item-shape : (b : Bool) (r : Form) (x : Record) → Item 0 ≡ shape (some x) → r ≡ tagged b (Item 0) → r ≡ shape (said b (some x))
+  item-shape : (b : Bool) (r : Form) (x : Record) → Item 0 ≡ shape (Some x) → r ≡ tagged b (Item 0) → r ≡ shape (said b (Some x))
   item-shape true r x z e = e ∙ z
   item-shape false r x z e = e
 
@@ -188,16 +186,16 @@ module _ (fs : List (List ℕ)) (k : ℕ) (kind : k ≡ kind_of fs) where
     pub kind_param : k ≡ 81 → r ≡ shape (param_said fs) → r ≡ shape (form fs)
     kind_param q h = rw (← kind, q) h
 
-    pub kind_group : k ≡ 71 → r ≡ shape (said (group_form fs) (some (group (group_of fs)))) → r ≡ shape (form fs)
+    pub kind_group : k ≡ 71 → r ≡ shape (said (group_form fs) (Some (group (group_of fs)))) → r ≡ shape (form fs)
     kind_group q h = rw (← kind, q) h
 
-    pub kind_variant : k ≡ 82 → r ≡ shape (said (variant_form fs) (some (item (variant (size_of fs))))) → r ≡ shape (form fs)
+    pub kind_variant : k ≡ 82 → r ≡ shape (said (variant_form fs) (Some (item (variant (size_of fs))))) → r ≡ shape (form fs)
     kind_variant q h = rw (← kind, q) h
 
-    pub kind_bit-field : k ≡ 83 → r ≡ shape (said (bits_form fs) (some (item (bit_field (bits_of fs))))) → r ≡ shape (form fs)
+    pub kind_bit-field : k ≡ 83 → r ≡ shape (said (bits_form fs) (Some (item (bit_field (bits_of fs))))) → r ≡ shape (form fs)
     kind_bit-field q h = rw (← kind, q) h
 
-    pub kind_field_enum : k ≡ 85 → r ≡ shape (said (bits_form fs) (some (item (bit_field (bits_of fs))))) → r ≡ shape (form fs)
+    pub kind_field_enum : k ≡ 85 → r ≡ shape (said (bits_form fs) (Some (item (bit_field (bits_of fs))))) → r ≡ shape (form fs)
     kind_field_enum q h = rw (← kind, q) h
 
     module _ (b : Bool) (is : r ≡ tagged b (Item 0)) where

@@ -1,13 +1,10 @@
 -- T21 to T31 (docs/RULES.md): the nine forms of a command text, and the record that a line of each says.
-use Rattle.std.specs.Prelude.{ℕ, Bool, true, false, cond, ◌&&◌, List, [], ◌∷◌, eqb, length}
-use Rattle.std.proofs.Math.Option.{Option, none, some}
+use Rattle.std.specs.Prelude.{ℕ, Bool, true, false, cond, ◌&&◌, List, [], ◌∷◌, eqb, length, Option, Some, None}
 use Rattle.text.specs.Text.{field, same, worth, up_to, missing, optional_up_to, name}
 use Rattle.text.specs.Place.{kind_of}
 use Rattle.command_text.specs.Letters.{letter_q, letter_g, letter_r, letter_a, letter_t, letter_s, letter_u, letter_k, letter_m}
 use Rattle.command_text.specs.declared.ParamType.{ParamType}
 use Rattle.command_text.specs.declared.ParamType.TheVariants.{Byte, StructByte, Const, Marker, Word, Bit24, Dword, Array, Variant, Bitmask, MultiArray}
-use Rattle.command_text.specs.declared.Typed.{Typed}
-use Rattle.command_text.specs.declared.Typed.TheVariants.{Is, Not}
 
 -- what a Q line says
 pub record Param : Type 0 where
@@ -58,7 +55,7 @@ value l = worth 0 l
 
 -- the number that a field says that may be missing
 abbrev pub given : List ℕ → Option ℕ
-given l = cond (missing l) none (some (value l))
+given l = cond (missing l) None (Some (value l))
 
 -- T31: the shift that a field says, 0 where it is missing
 abbrev pub shift_of : List ℕ → ℕ
@@ -87,17 +84,17 @@ abbrev pub types : List ParamType
 types = Byte ∷ StructByte ∷ Const ∷ Marker ∷ Word ∷ Bit24 ∷ Dword ∷ Array ∷ Variant ∷ Bitmask ∷ MultiArray ∷ []
 
 -- the type among these whose word is l
-abbrev pub type_among : List ParamType → List ℕ → Typed
-type_among [] l = Not
-type_among (type ∷ others) l = cond (same l (type_name type)) (Is type) (type_among others l)
+abbrev pub type_among : List ParamType → List ℕ → Option ParamType
+type_among [] l = None
+type_among (type ∷ others) l = cond (same l (type_name type)) (Some type) (type_among others l)
 
 -- T30: the type of a Q
-abbrev pub type_of : List ℕ → Typed
+abbrev pub type_of : List ℕ → Option ParamType
 type_of l = type_among types l
 
-abbrev pub known : Typed → Bool
-known (Is type) = true
-known Not = false
+abbrev pub known : Option ParamType → Bool
+known (Some type) = true
+known None = false
 
 -- ---- the forms, by their fields: field 0 is the kind
 
@@ -143,7 +140,7 @@ bits_fields fs = up_to 255 (field 1 fs) && (optional_up_to 255 (field 2 fs) && n
 abbrev pub bits_form : List (List ℕ) → Bool
 bits_form fs = eqb (length fs) 4 && bits_fields fs
 
--- T29: a length, or none
+-- T29: a length, or None
 abbrev pub bitmask_form : List (List ℕ) → Bool
 bitmask_form fs = eqb (length fs) 2 && optional_up_to 255 (field 1 fs)
 
@@ -166,13 +163,13 @@ size_of fs = record { offset = value (field 1 fs); mask = value (field 2 fs); sh
 abbrev pub bits_of : List (List ℕ) → Bits
 bits_of fs = record { mask = value (field 1 fs); shift = shift_of (field 2 fs); name = field 3 fs }
 
-abbrev pub of_type : List (List ℕ) → Typed → Option Record
-of_type fs (Is type) = some (param (param_of fs type))
-of_type fs Not = none
+abbrev pub of_type : List (List ℕ) → Option ParamType → Option Record
+of_type fs (Some type) = Some (param (param_of fs type))
+of_type fs None = None
 
 -- the record r, if the line has its form
 abbrev pub said : Bool → Option Record → Option Record
-said b r = cond b r none
+said b r = cond b r None
 
 abbrev pub param_said : List (List ℕ) → Option Record
 param_said fs = said (param_form fs) (of_type fs (type_of (field 2 fs)))
@@ -181,11 +178,11 @@ param_said fs = said (param_form fs) (of_type fs (type_of (field 2 fs)))
 abbrev pub form : List (List ℕ) → Option Record
 form fs =
     cond (eqb (kind_of fs) letter_q) (param_said fs)
-    (cond (eqb (kind_of fs) letter_g) (said (group_form fs) (some (group (group_of fs))))
-    (cond (eqb (kind_of fs) letter_r) (said (variant_form fs) (some (item (variant (size_of fs)))))
-    (cond (eqb (kind_of fs) letter_a) (said (array_form fs) (some (item (array (value (field 1 fs)) (ascii_of (field 2 fs))))))
-    (cond (eqb (kind_of fs) letter_t) (said (named_form fs) (some (item (bit_flag (value (field 1 fs)) (field 2 fs)))))
-    (cond (eqb (kind_of fs) letter_s) (said (bits_form fs) (some (item (bit_field (bits_of fs)))))
-    (cond (eqb (kind_of fs) letter_u) (said (bits_form fs) (some (item (bit_field (bits_of fs)))))
-    (cond (eqb (kind_of fs) letter_k) (said (named_form fs) (some (item (const (value (field 1 fs)) (field 2 fs)))))
-    (cond (eqb (kind_of fs) letter_m) (said (bitmask_form fs) (some (item (bitmask (given (field 1 fs)))))) none))))))))
+    (cond (eqb (kind_of fs) letter_g) (said (group_form fs) (Some (group (group_of fs))))
+    (cond (eqb (kind_of fs) letter_r) (said (variant_form fs) (Some (item (variant (size_of fs)))))
+    (cond (eqb (kind_of fs) letter_a) (said (array_form fs) (Some (item (array (value (field 1 fs)) (ascii_of (field 2 fs))))))
+    (cond (eqb (kind_of fs) letter_t) (said (named_form fs) (Some (item (bit_flag (value (field 1 fs)) (field 2 fs)))))
+    (cond (eqb (kind_of fs) letter_s) (said (bits_form fs) (Some (item (bit_field (bits_of fs)))))
+    (cond (eqb (kind_of fs) letter_u) (said (bits_form fs) (Some (item (bit_field (bits_of fs)))))
+    (cond (eqb (kind_of fs) letter_k) (said (named_form fs) (Some (item (const (value (field 1 fs)) (field 2 fs)))))
+    (cond (eqb (kind_of fs) letter_m) (said (bitmask_form fs) (Some (item (bitmask (given (field 1 fs)))))) None))))))))

@@ -1,10 +1,10 @@
 -- T31 to T33 (docs/RULES.md): limits and owners of the command text.
 -- `before` are the records of the lines before, the latest first.
-use Rattle.std.specs.Prelude.{ℕ, suc, Bool, true, false, cond, not, ◌&&◌, ◌||◌, List, [], ◌∷◌, leb, ltb, eqb}
+use Rattle.std.specs.Prelude.{ℕ, suc, Bool, true, false, cond, not, ◌&&◌, ◌||◌, List, [], ◌∷◌, leb, ltb, eqb, Result}
 use Rattle.text.specs.Judge.{Rules}
 use Rattle.text.specs.Judge as text
-use Rattle.text.specs.declared.Verdict.{Verdict}
 use Rattle.command_text.specs.Form.{Record, param, group, item, Detail, variant, array, bit_flag, bit_field, const, bitmask, form}
+use Rattle.refusal.specs.declared.Refusal.{Refusal}
 
 -- a Q or G line begins what stands under it
 abbrev pub begins : Record → Bool
@@ -70,5 +70,5 @@ abbrev pub rules : Rules Record
 rules = record { form = form; over = over; lost = lost }
 
 -- the verdict on a command text
-abbrev pub verdict : List ℕ → Verdict
+abbrev pub verdict : List ℕ → Result (Unit {0}) Refusal
 verdict t = text.verdict rules t

@@ -1,6 +1,5 @@
 -- What limits and owners look at in a line: its form, and a level or a shift. And in which parts its types are told apart.
-use Rattle.std.specs.Prelude.{Bool, cond, List, drop}
-use Rattle.std.proofs.Math.Option.{Option, none, some}
+use Rattle.std.specs.Prelude.{Bool, cond, List, drop, Option, Some, None}
 use Rattle.command_kept.specs.declared.Form.{Form}
 use Rattle.command_kept.specs.declared.Form.TheVariants.{Param, Group, Item, Bad}
 use Rattle.command_text.specs.declared.ParamType.{ParamType}
@@ -13,10 +12,10 @@ tagged good form = cond good form Bad
 
 -- what limits and owners look at in a record
 abbrev pub shape : Option Record → Form
-shape none = Bad
-shape (some (param q)) = Param q.level
-shape (some (group g)) = Group g.shift
-shape (some (item d)) = Item (shift_in d)
+shape None = Bad
+shape (Some (param q)) = Param q.level
+shape (Some (group g)) = Group g.shift
+shape (Some (item d)) = Item (shift_in d)
 
 -- the types behind the first four, which are told apart by a function of their own
 abbrev pub late_types : List ParamType

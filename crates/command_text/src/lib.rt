@@ -2,7 +2,7 @@
 // The forms are those of command_class/schema.rs, a line each; a field enum is read as a bit field.
 #![tactic(auto)]
 
-ghost use Rattle.std.specs.Prelude.{◌≡◌};
+ghost use Rattle.std.specs.Prelude.{◌≡◌, Some};
 ghost use Rattle.text.specs.Text.{field};
 ghost use Rattle.text.specs.Judge.{Checks};
 ghost use Rattle.text.specs.Place.{kind_of, cells, Marked, Has};
@@ -11,11 +11,10 @@ ghost use Rattle.command_text.specs.Form.{variant_fields, bits_fields, group_for
 ghost use Rattle.command_text.specs.Form.{said, form, group, item, variant, group_of, size_of, bit_field, bits_of};
 ghost use Rattle.command_text.specs.Rules.{rules};
 ghost use Rattle.command_text.specs.Shape.{late_types, last_types, tagged, shape};
-ghost use Rattle.std.proofs.Math.Option.{some};
 
 use command_kept::{Form, Judged};
 use refusal::Refusal;
-use text::{Line, MOST_BYTES, Place, Verdict, is_same};
+use text::{Line, MOST_BYTES, Place, is_same};
 
 // The type of a parameter, by the XML names of the source.
 #[derive(Clone, Copy)]
@@ -33,63 +32,56 @@ pub enum ParamType {
     MultiArray,
 }
 
-// What a field says as a type.
-#[derive(Clone, Copy)]
-pub enum Typed {
-    Is(ParamType),
-    Not,
-}
-
 // The type that s names, of the last three.
-fn read_last_type(s: &[u8]) -> Typed
+fn read_last_type(s: &[u8]) -> Option<ParamType>
     ensures { result ≡ type_among last_types s.now }
 {
     if is_same(s, b"VARIANT") {
-        return Typed::Is(ParamType::Variant);
+        return Some(ParamType::Variant);
     }
     if is_same(s, b"BITMASK") {
-        return Typed::Is(ParamType::Bitmask);
+        return Some(ParamType::Bitmask);
     }
     if is_same(s, b"MULTI_ARRAY") {
-        return Typed::Is(ParamType::MultiArray);
+        return Some(ParamType::MultiArray);
     }
-    Typed::Not
+    None
 }
 
 // The type that s names, of those behind the first four.
-fn read_late_type(s: &[u8]) -> Typed
+fn read_late_type(s: &[u8]) -> Option<ParamType>
     ensures { result ≡ type_among late_types s.now }
 {
     if is_same(s, b"WORD") {
-        return Typed::Is(ParamType::Word);
+        return Some(ParamType::Word);
     }
     if is_same(s, b"BIT_24") {
-        return Typed::Is(ParamType::Bit24);
+        return Some(ParamType::Bit24);
     }
     if is_same(s, b"DWORD") {
-        return Typed::Is(ParamType::Dword);
+        return Some(ParamType::Dword);
     }
     if is_same(s, b"ARRAY") {
-        return Typed::Is(ParamType::Array);
+        return Some(ParamType::Array);
     }
     read_last_type(s)
 }
 
 // The type that s names.
-pub fn read_type(s: &[u8]) -> Typed
+pub fn read_type(s: &[u8]) -> Option<ParamType>
     ensures { result ≡ type_of s.now }
 {
     if is_same(s, b"BYTE") {
-        return Typed::Is(ParamType::Byte);
+        return Some(ParamType::Byte);
     }
     if is_same(s, b"STRUCT_BYTE") {
-        return Typed::Is(ParamType::StructByte);
+        return Some(ParamType::StructByte);
     }
     if is_same(s, b"CONST") {
-        return Typed::Is(ParamType::Const);
+        return Some(ParamType::Const);
     }
     if is_same(s, b"MARKER") {
-        return Typed::Is(ParamType::Marker);
+        return Some(ParamType::Marker);
     }
     read_late_type(s)
 }
@@ -98,8 +90,8 @@ pub fn is_type(s: &[u8]) -> bool
     ensures { result ≡ known (type_of s.now) }
 {
     match read_type(s) {
-        Typed::Is(_) => true,
-        Typed::Not => false,
+        Some(_) => true,
+        None => false,
     }
 }
 
@@ -203,7 +195,7 @@ fn read_param(text: &[u8], line: Line) -> Form
 
 fn read_group(text: &[u8], line: Line) -> Form
     requires { Marked text.now line.marks line.fields }
-    ensures { result ≡ shape (said (group_form (cells text.now line)) (some (group (group_of (cells text.now line))))) }
+    ensures { result ≡ shape (said (group_form (cells text.now line)) (Some (group (group_of (cells text.now line))))) }
 {
     if line.fields != 5 {
         return Form::Bad;
@@ -219,7 +211,7 @@ fn read_group(text: &[u8], line: Line) -> Form
 fn read_variant(text: &[u8], line: Line) -> Form
     requires { Marked text.now line.marks line.fields }
     ensures { result ≡ shape (said (variant_form (cells text.now line))
-        (some (item (variant (size_of (cells text.now line)))))) }
+        (Some (item (variant (size_of (cells text.now line)))))) }
 {
     if line.fields != 5 {
         return Form::Bad;
@@ -234,7 +226,7 @@ fn read_variant(text: &[u8], line: Line) -> Form
 
 fn read_bits(text: &[u8], line: Line) -> Form
     requires { Marked text.now line.marks line.fields }
-    ensures { result ≡ shape (said (bits_form (cells text.now line)) (some (item (bit_field (bits_of (cells text.now line)))))) }
+    ensures { result ≡ shape (said (bits_form (cells text.now line)) (Some (item (bit_field (bits_of (cells text.now line)))))) }
 {
     if line.fields != 4 {
         return Form::Bad;
@@ -279,11 +271,11 @@ fn read_form(text: &[u8], line: Line) -> Form
 }
 
 // The verdict on a command text.
-pub fn check_command_text(text: &[u8]) -> Verdict
+pub fn check_command_text(text: &[u8]) -> Result<(), Refusal>
     ensures { Checks rules text.now result }
 {
     if MOST_BYTES < text.len() {
-        return Verdict::Refused(Refusal::Limit(0));
+        return Err(Refusal::Limit(0));
     }
     let mut place = Place::start();
     let mut kept = command_kept::start();
@@ -295,15 +287,15 @@ pub fn check_command_text(text: &[u8]) -> Verdict
                 place = line.next;
             }
             Judged::Passed => {
-                return Verdict::Refused(Refusal::Limit(place.line));
+                return Err(Refusal::Limit(place.line));
             }
             Judged::Lost => {
-                return Verdict::Refused(Refusal::Owner(place.line));
+                return Err(Refusal::Owner(place.line));
             }
             Judged::Wrong => {
-                return Verdict::Refused(Refusal::Form(place.line));
+                return Err(Refusal::Form(place.line));
             }
         }
     }
-    Verdict::Accepted
+    Ok(())
 }

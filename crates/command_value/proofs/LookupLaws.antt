@@ -10,7 +10,6 @@ use borrow.Author.Tests.{eq-eqb, ne_eqb}
 use Rattle.text.specs.Place.{Passes}
 use Rattle.text.specs.Records.{Readable}
 use Rattle.text.specs.declared.Place.{Place}
-use Rattle.text.specs.declared.Verdict.TheVariants.{Accepted}
 use Rattle.text.proofs.Reading.{readable-start, rest_end}
 use Rattle.text.proofs.Passing.{passing}
 use Rattle.command_text.specs.Form.{Record, param, group, item, variant, array, bit_flag, bit_field, const, bitmask}
@@ -26,6 +25,7 @@ use Rattle.command_value.specs.Params.{lines_of, since, behind, is_ascii, flag_i
 use Rattle.command_value.specs.Lookup.{Stands, Behind, ascii_of, first_ascii, ascii_here, NamedAt, IsShown, kept_in, ascii_by, name_by, Placed}
 use Rattle.command_value.specs.declared.lookup.Shown.{Shown}
 use Rattle.command_value.specs.declared.lookup.Shown.TheVariants.{Ascii, Named, Plain}
+use Rattle.std.specs.Prelude.{Ok}
 
 -- no line is left at the end of the text
 none_left : (t : List ℕ) (p : Place) → length t ≤ p.at → from t p ≡ []
@@ -36,7 +36,7 @@ pub record Lining (t : List ℕ) (n : ℕ) (p : Place) : Type 0 where
   pub readable : Readable rules t p
   pub so : since n (from t p) ≡ since n (lines_of t)
 
-pub line_start : (t : List ℕ) (n : ℕ) (p : Place) → verdict t ≡ Accepted → p ≡ record { at = 0; line = 1 } → Lining t n p
+pub line_start : (t : List ℕ) (n : ℕ) (p : Place) → verdict t ≡ Ok tt → p ≡ record { at = 0; line = 1 } → Lining t n p
 line_start t n p a e = rw e (record { readable = readable-start rules t _ a refl; so = refl })
 
 module _ (t : List ℕ) (n : ℕ) (p : Place) (g : Lining t n p) where

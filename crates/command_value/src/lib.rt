@@ -3,25 +3,23 @@
 
 mod lookup;
 
-ghost use Rattle.std.specs.Prelude.{◌≡◌, ◌≤◌, length};
+ghost use Rattle.std.specs.Prelude.{◌≡◌, ◌≤◌, length, Ok};
 ghost use Rattle.refusal.specs.Refusal.{most_frame};
-ghost use Rattle.text.specs.declared.Verdict.TheVariants.{Accepted};
 ghost use Rattle.command_text.specs.Rules.{verdict};
 ghost use Rattle.buffer.specs.Buffer.{Writes};
 ghost use Rattle.command_value.specs.Params.{param_text, bit_text, row_text};
 ghost use Rattle.command_value.specs.Answer.{CommandValue};
 
-use buffer::Written;
-use command_row::{Found, bytes_of, row_accepted};
+use command_row::{bytes_of, row_accepted};
 use command_rules::{BIT_KIND, Offsets, PARAM_KIND, Row};
 use command_text::check_command_text;
 use display::{display, display_bit, write_nothing};
 use lookup::{find_items, is_ascii, is_flag, name_by, shown_by};
-use text::Verdict;
+use refusal::Refusal;
 
 // What is shown of a parameter.
-fn param_value(text: &[u8], payload: &[u8], row: Row, buffer: &mut [u8]) -> Written
-    requires { (verdict text.now ≡ Accepted) × (length payload.now ≤ most_frame) }
+fn param_value(text: &[u8], payload: &[u8], row: Row, buffer: &mut [u8]) -> Result<usize, Refusal>
+    requires { (verdict text.now ≡ Ok tt) × (length payload.now ≤ most_frame) }
     ensures { Writes (param_text text.now payload.now row) buffer.old result buffer.new }
 {
     let items = find_items(text, row.line);
@@ -31,16 +29,16 @@ fn param_value(text: &[u8], payload: &[u8], row: Row, buffer: &mut [u8]) -> Writ
 }
 
 // What is shown of a bit child.
-fn bit_value(text: &[u8], row: Row, buffer: &mut [u8]) -> Written
-    requires { verdict text.now ≡ Accepted }
+fn bit_value(text: &[u8], row: Row, buffer: &mut [u8]) -> Result<usize, Refusal>
+    requires { verdict text.now ≡ Ok tt }
     ensures { Writes (bit_text text.now row) buffer.old result buffer.new }
 {
     display_bit(is_flag(text, row.line), row.value, buffer)
 }
 
 // What is shown of a row of a command.
-pub fn row_value(text: &[u8], payload: &[u8], row: Row, buffer: &mut [u8]) -> Written
-    requires { (verdict text.now ≡ Accepted) × (length payload.now ≤ most_frame) }
+pub fn row_value(text: &[u8], payload: &[u8], row: Row, buffer: &mut [u8]) -> Result<usize, Refusal>
+    requires { (verdict text.now ≡ Ok tt) × (length payload.now ≤ most_frame) }
     ensures { Writes (row_text text.now payload.now row) buffer.old result buffer.new }
 {
     if row.kind == PARAM_KIND {
@@ -59,13 +57,13 @@ pub fn value_accepted(
     offsets: Offsets,
     row: usize,
     buffer: &mut [u8],
-) -> Written
-    requires { verdict text.now ≡ Accepted }
+) -> Result<usize, Refusal>
+    requires { verdict text.now ≡ Ok tt }
     ensures { CommandValue offsets text.now payload.now row buffer.old result buffer.new }
 {
     match row_accepted(text, payload, offsets, row) {
-        Found::Row(found) => row_value(text, payload, found, buffer),
-        Found::Refused(refusal) => Written::Refused(refusal),
+        Ok(found) => row_value(text, payload, found, buffer),
+        Err(refusal) => Err(refusal),
     }
 }
 
@@ -77,11 +75,11 @@ pub fn command_value(
     offsets: Offsets,
     row: usize,
     buffer: &mut [u8],
-) -> Written
+) -> Result<usize, Refusal>
     ensures { CommandValue offsets text.now payload.now row buffer.old result buffer.new }
 {
     match check_command_text(text) {
-        Verdict::Accepted => value_accepted(text, payload, offsets, row, buffer),
-        Verdict::Refused(refusal) => Written::Refused(refusal),
+        Ok(()) => value_accepted(text, payload, offsets, row, buffer),
+        Err(refusal) => Err(refusal),
     }
 }

@@ -1,7 +1,6 @@
 // The lines that a row of a command names.
-ghost use Rattle.std.specs.Prelude.{◌≡◌, true, ◌||◌, ◌<◌, eqb, length};
+ghost use Rattle.std.specs.Prelude.{◌≡◌, true, ◌||◌, ◌<◌, eqb, length, Ok};
 ghost use Rattle.text.specs.Records.{Readable};
-ghost use Rattle.text.specs.declared.Verdict.TheVariants.{Accepted};
 ghost use Rattle.command_text.specs.Letters.{letter_r, letter_a};
 ghost use Rattle.command_text.specs.Rules.{rules, verdict};
 ghost use Rattle.command_class.specs.Definition.{under};
@@ -22,7 +21,7 @@ pub enum Shown {
 
 // The place of the line of this number, from 1; the end of the text where there is none.
 fn find_line(text: &[u8], n: u64) -> Place
-    requires { verdict text.now ≡ Accepted }
+    requires { verdict text.now ≡ Ok tt }
     ensures { Stands text.now n result }
 {
     let mut place = Place::start();
@@ -37,7 +36,7 @@ fn find_line(text: &[u8], n: u64) -> Place
 
 // The place behind the line of this number; the end of the text where there is none.
 pub fn find_items(text: &[u8], n: u64) -> Place
-    requires { verdict text.now ≡ Accepted }
+    requires { verdict text.now ≡ Ok tt }
     ensures { Behind text.now n result }
 {
     let place = find_line(text, n);
@@ -140,7 +139,7 @@ pub fn name_by(text: &[u8], shown: Shown) -> &[u8]
 
 // Is the line of this number a T?
 pub fn is_flag(text: &[u8], n: u64) -> bool
-    requires { verdict text.now ≡ Accepted }
+    requires { verdict text.now ≡ Ok tt }
     ensures { result ≡ is_flag text.now n }
 {
     let place = find_line(text, n);

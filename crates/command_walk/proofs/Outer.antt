@@ -14,7 +14,6 @@ use Rattle.command_class.specs.Definition.{Parameter, Entry, single, repeated}
 use Rattle.command_lengths.specs.Entries.{entries}
 use Rattle.command_rules.specs.Lengths.{least, repeats}
 use Rattle.command_rules.specs.declared.Earlier.{Earlier}
-use Rattle.command_rules.specs.declared.Size.TheVariants.{Missing}
 use Rattle.command_lengths.proofs.Laws.{repeats-first}
 use Rattle.command_rules.specs.Field.{field_of}
 use Rattle.command_schema.specs.Heads.{heads_of, members_of, entries_of}
@@ -34,6 +33,7 @@ use Rattle.command_groups.specs.declared.Repeated.{Repeated}
 use Rattle.command_groups.proofs.Entries.{KeptFree, kept-part, kept-start, free_start, kept_push, free_push, kept-unvalued}
 use Rattle.command_rules.proofs.Bounds.{size_facts, repetitions_bound, walk_few}
 use Rattle.command_groups.proofs.Answers.{is_read, is_absent_lem}
+use Rattle.std.specs.Prelude.{None}
 
 -- what is left of the outer list, from loaded row j on
 pub record Outer (offsets : Offsets) (t body : List ℕ) (s : ℕ) (d₀ d kept : List ℕ) (have at next j : ℕ) : Type 0 where
@@ -107,7 +107,7 @@ module _ (offsets : Offsets) (t l body : List ℕ) (count : ℕ) (loaded : IsLoa
 
     -- a Q
     module _ (p : Parameter) (rest : entries_of (drop j (heads_of t)) ≡ single p ∷ entries_of (drop (j + 1) (heads_of t))) where
-      absent : size_at body (field_of p) g.es o.0 ≡ Missing → (d' : List ℕ) → d' ≡ d → (kept' : List ℕ) (have' : ℕ)
+      absent : size_at body (field_of p) g.es o.0 ≡ None → (d' : List ℕ) → d' ≡ d → (kept' : List ℕ) (have' : ℕ)
           → kept' ≡ unvalued_kept offsets kept have
           → have' ≡ unvalued_have offsets have 0 → Outer offsets t body s d₀ d' kept' have' o.0 next (j + 1)
       unfolding outer

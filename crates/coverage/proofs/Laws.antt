@@ -11,12 +11,11 @@ use Rattle.refusal.specs.declared.Refusal.{Refusal}
 use Rattle.refusal.specs.Refusal.{number_of}
 use Rattle.header_rules.specs.Table.{row_width, most_numbers, cell, number_column, symbol_column}
 use Rattle.header.specs.declared.DecodedHeader.{DecodedHeader}
-use Rattle.header.specs.declared.Decoded.{Decoded}
-use Rattle.header.specs.declared.Decoded.TheVariants.{Header, Refused}
 use Rattle.header.specs.Decode.{decoded, told_of, table_after, Decodes}
 use Rattle.header.proofs.Room.{Stands, header-stands}
 use Rattle.totals.specs.Totals.{most}
 use Rattle.coverage.specs.Coverage.{
+use Rattle.std.specs.Prelude.{Result, Ok, Err}
   headers,
   params,
   entries,
@@ -123,7 +122,7 @@ module _ (x : Refusal) (n : ℕ) (is : n ≡ number_of x) (a : List ℕ) where
   refused_one b e h = rw (← is, le-leb 5 n h) e
 
 -- ---- a header
-module _ (sets t d : List ℕ) (region speed : ℕ) (r : Decoded) (rows : List ℕ)
+module _ (sets t d : List ℕ) (region speed : ℕ) (r : Result DecodedHeader Refusal) (rows : List ℕ)
     (dec : Decodes t d region speed (replicate {A = ℕ} 896 0) r rows) where
   full : length (replicate {A = ℕ} 896 0) ≡ 896
   full = length-replicate {A = ℕ} 896 0
@@ -135,21 +134,21 @@ module _ (sets t d : List ℕ) (region speed : ℕ) (r : Decoded) (rows : List �
   rows_are =
       let zeros : List ℕ = replicate {A = ℕ} 896 0 in
       dec.rows ∙ ap (λ (n : ℕ). table_after zeros (told_of t d region speed n) r) full
-      ∙ ap (λ (x : Decoded). table_after zeros (told_of t d region speed most_numbers) x) answer_is
+      ∙ ap (λ (x : Result DecodedHeader Refusal). table_after zeros (told_of t d region speed most_numbers) x) answer_is
 
   places : frame_places sets t d region speed ≡ answer_places sets rows r
   places = rw (rows_are, answer_is) refl
 
-  pub header-rows : (h : DecodedHeader) → r ≡ Header h → length rows ≡ 896 → h.rows * row_width ≤ length rows
+  pub header-rows : (h : DecodedHeader) → r ≡ Ok h → length rows ≡ 896 → h.rows * row_width ≤ length rows
   header-rows h e long =
-      let stands : Stands 896 (Header h) = rw (full, e) at (header-stands t d region speed (replicate {A = ℕ} 896 0) r rows dec) in
+      let stands : Stands 896 (Ok h) = rw (full, e) at (header-stands t d region speed (replicate {A = ℕ} 896 0) r rows dec) in
       omega (arith, stands)
 
-  pub header-counted : (h : DecodedHeader) (p : ℕ) (a b c : List ℕ) → r ≡ Header h → p ≡ place_in 0 headers h.number → b ≡ raised a p
+  pub header-counted : (h : DecodedHeader) (p : ℕ) (a b c : List ℕ) → r ≡ Ok h → p ≡ place_in 0 headers h.number → b ≡ raised a p
       → c ≡ raised_all b (rows_from sets rows 0 h.rows) → c ≡ raised_all a (frame_places sets t d region speed)
   header-counted h p a b c e is_p is_b is_c = rw (places, e, is_c, is_b, is_p) refl
 
-  pub header_refused : (x : Refusal) (a b : List ℕ) → r ≡ Refused x → b ≡ raised a (refused_place (number_of x))
+  pub header_refused : (x : Refusal) (a b : List ℕ) → r ≡ Err x → b ≡ raised a (refused_place (number_of x))
       → b ≡ raised_all a (frame_places sets t d region speed)
   header_refused x a b e is_b = rw (places, e) is_b
 

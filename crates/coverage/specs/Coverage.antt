@@ -1,11 +1,11 @@
 -- CV1 to CV4 (docs/RULES.md): which counts the header of a frame raises, by a frame text.
-use Rattle.std.specs.Prelude.{cond, ◌&&◌, List, [], ◌∷◌, ◌++◌, ℕ, zero, suc, ◌+◌, ◌-◌, ◌*◌, eqb, leb, ltb, get_or, set, replicate}
+use Rattle.std.specs.Prelude.{cond, ◌&&◌, List, [], ◌∷◌, ◌++◌, ℕ, zero, suc, ◌+◌, ◌-◌, ◌*◌, eqb, leb, ltb, get_or, set, replicate, Result, Ok, Err}
 use Rattle.refusal.specs.Refusal.{number_of}
 use Rattle.header_rules.specs.Table.{most_numbers, cell, number_column, symbol_column}
-use Rattle.header.specs.declared.Decoded.{Decoded}
-use Rattle.header.specs.declared.Decoded.TheVariants.{Header, Refused}
 use Rattle.header.specs.Decode.{decoded, told_of, table_after}
 use Rattle.totals.specs.Totals.{most}
+use Rattle.header.specs.declared.DecodedHeader.{DecodedHeader}
+use Rattle.refusal.specs.declared.Refusal.{Refusal}
 
 -- ---- CV1: the counts, by their places; the place `size` is none
 
@@ -72,9 +72,9 @@ rows_from sets table k (suc m) =
     row_places sets (cell table k number_column) (cell table k symbol_column) ++ rows_from sets table (k + 1) m
 
 -- CV3: by what `decode_header` answers, and by its table then
-abbrev pub answer_places : List ℕ → List ℕ → Decoded → List ℕ
-answer_places sets table (Header h) = header_place h.number ∷ rows_from sets table 0 h.rows
-answer_places sets table (Refused x) = refused_place (number_of x) ∷ []
+abbrev pub answer_places : List ℕ → List ℕ → Result DecodedHeader Refusal → List ℕ
+answer_places sets table (Ok h) = header_place h.number ∷ rows_from sets table 0 h.rows
+answer_places sets table (Err x) = refused_place (number_of x) ∷ []
 
 -- the table of 128 rows behind an answer
 abbrev pub table_of : List ℕ → List ℕ → ℕ → ℕ → List ℕ

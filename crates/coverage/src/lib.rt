@@ -2,14 +2,13 @@
 // frame in counts that the caller lends.
 #![tactic(auto)]
 
-ghost use Rattle.std.specs.Prelude.{◌≡◌, ◌+◌, ◌*◌, ◌≤◌, length};
-ghost use Rattle.text.specs.declared.Verdict.TheVariants.{Accepted};
+ghost use Rattle.std.specs.Prelude.{◌≡◌, ◌+◌, ◌*◌, ◌≤◌, length, Ok};
 ghost use Rattle.frame_text.specs.Rules.{verdict};
 ghost use Rattle.refusal.specs.Refusal.{number_of};
 ghost use Rattle.header_rules.specs.Table.{row_width};
 ghost use Rattle.coverage.specs.Coverage.{size, place_in, entry_place, refused_place, set_at, row_places, rows_from, raised, raised_all, frame_places};
 
-use header::{Decoded, MOST_NUMBERS, decode_accepted};
+use header::{MOST_NUMBERS, decode_accepted};
 use header_rows::{NUMBER, ROW_WIDTH, SYMBOL};
 use refusal::Refusal;
 use totals::MOST;
@@ -123,15 +122,15 @@ pub fn count_header(
     sets: &[u8; PARAMS],
     counts: &mut [u64; COUNTS],
 )
-    requires { verdict text.now ≡ Accepted }
+    requires { verdict text.now ≡ Ok tt }
     ensures { counts.new ≡ raised_all counts.old (frame_places sets.now text.now mpdu.now region speed) }
 {
     let mut rows = [0u64; MOST_NUMBERS];
     match decode_accepted(text, mpdu, region, speed, &mut rows) {
-        Decoded::Header(header) => {
+        Ok(header) => {
             raise(counts, place_in(0, HEADERS, header.number as u64));
             count_rows(&rows, header.rows, sets, counts);
         }
-        Decoded::Refused(refusal) => count_refused(refusal, counts),
+        Err(refusal) => count_refused(refusal, counts),
     }
 }

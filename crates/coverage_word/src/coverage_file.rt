@@ -1,6 +1,5 @@
 // The word `coverage`: what the captures that are named have tried of a frame text.
-ghost use Rattle.std.specs.Prelude.{◌≡◌};
-ghost use Rattle.text.specs.declared.Verdict.TheVariants.{Accepted};
+ghost use Rattle.std.specs.Prelude.{◌≡◌, Ok};
 ghost use Rattle.frame_text.specs.Rules.{verdict};
 
 use crate::lines_page::{put_lines, put_sums};
@@ -11,11 +10,10 @@ use files::arguments::{argument, argument_count};
 use files::capture::Opened;
 use files::day::{Day, end};
 use files::input::{File, Got, Reader, is_spent, is_standard, open_argument, open_name};
-use files::options::{Asked, Options, next_file};
+use files::options::{Options, next_file};
 use frame_text::check_frame_text;
 use output::outcome::{fail, fail_file, refuse_text, tell_unreadable};
 use std::rt::{Env, Files};
-use text::Verdict;
 
 const USAGE: [u8; 57] = *b"tap: coverage takes a frame text and one capture or more\n";
 
@@ -40,7 +38,7 @@ fn count_opened<R: Files + Input>(
     counts: &mut [u64; COUNTS],
     day: Day,
 ) -> Day
-    requires { verdict text.now ≡ Accepted }
+    requires { verdict text.now ≡ Ok tt }
 {
     let mut block = io::buffer();
     let Opened::At(source) = files::capture::open(reader, &mut block) else {
@@ -71,7 +69,7 @@ fn count_file(
     counts: &mut [u64; COUNTS],
     day: Day,
 ) -> Day
-    requires { verdict text.now ≡ Accepted }
+    requires { verdict text.now ≡ Ok tt }
 {
     let mut name = io::buffer();
     let n = argument(rt, k, &mut name);
@@ -97,7 +95,7 @@ fn count_files(
     sets: &[u8; PARAMS],
     counts: &mut [u64; COUNTS],
 ) -> Day
-    requires { verdict text.now ≡ Accepted }
+    requires { verdict text.now ≡ Ok tt }
 {
     let end = argument_count(rt);
     let mut day = Day::new();
@@ -116,7 +114,7 @@ fn count_files(
 }
 
 fn cover(rt: &(impl Env + Files + Input), text: &[u8], options: Options)
-    requires { verdict text.now ≡ Accepted }
+    requires { verdict text.now ≡ Ok tt }
 {
     let mut sets = [NO_SET; PARAMS];
     find_sets(text, &mut sets);
@@ -128,8 +126,8 @@ fn cover(rt: &(impl Env + Files + Input), text: &[u8], options: Options)
 
 fn judge(rt: &(impl Env + Files + Input), name: &[u8], text: &[u8], options: Options) {
     match check_frame_text(text) {
-        Verdict::Accepted => cover(rt, text, options),
-        Verdict::Refused(refusal) => refuse_text(name, b"frame", refusal),
+        Ok(()) => cover(rt, text, options),
+        Err(refusal) => refuse_text(name, b"frame", refusal),
     }
 }
 
@@ -150,7 +148,7 @@ fn cover_file<R: Env + Files + Input>(
 
 // `tap coverage FILE CAPTURE ..`.
 pub fn show_coverage(rt: &(impl Env + Files + Input)) {
-    let Asked::Options(options) = files::options::read_some(
+    let Some(options) = files::options::read_some(
         rt,
         b"--missing\t--region\t--progress\t--firmware\t--beams",
         &USAGE,

@@ -1,6 +1,5 @@
 // The frames of captures, counted one by one by the lines of a frame text.
-ghost use Rattle.std.specs.Prelude.{◌≡◌};
-ghost use Rattle.text.specs.declared.Verdict.TheVariants.{Accepted};
+ghost use Rattle.std.specs.Prelude.{◌≡◌, Ok};
 ghost use Rattle.frame_text.specs.Rules.{verdict};
 ghost use Rattle.std.proofs.lemmas.List.Edits.{sets as fill};
 ghost use Rattle.readers.specs.Lines.{lines_in, of_kind};
@@ -12,13 +11,13 @@ use files::capture::{Item, Source, next_item};
 use files::day::{Day, pass_line, refuse_payload, tell_progress};
 use files::input::Reader;
 use files::options::Options;
-use frame::{Parsed, PtiFrame, parse_record, reading_by};
+use frame::{PtiFrame, parse_record, reading_by};
 use pti::payload::beams_number;
 use readers::cells::part;
 use readers::line_fields::field_of;
 use readers::lines::{line, next_line};
 use readers::region::frame_code;
-use records::{Next, next_body};
+use records::next_body;
 use refusal::{MOST_PAYLOAD, Refusal};
 use std::rt::Files;
 use text::is_same;
@@ -82,10 +81,9 @@ fn count_body(
     sets: &[u8; PARAMS],
     counts: &mut [u64; COUNTS],
 )
-    requires { verdict text.now ≡ Accepted }
+    requires { verdict text.now ≡ Ok tt }
 {
-    let Parsed::Frame(frame) = parse_record(body, options.firmware, reading_by(options.family))
-    else {
+    let Ok(frame) = parse_record(body, options.firmware, reading_by(options.family)) else {
         return;
     };
     let beams = frame.beams;
@@ -111,11 +109,11 @@ fn count_frames(
     sets: &[u8; PARAMS],
     counts: &mut [u64; COUNTS],
 )
-    requires { verdict text.now ≡ Accepted }
+    requires { verdict text.now ≡ Ok tt }
 {
     let mut at: usize = 1;
     loop {
-        let Next::Body(span) = next_body(payload, at) else {
+        let Some(span) = next_body(payload, at) else {
             return;
         };
         let start = span.start.0;
@@ -135,7 +133,7 @@ fn take_payload(
     counts: &mut [u64; COUNTS],
     day: Day,
 ) -> Day
-    requires { verdict text.now ≡ Accepted }
+    requires { verdict text.now ≡ Ok tt }
 {
     let next = day.with_payload();
     tell_progress(options, next);
@@ -155,7 +153,7 @@ fn take_item(
     counts: &mut [u64; COUNTS],
     day: Day,
 ) -> Day
-    requires { verdict text.now ≡ Accepted }
+    requires { verdict text.now ≡ Ok tt }
 {
     match item {
         Item::Payload(count) => take_payload(text, options, count, payload, sets, counts, day),
@@ -179,7 +177,7 @@ pub fn count_capture<R: Files + Input>(
     before: Day,
 ) -> Day
     requires inside { Inside block.old start }
-    requires text_value { verdict text.now ≡ Accepted }
+    requires text_value { verdict text.now ≡ Ok tt }
 {
     let mut source = start;
     let mut day = before;

@@ -8,22 +8,20 @@ use lib.ListN.{length, drop, take}
 use borrow.Author.Tests.{eq-eqb, ne_eqb, le-leb, lt-leb}
 use Rattle.frame_text.specs.declared.ParamType.{ParamType}
 use Rattle.frame_text.specs.declared.ParamType.TheVariants.{Hex, Number, NumberSigned, NodeNumber, Boolean, Bitmask}
-use Rattle.buffer.specs.declared.Written.{Written}
-use Rattle.buffer.specs.declared.Written.TheVariants.{Length}
 use Rattle.buffer.specs.Buffer.{Writes}
 use Rattle.numerals.specs.Numerals.{room, decimal, signed, hex, pairs, Spells}
 use Rattle.numerals.proofs.Laws.{digits_are}
 use Rattle.lossy.specs.Lossy.{shown}
 use Rattle.display.specs.Display.{word, some?, value_text, if_valued, in_bytes, display_value, display, display_bit}
-use Rattle.display.specs.declared.Value.{Value}
-use Rattle.display.specs.declared.Value.TheVariants.{Is, Not}
+use Rattle.std.specs.Prelude.{Option, Some, None, Result, Ok}
+use Rattle.refusal.specs.declared.Refusal.{Refusal}
 
 -- ---- digits at the end of their room
-pub spelled-written : (free : ℕ) (l : List ℕ) (at : ℕ) (out b : List ℕ) (r : Written) (b' : List ℕ) → Spells free l at out
+pub spelled-written : (free : ℕ) (l : List ℕ) (at : ℕ) (out b : List ℕ) (r : Result ℕ Refusal) (b' : List ℕ) → Spells free l at out
     → Writes (take (room - at) (drop at out)) b r b' → Writes l b r b'
 spelled-written free l at out b r b' s w = rw (digits_are free l at out s) at w
 
-module _ (b : List ℕ) (r : Written) (b' : List ℕ) where
+module _ (b : List ℕ) (r : Result ℕ Refusal) (b' : List ℕ) where
   pub word_false : (v : ℕ) → Writes (0x66 ∷ 0x61 ∷ 0x6c ∷ 0x73 ∷ 0x65 ∷ []) b r b' → v ≡ 0 → Writes (word v) b r b'
   word_false v w e = rw (eq-eqb v 0 e) w
 
@@ -50,11 +48,11 @@ module _ (b : List ℕ) (r : Written) (b' : List ℕ) where
     pub typed_bitmask : Writes (hex v) b r b' → kind ≡ Bitmask → Writes (value_text kind v) b r b'
     typed_bitmask w e = rw e w
 
-  module _ (kind : ParamType) (value : Value) where
-    pub value_is : (v : ℕ) → Writes (value_text kind v) b r b' → value ≡ Is v → Writes (if_valued kind value) b r b'
+  module _ (kind : ParamType) (value : Option ℕ) where
+    pub value_is : (v : ℕ) → Writes (value_text kind v) b r b' → value ≡ Some v → Writes (if_valued kind value) b r b'
     value_is v w e = rw e w
 
-    pub value_not : Writes [] b r b' → value ≡ Not → Writes (if_valued kind value) b r b'
+    pub value_not : Writes [] b r b' → value ≡ None → Writes (if_valued kind value) b r b'
     value_not w e = rw e w
 
 -- ---- bytes
@@ -66,7 +64,7 @@ module _ (kind : ParamType) (bytes : List ℕ) where
   bytes_some x e h = rw (ne_eqb (length bytes) 0 h) e
 
 -- ---- a field
-module _ (symbol : List ℕ) (kind : ParamType) (value : Value) (bytes b : List ℕ) (r : Written) (b' : List ℕ) where
+module _ (symbol : List ℕ) (kind : ParamType) (value : Option ℕ) (bytes b : List ℕ) (r : Result ℕ Refusal) (b' : List ℕ) where
   pub field_symbol : Writes symbol b r b' → (length symbol ≡ 0 → ⊥) → Writes (display_value symbol kind value bytes) b r b'
   unfolding display_value
   field_symbol w h = rw (ne_eqb (length symbol) 0 h) w
@@ -82,7 +80,7 @@ module _ (symbol : List ℕ) (kind : ParamType) (value : Value) (bytes b : List 
   field-value x is w h e = rw (eq-eqb (length symbol) 0 h, ← is, e) w
 
 -- ---- a parameter
-module _ (ascii : Bool) (name bytes b : List ℕ) (r : Written) (b' : List ℕ) where
+module _ (ascii : Bool) (name bytes b : List ℕ) (r : Result ℕ Refusal) (b' : List ℕ) where
   pub param_ascii : Writes (shown bytes) b r b' → ascii ≡ true → Writes (display ascii name bytes) b r b'
   unfolding display
   param_ascii w e = rw e w
@@ -102,7 +100,7 @@ module _ (ascii : Bool) (name bytes b : List ℕ) (r : Written) (b' : List ℕ) 
   param_many w e h f = rw (e, eq-eqb (length name) 0 h, lt-leb (length bytes) 4 f) w
 
 -- ---- a bit child
-module _ (flag : Bool) (v : ℕ) (b : List ℕ) (r : Written) (b' : List ℕ) where
+module _ (flag : Bool) (v : ℕ) (b : List ℕ) (r : Result ℕ Refusal) (b' : List ℕ) where
   pub bit-flag : Writes (word v) b r b' → flag ≡ true → Writes (display_bit flag v) b r b'
   unfolding display_bit
   bit-flag w e = rw e w
@@ -111,7 +109,7 @@ module _ (flag : Bool) (v : ℕ) (b : List ℕ) (r : Written) (b' : List ℕ) wh
   unfolding display_bit
   bit-field w e = rw e w
 
-pub nothing : (b : List ℕ) → Writes [] b (Length 0) b
+pub nothing : (b : List ℕ) → Writes [] b (Ok 0) b
 nothing b = record { answer = rw (le-leb 0 (length b) (omega arith)); buffer = refl }
 
 pub ruleset typed_laws = (typed-hex, typed-number, typed-signed, typed-node, typed_boolean, typed_bitmask, value_is, value_not)

@@ -1,11 +1,9 @@
 -- VT1, VT2 (docs/RULES.md): values as people read them.
-use Rattle.std.specs.Prelude.{Bool, true, false, cond, ◌&&◌, not, List, [], ◌∷◌, ℕ, ◌%◌, eqb, leb, length}
+use Rattle.std.specs.Prelude.{Bool, true, false, cond, ◌&&◌, not, List, [], ◌∷◌, ℕ, ◌%◌, eqb, leb, length, Option, Some, None}
 use Rattle.frame_text.specs.declared.ParamType.{ParamType}
 use Rattle.frame_text.specs.declared.ParamType.TheVariants.{Hex, Number, NumberSigned, NodeNumber, Boolean, Bitmask}
 use Rattle.numerals.specs.Numerals.{decimal, signed, hex, pairs}
 use Rattle.lossy.specs.Lossy.{shown}
-use Rattle.display.specs.declared.Value.{Value}
-use Rattle.display.specs.declared.Value.TheVariants.{Is, Not}
 
 -- VT3: `false` for 0, `true` for any other
 abbrev pub word : ℕ → List ℕ
@@ -26,9 +24,9 @@ value_text Boolean v = word v
 value_text Bitmask v = hex v
 
 -- VT1: nothing for no value
-abbrev pub if_valued : ParamType → Value → List ℕ
-if_valued type (Is v) = value_text type v
-if_valued type Not = []
+abbrev pub if_valued : ParamType → Option ℕ → List ℕ
+if_valued type (Some v) = value_text type v
+if_valued type None = []
 
 -- VT1: fields of these types show their bytes, where they have any
 abbrev pub in_bytes : ParamType → Bool
@@ -40,7 +38,7 @@ in_bytes Boolean = false
 in_bytes Bitmask = true
 
 -- VT1: a field of a header, by its symbol's name, its type, its value and its bytes; a symbol's name of no bytes is none
-unfoldable pub display_value : List ℕ → ParamType → Value → List ℕ → List ℕ
+unfoldable pub display_value : List ℕ → ParamType → Option ℕ → List ℕ → List ℕ
 display_value symbol type v bytes = cond (some? symbol) symbol (cond (some? bytes && in_bytes type) (pairs bytes) (if_valued type v))
 
 -- ---- a parameter of a command

@@ -8,20 +8,14 @@ ghost use Rattle.buffer.specs.Buffer.{Writes};
 ghost use Rattle.numerals.specs.Numerals.{decimal as decimalOf, signed as signed_of, hex as hexOf};
 ghost use Rattle.display.specs.Display.{word, some?, value_text, if_valued, in_bytes, display_value, display as displayOf, display_bit};
 
-use buffer::{Written, write};
+use buffer::write;
 use frame_text::ParamType;
 use lossy::write_lossy;
 use numerals::{ROOM, write_pairs};
-
-// The value of a field, if it has one.
-#[derive(Clone, Copy)]
-pub enum Value {
-    Is(u64),
-    Not,
-}
+use refusal::Refusal;
 
 // `true` or `false`.
-pub fn write_word(value: u64, buffer: &mut [u8]) -> Written
+pub fn write_word(value: u64, buffer: &mut [u8]) -> Result<usize, Refusal>
     ensures { Writes (word value) buffer.old result buffer.new }
 {
     if value == 0 {
@@ -30,7 +24,7 @@ pub fn write_word(value: u64, buffer: &mut [u8]) -> Written
     write(b"true", buffer)
 }
 
-pub fn write_decimal(value: u64, buffer: &mut [u8]) -> Written
+pub fn write_decimal(value: u64, buffer: &mut [u8]) -> Result<usize, Refusal>
     ensures { Writes (decimalOf value) buffer.old result buffer.new }
 {
     let mut digits = [0u8; ROOM];
@@ -39,7 +33,7 @@ pub fn write_decimal(value: u64, buffer: &mut [u8]) -> Written
 }
 
 // The low byte as a signed number.
-fn write_signed(value: u64, buffer: &mut [u8]) -> Written
+fn write_signed(value: u64, buffer: &mut [u8]) -> Result<usize, Refusal>
     ensures { Writes (signed_of (value % 256)) buffer.old result buffer.new }
 {
     let mut digits = [0u8; ROOM];
@@ -47,7 +41,7 @@ fn write_signed(value: u64, buffer: &mut [u8]) -> Written
     write(&digits[at..], buffer)
 }
 
-fn write_hex(value: u64, buffer: &mut [u8]) -> Written
+fn write_hex(value: u64, buffer: &mut [u8]) -> Result<usize, Refusal>
     ensures { Writes (hexOf value) buffer.old result buffer.new }
 {
     let mut digits = [0u8; ROOM];
@@ -55,13 +49,13 @@ fn write_hex(value: u64, buffer: &mut [u8]) -> Written
     write(&digits[at..], buffer)
 }
 
-pub fn write_nothing(buffer: &mut [u8]) -> Written
+pub fn write_nothing(buffer: &mut [u8]) -> Result<usize, Refusal>
     ensures { Writes [] buffer.old result buffer.new }
 {
-    Written::Length(0)
+    Ok(0)
 }
 
-fn write_typed(kind: ParamType, value: u64, buffer: &mut [u8]) -> Written
+fn write_typed(kind: ParamType, value: u64, buffer: &mut [u8]) -> Result<usize, Refusal>
     ensures { Writes (value_text kind value) buffer.old result buffer.new }
 {
     match kind {
@@ -74,12 +68,12 @@ fn write_typed(kind: ParamType, value: u64, buffer: &mut [u8]) -> Written
     }
 }
 
-fn write_value(kind: ParamType, value: Value, buffer: &mut [u8]) -> Written
+fn write_value(kind: ParamType, value: Option<u64>, buffer: &mut [u8]) -> Result<usize, Refusal>
     ensures { Writes (if_valued kind value) buffer.old result buffer.new }
 {
     match value {
-        Value::Is(v) => write_typed(kind, v, buffer),
-        Value::Not => write_nothing(buffer),
+        Some(v) => write_typed(kind, v, buffer),
+        None => write_nothing(buffer),
     }
 }
 
@@ -110,10 +104,10 @@ fn shows_bytes(kind: ParamType, bytes: &[u8]) -> bool
 pub fn display_value(
     symbol: &[u8],
     kind: ParamType,
-    value: Value,
+    value: Option<u64>,
     bytes: &[u8],
     buffer: &mut [u8],
-) -> Written
+) -> Result<usize, Refusal>
     requires { length bytes.now ≤ most_frame }
     ensures { Writes (display_value symbol.now kind value bytes.now) buffer.old result buffer.new }
 {
@@ -127,7 +121,7 @@ pub fn display_value(
 }
 
 // A parameter of a command. A const's name of no bytes is none.
-pub fn display(ascii: bool, name: &[u8], bytes: &[u8], buffer: &mut [u8]) -> Written
+pub fn display(ascii: bool, name: &[u8], bytes: &[u8], buffer: &mut [u8]) -> Result<usize, Refusal>
     requires { length bytes.now ≤ most_frame }
     ensures { Writes (displayOf ascii name.now bytes.now) buffer.old result buffer.new }
 {
@@ -144,7 +138,7 @@ pub fn display(ascii: bool, name: &[u8], bytes: &[u8], buffer: &mut [u8]) -> Wri
 }
 
 // A bit child, which is a flag (a T line), or not (an S line).
-pub fn display_bit(flag: bool, value: u64, buffer: &mut [u8]) -> Written
+pub fn display_bit(flag: bool, value: u64, buffer: &mut [u8]) -> Result<usize, Refusal>
     ensures { Writes (display_bit flag value) buffer.old result buffer.new }
 {
     if flag {

@@ -1,5 +1,5 @@
 -- E1 to E11 (docs/RULES.md), proved together under one claim, over the definitions that the contracts cite.
-use Rattle.std.specs.Prelude.{◌≡◌, refl, Bool, true, false, cond, [], ◌∷◌, ℕ, leb, eqb}
+use Rattle.std.specs.Prelude.{◌≡◌, refl, Bool, true, false, cond, [], ◌∷◌, ℕ, leb, eqb, Ok, Err}
 use Rattle.records.specs.Records.{bodies, bodies_from}
 use Rattle.radio.specs.Speed.{rate_of}
 use Rattle.radio.specs.Beam.{beams_of}
@@ -7,7 +7,6 @@ use Rattle.bits.specs.Bits.{bits_at}
 use Rattle.crc.specs.Poly.{plus}
 use Rattle.crc.specs.Crc.{checksum, dividend, crc, right}
 use Rattle.refusal.specs.declared.Refusal.TheVariants.{NoCandidate}
-use Rattle.header.specs.declared.Decoded.TheVariants.{Header, Refused}
 use Rattle.header.specs.Decode.{decoded, told_of, table_after}
 use Rattle.header.specs.Examples.{text, table, a5c3, a5c3-rows, a53c}
 use Rattle.command_class.specs.Definition.{definition}
@@ -31,7 +30,7 @@ pub record Starred : Type 0 where
   pub never-right : (speed : ℕ) → right (0x1D ∷ 0x0F ∷ []) speed ≡ false
   -- E9, E10
   pub header : decoded text (0xA5 ∷ 0xC3 ∷ []) 0 0 30
-      ≡ Header (record {
+      ≡ Ok (record {
         number = 0;
         key = 0;
         flags = record { ack = false; routed = false; multicast = false; error = false };
@@ -47,7 +46,7 @@ pub record Starred : Type 0 where
       ∷ 2 ∷ 2 ∷ 12 ∷ 4 ∷ 1 ∷ 3 ∷ 0
       ∷ 3 ∷ 2 ∷ 8 ∷ 4 ∷ 1 ∷ 12 ∷ 0
       ∷ 9 ∷ 9 ∷ []
-  pub no_header : decoded text (0xA5 ∷ 0x3C ∷ []) 0 0 30 ≡ Refused NoCandidate
+  pub no_header : decoded text (0xA5 ∷ 0x3C ∷ []) 0 0 30 ≡ Err NoCandidate
   -- E11
   pub params : answer_of Answered command-text payload 22 ≡ answered 2 5
   pub params-rows : rowsAfter Answered (definition command-text) payload lent (answer_of Answered command-text payload 22)

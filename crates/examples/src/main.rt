@@ -4,11 +4,9 @@
 
 use command::{Offsets, Params, decode_params};
 use crc::check_crc;
-use frame::Parsed;
-use header::{Decoded, decode_header};
+use header::decode_header;
 use pti::{Reading, beam_count, count_records, parse_record, record_body, speed_for};
 use readers::line_fields::field_of;
-use records::Counted;
 use refusal::Refusal;
 use writer::{STDOUT_FILENO, print_number};
 
@@ -33,16 +31,16 @@ fn print_refusal(name: &[u8], refusal: Refusal) {
 
 fn print_count(name: &[u8], payload: &[u8]) {
     match count_records(payload) {
-        Counted::Records(n) => print(name, n as u64),
-        Counted::Refused(refusal) => print_refusal(name, refusal),
+        Ok(n) => print(name, n as u64),
+        Err(refusal) => print_refusal(name, refusal),
     }
 }
 
 // The MPDU's length of the frame in a body.
 fn print_mpdu(name: &[u8], body: &[u8]) {
     match parse_record(body, 2, Reading::Marker) {
-        Parsed::Frame(frame) => print(name, frame.length as u64),
-        Parsed::Refused(refusal) => print_refusal(name, refusal),
+        Ok(frame) => print(name, frame.length as u64),
+        Err(refusal) => print_refusal(name, refusal),
     }
 }
 
@@ -64,7 +62,7 @@ V\tProps.Type\t3
     let names: &[u8] =
         b"  payload offset:\t  checksum right:\t  Type at bit:\t  Type:\t  Flags at bit:\t  Flags:";
     match decode_header(text, mpdu, 0, 0, &mut rows) {
-        Decoded::Header(answer) => {
+        Ok(answer) => {
             print(name, answer.rows as u64);
             print_piece(names, 0, answer.payload);
             print_piece(names, 1, answer.right as u64);
@@ -73,7 +71,7 @@ V\tProps.Type\t3
             print_piece(names, 4, rows[23]);
             print_piece(names, 5, rows[26]);
         }
-        Decoded::Refused(refusal) => print_refusal(name, refusal),
+        Err(refusal) => print_refusal(name, refusal),
     }
 }
 

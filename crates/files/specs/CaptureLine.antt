@@ -1,9 +1,7 @@
 -- What a character makes of a line of a capture.
-use Rattle.std.specs.Prelude.{ℕ, ◌+◌, ◌-◌, ◌*◌, ◌%◌, ◌^◌, ◌<◌, Bool, true, false, cond, ◌&&◌, ◌||◌, List, ◌==◌, nat_le, slice_set}
+use Rattle.std.specs.Prelude.{ℕ, ◌+◌, ◌-◌, ◌*◌, ◌%◌, ◌^◌, ◌<◌, Bool, true, false, cond, ◌&&◌, ◌||◌, List, ◌==◌, nat_le, slice_set, Option, Some, None}
 use Rattle.files.specs.declared.capture_line.State.{State}
 use Rattle.files.specs.declared.capture_line.State.TheVariants.{Raw, Bytes, Half, Comment, Wrong}
-use Rattle.files.specs.declared.capture_line.Digit.{Digit}
-use Rattle.files.specs.declared.capture_line.Digit.TheVariants.{Is, Not}
 use Rattle.files.specs.declared.capture_line.Step.{Step}
 use Rattle.files.specs.declared.capture_line.Step.TheVariants.{To, Byte}
 use Rattle.files.specs.declared.capture_line.Content.{Content}
@@ -13,19 +11,19 @@ use Rattle.files.specs.declared.capture_line.Line.{Line}
 -- ---- a character
 
 -- what a hex digit is worth: 0 to 9, A to F or a to f
-abbrev pub digit_of : ℕ → Digit
+abbrev pub digit_of : ℕ → Option ℕ
 digit_of b =
-    cond (nat_le 48 b && nat_le b 57) (Is (b - 48)) (cond (nat_le 65 b && nat_le b 70) (Is (b - 65 + 10)) (cond (nat_le 97 b && nat_le b 102) (Is (b - 97 + 10)) Not))
+    cond (nat_le 48 b && nat_le b 57) (Some (b - 48)) (cond (nat_le 65 b && nat_le b 70) (Some (b - 65 + 10)) (cond (nat_le 97 b && nat_le b 102) (Some (b - 97 + 10)) None))
 
 -- the first digit of a byte, or something else in this column
-abbrev pub first_by : Digit → ℕ → Step
-first_by (Is d) column = To (Half d)
-first_by Not column = To (Wrong column)
+abbrev pub first_by : Option ℕ → ℕ → Step
+first_by (Some d) column = To (Half d)
+first_by None column = To (Wrong column)
 
 -- the second digit of a byte whose first is worth d
-abbrev pub second_by : ℕ → Digit → ℕ → Step
-second_by d (Is e) column = Byte (d * 16 + e)
-second_by d Not column = To (Wrong column)
+abbrev pub second_by : ℕ → Option ℕ → ℕ → Step
+second_by d (Some e) column = Byte (d * 16 + e)
+second_by d None column = To (Wrong column)
 
 -- is it a space, a tab or a carriage return
 abbrev pub blank : ℕ → Bool

@@ -57,12 +57,6 @@ enum Step {
     Byte(u8),
 }
 
-#[derive(Clone, Copy)]
-enum Digit {
-    Is(u8),
-    Not,
-}
-
 impl Line {
     pub fn new(raw: bool) -> Self
         ensures { result ≡ start_of raw }
@@ -109,28 +103,28 @@ impl Line {
     }
 }
 
-fn read_digit(byte: u8) -> Digit
+fn read_digit(byte: u8) -> Option<u8>
     ensures { result ≡ digit_of byte }
 {
     if byte < b'0' {
-        return Digit::Not;
+        return None;
     }
     if byte <= b'9' {
-        return Digit::Is(byte - b'0');
+        return Some(byte - b'0');
     }
     if byte < b'A' {
-        return Digit::Not;
+        return None;
     }
     if byte <= b'F' {
-        return Digit::Is(byte - b'A' + 10);
+        return Some(byte - b'A' + 10);
     }
     if byte < b'a' {
-        return Digit::Not;
+        return None;
     }
     if byte <= b'f' {
-        return Digit::Is(byte - b'a' + 10);
+        return Some(byte - b'a' + 10);
     }
-    Digit::Not
+    None
 }
 
 // Between bytes stand blanks, and `#` starts a comment.
@@ -143,8 +137,8 @@ fn step_between(byte: u8, column: u64) -> Step
         b'\r' => Step::To(State::Bytes),
         b'#' => Step::To(State::Comment),
         _ => match read_digit(byte) {
-            Digit::Is(first) => Step::To(State::Half(first)),
-            Digit::Not => Step::To(State::Wrong(column)),
+            Some(first) => Step::To(State::Half(first)),
+            None => Step::To(State::Wrong(column)),
         },
     }
 }
@@ -155,8 +149,8 @@ fn step_within(first: u8, byte: u8, column: u64) -> Step
     ensures { result ≡ second_by first (digit_of byte) column }
 {
     match read_digit(byte) {
-        Digit::Is(second) => Step::Byte(first * 16 + second),
-        Digit::Not => Step::To(State::Wrong(column)),
+        Some(second) => Step::Byte(first * 16 + second),
+        None => Step::To(State::Wrong(column)),
     }
 }
 

@@ -10,14 +10,6 @@ use output::outcome::tell_unreadable;
 use std::io::Read;
 use std::rt::{Env, Files};
 
-#[derive(Clone, Copy)]
-pub enum Loaded {
-    // So many bytes: as much of the file as the lent slice has room for.
-    Bytes(usize),
-    // There is none.
-    Missing,
-}
-
 // The folder that argument k names; without one `definitions` below the current folder.
 fn put_folder(rt: &impl Env, k: usize, path: &mut [u8]) -> usize
     ensures { result ≤ length path.new }
@@ -60,42 +52,52 @@ fn load_from(
     part: &[u8],
     name: &[u8],
     bytes: &mut [u8],
-) -> Loaded
+) -> Option<usize>
     ensures { Loads bytes.new result }
 {
     let mut path = io::buffer();
     let n = put_path(rt, folder, part, name, &mut path);
     match open_path(rt, &path[..n]) {
-        Ok(mut file) => Loaded::Bytes(fill(&mut file, bytes)),
+        Ok(mut file) => Some(fill(&mut file, bytes)),
         Err(error) => {
             tell_unreadable(&path[..n], error);
-            Loaded::Missing
+            None
         }
     }
 }
 
 // A file of the folder that an argument names. That there is none is said.
-pub fn load(rt: &(impl Env + Files), folder: usize, name: &[u8], bytes: &mut [u8]) -> Loaded
+pub fn load(rt: &(impl Env + Files), folder: usize, name: &[u8], bytes: &mut [u8]) -> Option<usize>
     ensures { Loads bytes.new result }
 {
     load_from(rt, folder, b"/", name, bytes)
 }
 
 // The same of a file of its commands.
-pub fn load_command(rt: &(impl Env + Files), folder: usize, name: &[u8], bytes: &mut [u8]) -> Loaded
+pub fn load_command(
+    rt: &(impl Env + Files),
+    folder: usize,
+    name: &[u8],
+    bytes: &mut [u8],
+) -> Option<usize>
     ensures { Loads bytes.new result }
 {
     load_from(rt, folder, b"/commands/", name, bytes)
 }
 
 // The same, without a word where there is none.
-pub fn find_command(rt: &(impl Env + Files), folder: usize, name: &[u8], bytes: &mut [u8]) -> Loaded
+pub fn find_command(
+    rt: &(impl Env + Files),
+    folder: usize,
+    name: &[u8],
+    bytes: &mut [u8],
+) -> Option<usize>
     ensures { Loads bytes.new result }
 {
     let mut path = io::buffer();
     let n = put_path(rt, folder, b"/commands/", name, &mut path);
     match open_path(rt, &path[..n]) {
-        Ok(mut file) => Loaded::Bytes(fill(&mut file, bytes)),
-        Err(_) => Loaded::Missing,
+        Ok(mut file) => Some(fill(&mut file, bytes)),
+        Err(_) => None,
     }
 }

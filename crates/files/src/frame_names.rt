@@ -3,11 +3,10 @@ ghost use Rattle.std.specs.Prelude.{◌≡◌, ◌≤◌, length, take};
 ghost use Rattle.frame_text.specs.Rules.{verdict};
 ghost use Rattle.files.specs.Accepted.{judged, Finds, Accepts};
 
-use crate::folder::{Loaded, load};
+use crate::folder::load;
 use frame_text::check_frame_text;
 use refusal::Refusal;
 use std::rt::{Env, Files};
-use text::Verdict;
 use writer::{STDERR_FILENO, print_number};
 
 // How it was found.
@@ -43,11 +42,11 @@ fn judge(text: &[u8], n: usize) -> FrameText
     ensures { result ≡ judged n (verdict (take n text.now)) }
 {
     match check_frame_text(&text[..n]) {
-        Verdict::Accepted => FrameText {
+        Ok(()) => FrameText {
             count: n,
             state: State::Fine,
         },
-        Verdict::Refused(refusal) => {
+        Err(refusal) => {
             say_refused(refusal);
             FrameText {
                 count: 0,
@@ -61,7 +60,7 @@ fn judge(text: &[u8], n: usize) -> FrameText
 pub fn load_frames(rt: &(impl Env + Files), folder: usize, text: &mut [u8]) -> FrameText
     ensures { Accepts text.new result.count × Finds text.new result }
 {
-    let Loaded::Bytes(n) = load(rt, folder, b"frames.txt", text) else {
+    let Some(n) = load(rt, folder, b"frames.txt", text) else {
         return FrameText {
             count: 0,
             state: State::Missing,

@@ -4,7 +4,7 @@ use frame::region_bits;
 use output::outcome::fail;
 use output::refusals::refuse_capture;
 use readers::line_fields::{count_pieces, find_field};
-use readers::numeral::{Numeral, read_numeral};
+use readers::numeral::read_numeral;
 use refusal::Refusal;
 use std::num::wrapping_add_usize;
 use std::rt::Env;
@@ -59,13 +59,6 @@ const BEAMS: u8 = 3;
 
 const REGION: u8 = 4;
 
-#[derive(Clone, Copy)]
-pub enum Asked {
-    Options(Options),
-    // They can't be taken: that is said already.
-    Failed,
-}
-
 impl Options {
     fn new() -> Self {
         Options {
@@ -102,10 +95,10 @@ impl Options {
     fn with_firmware(mut self, bytes: &[u8]) -> Self {
         self.open = 0;
         match read_numeral(bytes) {
-            Numeral::Is(number) => {
+            Some(number) => {
                 self.firmware = number as usize;
             }
-            Numeral::Not => {
+            None => {
                 self.is_unnumbered = true;
             }
         }
@@ -131,11 +124,11 @@ impl Options {
     fn with_region(mut self, bytes: &[u8]) -> Self {
         self.open = 0;
         match read_numeral(bytes) {
-            Numeral::Is(number) => {
+            Some(number) => {
                 self.has_region = true;
                 self.region = number;
             }
-            Numeral::Not => {
+            None => {
                 self.is_uncoded = true;
             }
         }
@@ -331,33 +324,33 @@ fn fail_argument(options: Options) -> bool {
 }
 
 // The options, if they can be taken; where the number of arguments does not fit the word its `usage` is said.
-fn judged(rt: &impl Env, options: Options, fits: bool, usage: &[u8]) -> Asked {
+fn judged(rt: &impl Env, options: Options, fits: bool, usage: &[u8]) -> Option<Options> {
     if options.wrong != 0 {
         fail_option(rt, options.wrong);
-        return Asked::Failed;
+        return None;
     }
     if fail_argument(options) {
-        return Asked::Failed;
+        return None;
     }
     if !fits {
         fail(usage);
-        return Asked::Failed;
+        return None;
     }
     if region_bits(options.firmware) == 0 {
         refuse_capture(Refusal::Firmware(options.firmware));
-        return Asked::Failed;
+        return None;
     }
-    Asked::Options(options)
+    Some(options)
 }
 
 // The options of a word that takes so many arguments, and the options in `takes`, parted by tabs.
-pub fn read(rt: &impl Env, count: usize, takes: &[u8], usage: &[u8]) -> Asked {
+pub fn read(rt: &impl Env, count: usize, takes: &[u8], usage: &[u8]) -> Option<Options> {
     let options = take_all(rt, takes);
     judged(rt, options, options.count == count, usage)
 }
 
 // The same of a word that takes one argument or more.
-pub fn read_some(rt: &impl Env, takes: &[u8], usage: &[u8]) -> Asked {
+pub fn read_some(rt: &impl Env, takes: &[u8], usage: &[u8]) -> Option<Options> {
     let options = take_all(rt, takes);
     judged(rt, options, options.count != 0, usage)
 }

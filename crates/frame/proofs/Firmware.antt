@@ -12,9 +12,9 @@ use Rattle.frame.specs.declared.Reading.{Reading}
 use Rattle.frame.specs.declared.Direction.{Direction}
 use Rattle.frame.specs.declared.Direction.TheVariants.{Rx, Tx}
 use Rattle.frame.specs.declared.Trailer.{Trailer}
-use Rattle.frame.specs.declared.Parsed.TheVariants.{Frame, Refused}
 use Rattle.frame.specs.Frame.{region_byte, fields_of, FourBits, header, start, trailer, direction_of, between, middle, fields, is_beam, holds, framed}
 use Rattle.frame.specs.Frame.{rules_of, is_frame, frame_of, parsed_of}
+use Rattle.std.specs.Prelude.{Ok, Err}
 
 same-fields : (d : Direction) (t : List ℕ) → region_byte d t / 16 % 2 ≡ 0 → fields_of 4 d t ≡ fields_of 5 d t
 same-fields Rx t e =
@@ -41,4 +41,4 @@ module _ (reading : Reading) (b : List ℕ) (four : FourBits b) where
 
   -- of a single record
   pub record-agree : parsed_of 2 reading b ≡ parsed_of 3 reading b
-  record-agree = λ k. cond (leb (length b) 2048) (cond (is_agree k) (Frame (frame_agree k)) (Refused NotAFrame)) (Refused (TooLong (length b)))
+  record-agree = λ k. cond (leb (length b) 2048) (cond (is_agree k) (Ok (frame_agree k)) (Err NotAFrame)) (Err (TooLong (length b)))

@@ -18,12 +18,8 @@ use Rattle.frame.specs.declared.Rules.{Rules}
 use Rattle.frame.specs.declared.Direction.{Direction}
 use Rattle.frame.specs.declared.Direction.TheVariants.{Rx, Tx}
 use Rattle.frame.specs.declared.Trailer.{Trailer}
-use Rattle.frame.specs.declared.Layout.{Layout}
-use Rattle.frame.specs.declared.Layout.TheVariants.{Between, Nothing as NoLayout}
 use Rattle.records.specs.declared.BodyOffset.{BodyOffset}
 use Rattle.frame.specs.declared.Parts.{Parts}
-use Rattle.frame.specs.declared.Split.{Split}
-use Rattle.frame.specs.declared.Split.TheVariants.{Into, Nothing as NoSplit}
 use Rattle.laws.proofs.Bools.{and_left, and_right}
 use Rattle.laws.proofs.Lists.{tail}
 use Rattle.frame.specs.Frame.{header_of, trailer_of, direction_of, success_of, region_bits, rules_of, reading_by, fields_of, header, start, trailer}
@@ -32,13 +28,11 @@ use Rattle.frame.specs.Frame.{frame_numbers, Parses}
 use Rattle.frame.specs.Steps.{layout_of, parts_of, split_of, Inside, framed_by}
 use Rattle.refusal.specs.declared.Refusal.TheVariants.{TooLong, NotAFrame, Firmware}
 use Rattle.frame.specs.declared.PtiFrame.{PtiFrame}
-use Rattle.frame.specs.declared.Parsed.TheVariants.{Frame, Refused}
 use Rattle.radio.specs.Speed.{rate_of}
 use Rattle.radio.specs.declared.beam.BeamTarget.{BeamTarget}
 use Rattle.radio.specs.Beam.{beams_of, target_of, no_target}
 use Rattle.radio.proofs.BeamLaws.{beams_low}
-use Rattle.frame.specs.declared.Beams.{Beams}
-use Rattle.frame.specs.declared.Beams.TheVariants.{Count, NoBeam}
+use Rattle.std.specs.Prelude.{Option, Some, None, Ok, Err}
 
 -- ---- a choice by number
 module _ {A : Type 0} (x a : ℕ) (p : A) where
@@ -118,33 +112,33 @@ module _ (p : Parts) where
     holds_tag tag r e is-tag is-r = rw (eq-eqb p.trailer.protocol 6 zwave, e, ← is-tag) is-r
 
 -- ---- where the middle bytes lie
-pub laid_none : (b : List ℕ) → length b ≡ 0 → NoLayout ≡ layout_of b
+pub laid_none : (b : List ℕ) → length b ≡ 0 → None ≡ layout_of b
 laid_none [] e = refl
 laid_none (x ∷ xs) e = absurd (omega arith)
 
 module _ (b : List ℕ) (h : ℕ) (is_h : h ≡ header_of (get_or b 0 0)) where
-  pub laid_version : h ≡ 0 → NoLayout ≡ layout_of b
+  pub laid_version : h ≡ 0 → None ≡ layout_of b
   laid_version e = rw (← is_h, eq-eqb h 0 e) refl
 
-  pub laid-cut : length b < h → NoLayout ≡ layout_of b
+  pub laid-cut : length b < h → None ≡ layout_of b
   laid-cut short = rw (← is_h, le-ltb (h + trailer_of (get_or b (h - 1) 0)) (length b) (omega arith), and-false, and-false) refl
 
   module _ (t : ℕ) (is-t : t ≡ trailer_of (get_or b (h - 1) 0)) where
-    pub laid-start : t ≡ 0 → NoLayout ≡ layout_of b
+    pub laid-start : t ≡ 0 → None ≡ layout_of b
     laid-start e = rw (← is_h, ← is-t, eq-eqb t 0 e, and-false) refl
 
-    pub laid-short : length b ≤ h + t → NoLayout ≡ layout_of b
+    pub laid-short : length b ≤ h + t → None ≡ layout_of b
     laid-short short = rw (← is_h, ← is-t, le-ltb (h + t) (length b) short, and-false, and-false) refl
 
-    pub laid_out : (h ≡ 0 → ⊥) → (t ≡ 0 → ⊥) → h + t < length b → Between (record { 0 = h }) (record { 0 = length b - t }) ≡ layout_of b
+    pub laid_out : (h ≡ 0 → ⊥) → (t ≡ 0 → ⊥) → h + t < length b → Some ((record { 0 = h }), (record { 0 = length b - t })) ≡ layout_of b
     laid_out some_h some-t long = rw (← is_h, ← is-t, ne_eqb h 0 some_h, ne_eqb t 0 some-t, lt-ltb (h + t) (length b) long) refl
 
 -- what is known of a body whose middle bytes lie from m up to e
-laid-between : (t : Bool) (x y m e : BodyOffset) → cond t (Between x y) NoLayout ≡ Between m e → (t ≡ true) × ((x ≡ m) × (y ≡ e))
-laid-between true x y m e h = (refl, (cc, cc))
+laid-between : (t : Bool) (x y m e : BodyOffset) → cond {A = Option (BodyOffset × BodyOffset)} t (Some (x, y)) None ≡ Some (m, e) → (t ≡ true) × ((x ≡ m) × (y ≡ e))
+laid-between true x y m e h = let both : ◌≡◌ {A = BodyOffset × BodyOffset} (x, y) (m, e) = cc in (refl, (ap (λ p. p.0) both, ap (λ p. p.1) both))
 laid-between false x y m e h = (cc, (cc, cc))
 
-laid-nowhere : (t : Bool) (x y : BodyOffset) → cond t (Between x y) NoLayout ≡ NoLayout → t ≡ false
+laid-nowhere : (t : Bool) (x y : BodyOffset) → cond {A = Option (BodyOffset × BodyOffset)} t (Some (x, y)) None ≡ None → t ≡ false
 laid-nowhere true x y h = cc
 laid-nowhere false x y h = refl
 
@@ -163,13 +157,13 @@ roomy b h =
       ltb-true (header b + trailer b) (length b) (and_right (not (eqb (trailer b) 0)) _ both),
     )
 
-pub split-nothing : (w : Rules) (b : List ℕ) (l : Layout) → l ≡ layout_of b → l ≡ NoLayout → NoSplit ≡ split_of w b
+pub split-nothing : (w : Rules) (b : List ℕ) (l : Option (BodyOffset × BodyOffset)) → l ≡ layout_of b → l ≡ None → None ≡ split_of w b
 split-nothing w b l is-l e = rw (laid-nowhere (between b) (record { 0 = header b }) (record { 0 = length b - trailer b }) (sym is-l ∙ e)) refl
 
-pub lies_so : (b : List ℕ) (l : Layout) (m e : BodyOffset) → l ≡ layout_of b → l ≡ Between m e → layout_of b ≡ Between m e
+pub lies_so : (b : List ℕ) (l : Option (BodyOffset × BodyOffset)) (m e : BodyOffset) → l ≡ layout_of b → l ≡ Some (m, e) → layout_of b ≡ Some (m, e)
 lies_so b l m e is-l lies = sym is-l ∙ lies
 
-module _ (b : List ℕ) (m e : BodyOffset) (lies : layout_of b ≡ Between m e) where
+module _ (b : List ℕ) (m e : BodyOffset) (lies : layout_of b ≡ Some (m, e)) where
   known : (between b ≡ true) × ((record { 0 = header b } ≡ m) × (record { 0 = length b - trailer b } ≡ e))
   known = laid-between (between b) (record { 0 = header b }) (record { 0 = length b - trailer b }) m e lies
 
@@ -234,16 +228,16 @@ module _ (b : List ℕ) (m e : BodyOffset) (lies : layout_of b ≡ Between m e) 
           beam = the_beam k;
         }
 
-module _ (b : List ℕ) (m e : BodyOffset) (lies : layout_of b ≡ Between m e) (w : Rules) (p : Parts) (h : Bool) (is_p : p ≡ parts_of w b)
+module _ (b : List ℕ) (m e : BodyOffset) (lies : layout_of b ≡ Some (m, e)) (w : Rules) (p : Parts) (h : Bool) (is_p : p ≡ parts_of w b)
     (is_h : h ≡ holds p.direction p.beam p.trailer) where
   the_h : h ≡ is_frame w b
   the_h = let laid = known b m e lies in rw laid.0 (is_h ∙ ap (λ (x : Parts). holds x.direction x.beam x.trailer) is_p)
 
-  pub split-not : h ≡ false → NoSplit ≡ split_of w b
+  pub split-not : h ≡ false → None ≡ split_of w b
   split-not none = rw (← the_h, none) refl
 
-  pub split_into : h ≡ true → Into p ≡ split_of w b
-  split_into some = rw (← the_h, some) (ap Into is_p)
+  pub split_into : h ≡ true → Some p ≡ split_of w b
+  split_into some = rw (← the_h, some) (ap Some is_p)
 
 -- ---- the MPDU's length
 module _ (beam : Bool) (m : List ℕ) where
@@ -262,10 +256,10 @@ module _ (beam : Bool) (m : List ℕ) where
 
 -- ---- the beams
 module _ (beam : Bool) (rate : ℕ) (m : List ℕ) where
-  pub beams_some : (n : ℕ) → beam ≡ true → n ≡ beams_of rate m → Count n ≡ beams_in beam rate m
-  beams_some n is-beam is-n = rw is-beam (ap Count is-n)
+  pub beams_some : (n : ℕ) → beam ≡ true → n ≡ beams_of rate m → Some n ≡ beams_in beam rate m
+  beams_some n is-beam is-n = rw is-beam (ap Some is-n)
 
-  pub beams_none : beam ≡ false → NoBeam ≡ beams_in beam rate m
+  pub beams_none : beam ≡ false → None ≡ beams_in beam rate m
   beams_none none = rw none refl
 
   module _ (reading : Reading) (t : BeamTarget) where
@@ -296,7 +290,7 @@ module _ (b : List ℕ) (p : Parts) (inside : Inside b p) where
   pub mpdu_fits : (l : ℕ) → length b < 65535 → l ≤ length mid → Fits w16 l
   mpdu_fits l few low = omega (arith, middle-short)
 
-  pub frame_is : (reading : Reading) (l : ℕ) (rssi : ℤ) (beams : Beams) (target : BeamTarget) → rssi ≡ to_z w8 p.trailer.rssi
+  pub frame_is : (reading : Reading) (l : ℕ) (rssi : ℤ) (beams : Option ℕ) (target : BeamTarget) → rssi ≡ to_z w8 p.trailer.rssi
       → mag rssi < 2 ^ hbits w8 → beams ≡ beams_in p.beam p.rate mid → l ≡ mpdu_of p.beam mid
       → target ≡ target_in reading p.beam p.rate mid
       → record {
@@ -315,19 +309,19 @@ module _ (b : List ℕ) (p : Parts) (inside : Inside b p) where
       rw (is-beams, is-l, read_back, is-target) refl
 
 -- ---- the answer
-split_parts : (t : Bool) (x p : Parts) → cond t (Into x) NoSplit ≡ Into p → (t ≡ true) × (p ≡ x)
+split_parts : (t : Bool) (x p : Parts) → cond t (Some x) None ≡ Some p → (t ≡ true) × (p ≡ x)
 split_parts true x p h = (refl, cc)
 split_parts false x p h = (cc, cc)
 
-split-without : (t : Bool) (x : Parts) → cond t (Into x) NoSplit ≡ NoSplit → t ≡ false
+split-without : (t : Bool) (x : Parts) → cond t (Some x) None ≡ None → t ≡ false
 split-without true x h = cc
 split-without false x h = refl
 
-module _ (w : Rules) (b : List ℕ) (r : Split) (is-r : r ≡ split_of w b) where
-  pub split-none : r ≡ NoSplit → is_frame w b ≡ false
+module _ (w : Rules) (b : List ℕ) (r : Option Parts) (is-r : r ≡ split_of w b) where
+  pub split-none : r ≡ None → is_frame w b ≡ false
   split-none e = split-without (is_frame w b) (parts_of w b) (sym is-r ∙ e)
 
-  module _ (p : Parts) (e : r ≡ Into p) where
+  module _ (p : Parts) (e : r ≡ Some p) where
     the_parts : (is_frame w b ≡ true) × (p ≡ parts_of w b)
     the_parts = split_parts (is_frame w b) (parts_of w b) p (sym is-r ∙ e)
 
@@ -358,7 +352,7 @@ module _ (firmware : ℕ) (reading : Reading) (w : Rules) (b : List ℕ) (is-w :
   is_width : w.width ≡ region_bits firmware
   is_width = ap (λ (x : Rules). x.width) is-w
 
-  pub parsed_unknown : w.width ≡ 0 → Parses firmware reading b (Refused (Firmware firmware))
+  pub parsed_unknown : w.width ≡ 0 → Parses firmware reading b (Err (Firmware firmware))
   parsed_unknown none =
       let unknown = eq-eqb (region_bits firmware) 0 (sym is_width ∙ none) in
       record { answer = rw unknown refl; numbers = rw unknown refl }
@@ -367,26 +361,26 @@ module _ (firmware : ℕ) (reading : Reading) (w : Rules) (b : List ℕ) (is-w :
     known_firmware : eqb (region_bits firmware) 0 ≡ false
     known_firmware = ne_eqb (region_bits firmware) 0 (λ none. some (is_width ∙ none))
 
-    pub parsed_long : 2048 < length b → Parses firmware reading b (Refused (TooLong (length b)))
+    pub parsed_long : 2048 < length b → Parses firmware reading b (Err (TooLong (length b)))
     parsed_long long =
         let over = lt-leb (length b) 2048 long in
         record { answer = rw (known_firmware, over) refl; numbers = rw (known_firmware, over) refl }
 
-    module _ (s : Split) (is-s : s ≡ split_of w b) (short : length b ≤ 2048) where
-      pub parsed_not : s ≡ NoSplit → Parses firmware reading b (Refused NotAFrame)
+    module _ (s : Option Parts) (is-s : s ≡ split_of w b) (short : length b ≤ 2048) where
+      pub parsed_not : s ≡ None → Parses firmware reading b (Err NotAFrame)
       parsed_not e =
           let within = le-leb (length b) 2048 short in
           let none : is_frame (rules_of firmware reading) b ≡ false = rw is-w at (split-none w b s is-s e) in
           record { answer = rw (known_firmware, within, none) refl; numbers = rw (known_firmware, within, none) refl }
 
-      pub parsed_frame : (p : Parts) (f : PtiFrame) → s ≡ Into p → f ≡ framed_by reading b p → Parses firmware reading b (Frame f)
+      pub parsed_frame : (p : Parts) (f : PtiFrame) → s ≡ Some p → f ≡ framed_by reading b p → Parses firmware reading b (Ok f)
       parsed_frame p f e is_f =
           let within = le-leb (length b) 2048 short in
           let whole : is_frame (rules_of firmware reading) b ≡ true = rw is-w at (split_frame w b s is-s p e) in
           let the-f : f ≡ frame_of (rules_of firmware reading) b =
           split-framed (rules_of firmware reading) b s (is-s ∙ ap (λ (x : Rules). split_of x b) is-w) p e f is_f in
           record {
-            answer = rw (known_firmware, within, whole) (ap Frame the-f);
+            answer = rw (known_firmware, within, whole) (ap Ok the-f);
             numbers = rw (known_firmware, within, whole) (ap (λ (x : PtiFrame). (0, frame_numbers x)) the-f);
           }
 

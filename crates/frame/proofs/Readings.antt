@@ -8,9 +8,9 @@ use lib.ListN.{length}
 use Rattle.laws.proofs.Bools.{and_left}
 use Rattle.refusal.specs.declared.Refusal.TheVariants.{TooLong, NotAFrame, Firmware}
 use Rattle.frame.specs.declared.Reading.TheVariants.{Marker, Family}
-use Rattle.frame.specs.declared.Parsed.TheVariants.{Frame, Refused}
 use Rattle.frame.specs.Frame.{region_bits, rules_of, header, start, direction_of, between, middle, fields, rate_in, is_marked, is_beam, beam_in, Unmarked}
 use Rattle.frame.specs.Frame.{holds, is_frame, framed, frame_of, numbers_at, parsed_of}
+use Rattle.std.specs.Prelude.{Ok, Err}
 
 -- a beam of the second reading is one of the first
 pub family_marked : (rate : ℕ) (m : List ℕ) → is_beam Family rate m ≡ true → is_beam Marker rate m ≡ true
@@ -36,18 +36,18 @@ module _ (firmware : ℕ) (b : List ℕ) where
     frame_read whole = let none = unmarked (and_left (between b) _ whole) in rw none refl
 
     by_frame : (y : Bool) → first ≡ y
-        → cond first (Frame (frame_of (rules_of firmware Marker) b)) (Refused NotAFrame)
-        ≡ cond second (Frame (frame_of (rules_of firmware Family) b)) (Refused NotAFrame)
+        → cond first (Ok (frame_of (rules_of firmware Marker) b)) (Err NotAFrame)
+        ≡ cond second (Ok (frame_of (rules_of firmware Family) b)) (Err NotAFrame)
     by_frame false e = rw (← is_read, e) refl
-    by_frame true e = rw (← is_read, e) (ap Frame (frame_read e))
+    by_frame true e = rw (← is_read, e) (ap Ok (frame_read e))
 
     -- of a single record both readings give the same answer
     pub record_read : parsed_of firmware Marker b ≡ parsed_of firmware Family b
     record_read =
         let frame = by_frame first refl in
         λ k.
-        cond (eqb (region_bits firmware) 0) (Refused (Firmware firmware))
-        (cond (leb (length b) 2048) (frame k) (Refused (TooLong (length b))))
+        cond (eqb (region_bits firmware) 0) (Err (Firmware firmware))
+        (cond (leb (length b) 2048) (frame k) (Err (TooLong (length b))))
 
   -- ---- a frame that is a beam in the second reading is one in the first, and the numbers of F16 are the same
   module _ (beam : beam_in (rules_of firmware Family) b ≡ true) where

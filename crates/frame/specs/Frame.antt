@@ -1,6 +1,6 @@
 -- F7 to F13, F16, F17, FV1 to FV3 and BF1 to BF4 (docs/RULES.md): the frame in a record's body. A body is the list of its bytes. The rules are over w: how many
 -- bits of its byte say the region, and which records are beams.
-use Rattle.std.specs.Prelude.{◌≡◌, Bool, true, false, cond, not, ◌&&◌, ◌||◌, List, [], ◌∷◌, ◌++◌, ℕ, ◌+◌, ◌-◌, ◌/◌, ◌%◌, ◌^◌, eqb, leb, ltb, length, get_or, take, drop}
+use Rattle.std.specs.Prelude.{◌≡◌, Bool, true, false, cond, not, ◌&&◌, ◌||◌, List, [], ◌∷◌, ◌++◌, ℕ, ◌+◌, ◌-◌, ◌/◌, ◌%◌, ◌^◌, eqb, leb, ltb, length, get_or, take, drop, Option, Some, None, Result, Ok, Err}
 use Rattle.std.specs.Int.{w8}
 use Rattle.std.proofs.Common.{to_z, of_z}
 use Rattle.refusal.specs.declared.Refusal.TheVariants.{TooLong, NotAFrame, Firmware}
@@ -12,13 +12,10 @@ use Rattle.frame.specs.declared.Rules.{Rules}
 use Rattle.frame.specs.declared.Direction.{Direction}
 use Rattle.frame.specs.declared.Direction.TheVariants.{Rx, Tx}
 use Rattle.frame.specs.declared.Trailer.{Trailer}
-use Rattle.frame.specs.declared.Beams.{Beams}
-use Rattle.frame.specs.declared.Beams.TheVariants.{Count, NoBeam}
 use Rattle.frame.specs.declared.PtiFrame.{PtiFrame}
-use Rattle.frame.specs.declared.Parsed.{Parsed}
-use Rattle.frame.specs.declared.Parsed.TheVariants.{Frame, Refused}
 use Rattle.radio.specs.Speed.{rate_of}
 use Rattle.radio.specs.Beam.{beams_of, target_of, no_target}
+use Rattle.refusal.specs.declared.Refusal.{Refusal}
 
 -- F7: the header's length by the first byte; 0 for a byte that no header has
 abbrev pub header_of : ℕ → ℕ
@@ -120,8 +117,8 @@ abbrev pub mpdu_of : Bool → List ℕ → ℕ
 mpdu_of beam m = cond (not beam && (ltb 7 (length m) && leb (get_or m 7 0) (length m))) (get_or m 7 0) (length m)
 
 -- F16: how often the beam stands there, or that it is none
-abbrev pub beams_in : Bool → ℕ → List ℕ → Beams
-beams_in beam rate m = cond beam (Count (beams_of rate m)) NoBeam
+abbrev pub beams_in : Bool → ℕ → List ℕ → Option ℕ
+beams_in beam rate m = cond beam (Some (beams_of rate m)) None
 
 -- BF2: whom a beam wakes; the first reading doesn't look
 abbrev pub target_in : Reading → Bool → ℕ → List ℕ → BeamTarget
@@ -149,12 +146,12 @@ frame_of w b =
     framed w.reading (direction_of (start b)) (fields w.width b) (rate_in w.width b) (beam_in w b) (header b) (middle b)
 
 -- F16, R11: what `parse_record` answers by these rules
-abbrev pub parsed_by : Rules → List ℕ → Parsed
-parsed_by w b = cond (leb (length b) most_frame) (cond (is_frame w b) (Frame (frame_of w b)) (Refused NotAFrame)) (Refused (TooLong (length b)))
+abbrev pub parsed_by : Rules → List ℕ → Result PtiFrame Refusal
+parsed_by w b = cond (leb (length b) most_frame) (cond (is_frame w b) (Ok (frame_of w b)) (Err NotAFrame)) (Err (TooLong (length b)))
 
 -- FV2: the firmware is judged first
-abbrev pub parsed_of : ℕ → Reading → List ℕ → Parsed
-parsed_of firmware reading b = cond (eqb (region_bits firmware) 0) (Refused (Firmware firmware)) (parsed_by (rules_of firmware reading) b)
+abbrev pub parsed_of : ℕ → Reading → List ℕ → Result PtiFrame Refusal
+parsed_of firmware reading b = cond (eqb (region_bits firmware) 0) (Err (Firmware firmware)) (parsed_by (rules_of firmware reading) b)
 
 -- F17: 0 is Rx, 1 is Tx
 abbrev pub direction_number : Direction → ℕ
@@ -162,9 +159,9 @@ direction_number Rx = 0
 direction_number Tx = 1
 
 -- F17: the beam count, or 0 for none; a beam counts at least 1
-abbrev pub beams_number : Beams → ℕ
-beams_number (Count n) = n
-beams_number NoBeam = 0
+abbrev pub beams_number : Option ℕ → ℕ
+beams_number (Some n) = n
+beams_number None = 0
 
 -- F16, F17: the numbers of a frame whose MPDU starts at a place
 abbrev pub numbers_at : ℕ → PtiFrame → List ℕ
@@ -180,9 +177,9 @@ abbrev pub frame_numbers : PtiFrame → List ℕ
 frame_numbers f = numbers_at f.start.0 f ++ target_numbers f.target
 
 -- F16: an answer in numbers: 0 and those of the frame, or the number of the refusal and what it carries
-abbrev pub said : Parsed → ℕ × List ℕ
-said (Frame f) = (0, frame_numbers f)
-said (Refused x) = (number_of x, carried_by x ∷ [])
+abbrev pub said : Result PtiFrame Refusal → ℕ × List ℕ
+said (Ok f) = (0, frame_numbers f)
+said (Err x) = (number_of x, carried_by x ∷ [])
 
 -- F16, R11: those numbers for a body by these rules
 abbrev pub said_by : Rules → List ℕ → ℕ × List ℕ
@@ -193,6 +190,6 @@ abbrev pub said_of : ℕ → Reading → List ℕ → ℕ × List ℕ
 said_of firmware reading b = cond (eqb (region_bits firmware) 0) (13, firmware ∷ []) (said_by (rules_of firmware reading) b)
 
 -- F16: the answer of `parse_record`, as a case and in numbers
-pub record Parses (firmware : ℕ) (reading : Reading) (b : List ℕ) (r : Parsed) : Type 0 where
+pub record Parses (firmware : ℕ) (reading : Reading) (b : List ℕ) (r : Result PtiFrame Refusal) : Type 0 where
   pub answer : r ≡ parsed_of firmware reading b
   pub numbers : said r ≡ said_of firmware reading b

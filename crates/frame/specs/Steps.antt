@@ -1,18 +1,15 @@
 -- What the steps below `parse_record` answer, over the definitions of the rules.
-use Rattle.std.specs.Prelude.{cond, List, ℕ, ◌-◌, ◌≤◌, ◌<◌, length, take, drop}
-use Rattle.frame.specs.declared.Layout.{Layout}
-use Rattle.frame.specs.declared.Layout.TheVariants.{Between, Nothing as NoLayout}
+use Rattle.std.specs.Prelude.{cond, List, ℕ, ◌-◌, ◌≤◌, ◌<◌, length, take, drop, Option, Some, None}
 use Rattle.frame.specs.declared.Parts.{Parts}
-use Rattle.frame.specs.declared.Split.{Split}
-use Rattle.frame.specs.declared.Split.TheVariants.{Into, Nothing as NoSplit}
 use Rattle.frame.specs.declared.PtiFrame.{PtiFrame}
 use Rattle.frame.specs.declared.Reading.{Reading}
 use Rattle.frame.specs.declared.Rules.{Rules}
 use Rattle.frame.specs.Frame.{header, trailer, between, start, direction_of, fields, rate_in, beam_in, is_frame, framed}
+use Rattle.records.specs.declared.BodyOffset.{BodyOffset}
 
 -- where a body's header ends and its trailer starts
-abbrev pub layout_of : List ℕ → Layout
-layout_of b = cond (between b) (Between (record { 0 = header b }) (record { 0 = length b - trailer b })) NoLayout
+abbrev pub layout_of : List ℕ → Option (BodyOffset × BodyOffset)
+layout_of b = cond (between b) (Some ((record { 0 = header b }), (record { 0 = length b - trailer b }))) None
 
 -- the parts of a body
 abbrev pub parts_of : Rules → List ℕ → Parts
@@ -26,8 +23,8 @@ parts_of w b =
       beam = beam_in w b;
     }
 
-abbrev pub split_of : Rules → List ℕ → Split
-split_of w b = cond (is_frame w b) (Into (parts_of w b)) NoSplit
+abbrev pub split_of : Rules → List ℕ → Option Parts
+split_of w b = cond (is_frame w b) (Some (parts_of w b)) None
 
 -- the middle bytes that the parts p tell lie inside the body b
 pub record Inside (b : List ℕ) (p : Parts) : Type 0 where

@@ -1,13 +1,12 @@
 // The frame in a record's body: F7 to F12, F16, FV1, FV2, BF1 and BF2 of docs/RULES.md.
 #![tactic(auto)]
 
-ghost use Rattle.std.specs.Prelude.{◌≡◌, ◌||◌, ◌≤◌, ◌<◌, ◌%◌, ◌^◌, leb, ltb, length};
+ghost use Rattle.std.specs.Prelude.{◌≡◌, ◌||◌, ◌≤◌, ◌<◌, ◌%◌, ◌^◌, leb, ltb, length, Some};
 ghost use Rattle.refusal.specs.Refusal.{most_payload};
 ghost use Rattle.radio.specs.Speed.{RateTable};
 ghost use Rattle.radio.specs.Beam.{beams_of, no_target};
 ghost use Rattle.frame.specs.Frame.{header_of, trailer_of, direction_of, success_of, region_bits, rules_of, reading_by, fields_of, is_beam, holds};
 ghost use Rattle.frame.specs.Frame.{mpdu_of, beams_in, target_in, Parses};
-ghost use Rattle.frame.specs.declared.Layout.TheVariants.{Between};
 ghost use Rattle.frame.specs.Steps.{layout_of, parts_of, split_of, Inside, framed_by};
 
 use radio::beam::{BEAM_MARKER, BeamTarget, beam_count, is_repeated, target_of};
@@ -65,13 +64,6 @@ pub struct Trailer {
     pub protocol: u8,
 }
 
-// Where a body's header ends and its trailer starts, if at least one byte stands between.
-#[derive(Clone, Copy)]
-pub enum Layout {
-    Between(BodyOffset, BodyOffset),
-    Nothing,
-}
-
 // The parts of a body that holds a frame: the middle bytes stand from `middle` up to `end`.
 #[derive(Clone, Copy)]
 pub struct Parts {
@@ -81,19 +73,6 @@ pub struct Parts {
     pub trailer: Trailer,
     pub rate: u8,
     pub beam: bool,
-}
-
-#[derive(Clone, Copy)]
-pub enum Split {
-    Into(Parts),
-    Nothing,
-}
-
-// The repetitions of a wake-up beam; other frames have none.
-#[derive(Clone, Copy)]
-pub enum Beams {
-    Count(u16),
-    NoBeam,
 }
 
 // A Z-Wave frame recovered from a record. Its MPDU stays a part of the body.
@@ -107,18 +86,11 @@ pub struct PtiFrame {
     pub rate: u8,
     // 0 for a transmitted frame, which carries none.
     pub rssi: i8,
-    pub beams: Beams,
+    pub beams: Option<u16>,
     pub start: BodyOffset,
     pub length: u16,
     // Nothing in the first reading, and where it is no beam.
     pub target: BeamTarget,
-}
-
-// The frame of a single record.
-#[derive(Clone, Copy)]
-pub enum Parsed {
-    Frame(PtiFrame),
-    Refused(Refusal),
 }
 
 // The header's length by its version, a body's first byte; 0 for a version that there isn't.
@@ -274,27 +246,27 @@ fn is_whole(parts: Parts) -> bool
 }
 
 // Where the header ends and the trailer starts.
-fn lay_out(body: &[u8]) -> Layout
+fn lay_out(body: &[u8]) -> Option<(BodyOffset, BodyOffset)>
     ensures { result ≡ layout_of body.now }
 {
     if body.len() == 0 {
-        return Layout::Nothing;
+        return None;
     }
     let header = header_length(body[0]);
     if header == 0 {
-        return Layout::Nothing;
+        return None;
     }
     if body.len() < header {
-        return Layout::Nothing;
+        return None;
     }
     let trailer = trailer_length(body[header - 1]);
     if trailer == 0 {
-        return Layout::Nothing;
+        return None;
     }
     if body.len() <= header + trailer {
-        return Layout::Nothing;
+        return None;
     }
-    Layout::Between(BodyOffset(header), BodyOffset(body.len() - trailer))
+    Some((BodyOffset(header), BodyOffset(body.len() - trailer)))
 }
 
 // The parts of a body whose middle bytes stand from `middle` up to `end`.
@@ -307,7 +279,7 @@ fn read_parts(
 ) -> Parts
     requires rate_table { RateTable rates.now }
     requires width_bound { rules.width ≤ 5 }
-    requires body_value { layout_of body.now ≡ Between middle end }
+    requires body_value { layout_of body.now ≡ Some (middle, end) }
     ensures { result ≡ parts_of rules body.now }
 {
     let header = middle.0;
@@ -333,27 +305,27 @@ fn split_between(
     rules: Rules,
     middle: BodyOffset,
     end: BodyOffset,
-) -> Split
+) -> Option<Parts>
     requires rate_table { RateTable rates.now }
     requires width_bound { rules.width ≤ 5 }
-    requires body_value { layout_of body.now ≡ Between middle end }
+    requires body_value { layout_of body.now ≡ Some (middle, end) }
     ensures { result ≡ split_of rules body.now }
 {
     let parts = read_parts(rates, body, rules, middle, end);
     if is_whole(parts) {
-        return Split::Into(parts);
+        return Some(parts);
     }
-    Split::Nothing
+    None
 }
 
 // The parts of a body, if it holds a frame by these rules.
-pub fn split_body(rates: &[u8; 512], body: &[u8], rules: Rules) -> Split
+pub fn split_body(rates: &[u8; 512], body: &[u8], rules: Rules) -> Option<Parts>
     requires rate_table { RateTable rates.now }
     requires width_bound { rules.width ≤ 5 }
     ensures { result ≡ split_of rules body.now }
 {
-    let Layout::Between(middle, end) = lay_out(body) else {
-        return Split::Nothing;
+    let Some((middle, end)) = lay_out(body) else {
+        return None;
     };
     split_between(rates, body, rules, middle, end)
 }
@@ -375,14 +347,14 @@ fn mpdu_length(beam: bool, middle: &[u8]) -> usize
 }
 
 // The repetitions of a beam.
-fn beams_in(beam: bool, rate: u8, middle: &[u8]) -> Beams
+fn beams_in(beam: bool, rate: u8, middle: &[u8]) -> Option<u16>
     requires { length middle.now < most_payload }
     ensures { result ≡ beams_in beam rate middle.now }
 {
     if beam {
-        return Beams::Count(beam_count(rate, middle) as u16);
+        return Some(beam_count(rate, middle) as u16);
     }
-    Beams::NoBeam
+    None
 }
 
 fn no_target() -> BeamTarget
@@ -436,18 +408,18 @@ pub fn frame_of(body: &[u8], reading: Reading, parts: Parts) -> PtiFrame
 }
 
 // The frame of a single record's body, which that firmware wrote, by that reading of beams, or refusal 13, 4 or 9.
-pub fn parse_record(body: &[u8], firmware: usize, reading: Reading) -> Parsed
+pub fn parse_record(body: &[u8], firmware: usize, reading: Reading) -> Result<PtiFrame, Refusal>
     ensures { Parses firmware reading body.now result }
 {
     let rules = rules_of(firmware, reading);
     if rules.width == 0 {
-        return Parsed::Refused(Refusal::Firmware(firmware));
+        return Err(Refusal::Firmware(firmware));
     }
     if MOST_FRAME < body.len() {
-        return Parsed::Refused(Refusal::TooLong(body.len()));
+        return Err(Refusal::TooLong(body.len()));
     }
-    let Split::Into(parts) = split_body(&RATES, body, rules) else {
-        return Parsed::Refused(Refusal::NotAFrame);
+    let Some(parts) = split_body(&RATES, body, rules) else {
+        return Err(Refusal::NotAFrame);
     };
-    Parsed::Frame(frame_of(body, reading, parts))
+    Ok(frame_of(body, reading, parts))
 }

@@ -1,6 +1,5 @@
 // A frame's line of the table, column by column. Each column keeps two spaces before it.
-ghost use Rattle.std.specs.Prelude.{◌≡◌};
-ghost use Rattle.text.specs.declared.Verdict.TheVariants.{Accepted};
+ghost use Rattle.std.specs.Prelude.{◌≡◌, Ok};
 ghost use Rattle.frame_text.specs.Rules.{verdict};
 
 use crate::beam_columns::put_beam;
@@ -72,7 +71,7 @@ fn put_heard(
     index: &[u8],
     look: Look,
 ) -> usize
-    requires { verdict text.now ≡ Accepted }
+    requires { verdict text.now ≡ Ok tt }
 {
     if frame.is_beam {
         return put_beam(out, at, frame, look.colour);
@@ -112,7 +111,7 @@ pub fn put_row(
     index: &[u8],
     look: Look,
 ) -> usize
-    requires { verdict text.now ≡ Accepted }
+    requires { verdict text.now ≡ Ok tt }
 {
     let mut place = put_signal(out, at, frame);
     place = put_heard(rt, out, place, frame, payload, text, index, look);

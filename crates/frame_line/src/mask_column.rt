@@ -2,7 +2,6 @@
 ghost use Rattle.std.specs.Prelude.{◌≤◌, length};
 
 use header_nodes::row_nodes;
-use node_mask::Listed;
 use writer::{Buffer, put, put_marked, put_number, put_right, put_spaces};
 
 // The bytes of the column, with the two before it.
@@ -119,7 +118,7 @@ pub fn put_mask(
 ) -> usize {
     let mut nodes = [0u16; MOST];
     match row_nodes(text, mpdu, rows, i, &mut nodes) {
-        Listed::Nodes(n) => put_first(out, at, &nodes, n),
-        Listed::Refused(_) => put_right(out, at, b"mask", WIDTH),
+        Ok(n) => put_first(out, at, &nodes, n),
+        Err(_) => put_right(out, at, b"mask", WIDTH),
     }
 }

@@ -1,7 +1,6 @@
 // What a line of the table says of an MPDU: the header's name, who speaks to whom, the length, the checksum and the command's
 // name; or by which refusal it has no name.
-ghost use Rattle.std.specs.Prelude.{◌≡◌};
-ghost use Rattle.text.specs.declared.Verdict.TheVariants.{Accepted};
+ghost use Rattle.std.specs.Prelude.{◌≡◌, Ok};
 ghost use Rattle.frame_text.specs.Rules.{verdict};
 
 use crate::node_columns::{put_no_nodes, put_nodes};
@@ -9,8 +8,8 @@ use command::{Params, decode_params, offsets_by};
 use command_part::command_part;
 use command_rows::{LACKING, ROW_WIDTH};
 use crc::check_crc;
-use files::folder::{Loaded, find_command};
-use header::{Decoded, DecodedHeader, MOST_NUMBERS, decode_accepted};
+use files::folder::find_command;
+use header::{DecodedHeader, MOST_NUMBERS, decode_accepted};
 use output::paint::{Hue, put_painted};
 use output::refusals::put_short;
 use readers::cells::{cell, part};
@@ -90,8 +89,7 @@ fn lacks(text: &[u8], payload: &[u8], by_position: bool) -> bool {
 // The same by its line in the catalog.
 fn lacks_by(rt: &(impl Env + Files), line: &[u8], payload: &[u8], look: Look) -> bool {
     let mut text = io::large_buffer();
-    let Loaded::Bytes(n) = find_command(rt, look.folder, readers::catalog::file(line), &mut text)
-    else {
+    let Some(n) = find_command(rt, look.folder, readers::catalog::file(line), &mut text) else {
         return false;
     };
     lacks(&text[..n], payload, look.by_position)
@@ -167,7 +165,7 @@ fn put_header(
     rows: &[u64],
     colour: bool,
 ) -> usize
-    requires { verdict text.now ≡ Accepted }
+    requires { verdict text.now ≡ Ok tt }
 {
     let named = header.name;
     let name = part(text, named.start, named.len);
@@ -208,16 +206,16 @@ pub fn put_mpdu(
     radio: Radio,
     look: Look,
 ) -> usize
-    requires { verdict text.now ≡ Accepted }
+    requires { verdict text.now ≡ Ok tt }
 {
     let speed = radio.speed;
     let mut rows = [0u64; MOST_NUMBERS];
     match decode_accepted(text, mpdu, frame_code(radio.region), speed, &mut rows) {
-        Decoded::Header(header) => {
+        Ok(header) => {
             let place = put_header(out, at, text, mpdu, header, &rows, look.colour);
             let bytes = command_part(mpdu, header.payload, speed);
             put_command(rt, out, place, index, bytes, header.right, look)
         }
-        Decoded::Refused(refusal) => put_unnamed(out, at, mpdu, speed, refusal, look.colour),
+        Err(refusal) => put_unnamed(out, at, mpdu, speed, refusal, look.colour),
     }
 }

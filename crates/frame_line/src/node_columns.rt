@@ -1,6 +1,5 @@
 // Who speaks to whom: the columns of home id, source and destination, from a header's rows.
-ghost use Rattle.std.specs.Prelude.{◌≡◌, ◌<◌, length};
-ghost use Rattle.text.specs.declared.Verdict.TheVariants.{Accepted};
+ghost use Rattle.std.specs.Prelude.{◌≡◌, ◌<◌, length, Ok};
 ghost use Rattle.frame_text.specs.Rules.{verdict};
 
 use crate::mask_column::{WIDTH, put_mask};
@@ -73,7 +72,7 @@ fn put_value(
     i: usize,
     width: usize,
 ) -> usize
-    requires { verdict text.now ≡ Accepted }
+    requires { verdict text.now ≡ Ok tt }
 {
     let mut value = [0u8; MOST];
     let n = show_field(text, mpdu, rows, i, &mut value);
@@ -90,7 +89,7 @@ fn put_multicast(out: &mut Buffer, at: usize, text: &[u8], mpdu: &[u8], rows: &[
 }
 
 fn put_destination(out: &mut Buffer, at: usize, text: &[u8], mpdu: &[u8], rows: &[u64]) -> usize
-    requires { verdict text.now ≡ Accepted }
+    requires { verdict text.now ≡ Ok tt }
 {
     let i = find_row(text, rows, b"DestinationNodeID");
     if rows.len() / ROW_WIDTH <= i {
@@ -101,7 +100,7 @@ fn put_destination(out: &mut Buffer, at: usize, text: &[u8], mpdu: &[u8], rows: 
 
 // Home id, source and destination, by the rows of a header.
 pub fn put_nodes(out: &mut Buffer, at: usize, text: &[u8], mpdu: &[u8], rows: &[u64]) -> usize
-    requires { verdict text.now ≡ Accepted }
+    requires { verdict text.now ≡ Ok tt }
 {
     let home = find_row(text, rows, b"HomeID");
     let source = find_row(text, rows, b"SourceNodeID");

@@ -5,11 +5,11 @@ ghost use Rattle.frame_requests.specs.Frames.{named_of, by_of, Asks};
 
 use crate::frame_table::frame_table;
 use answer::table::{MOST_ROWS, SHORT, put_touched_short};
-use answer::{Answer, put_numbers, put_refusal, put_value};
+use answer::{put_numbers, put_refusal, put_value};
 use libtap::frames::tap_parse_payload;
 use pti::payload::{HASH, NODE, POWER, RECORD, ROW_WIDTH};
 use readers::line_fields::field_of;
-use request::{Bytes, Leading, Two, read_bytes, read_leading, read_two};
+use request::{Two, read_bytes, read_leading, read_two};
 use std::num::wrapping_add_usize;
 use writer::{Buffer, put, put_number};
 
@@ -76,13 +76,13 @@ pub fn read_by(words: &[u8], named: bool) -> By
 fn read_asked(words: &[u8], bytes: &mut [u8]) -> Asked
     ensures { Asks bytes.new result }
 {
-    let Leading::Is(cap, at) = read_leading(words) else {
+    let Some((cap, at)) = read_leading(words) else {
         return Asked::Not;
     };
     if MOST_ROWS < cap {
         return Asked::Not;
     }
-    let Bytes::Are(n) = read_bytes(&words[at..], bytes) else {
+    let Some(n) = read_bytes(&words[at..], bytes) else {
         return Asked::Not;
     };
     Asked::Table(cap as usize * ROW_WIDTH, n)
@@ -96,15 +96,15 @@ pub fn frames(
     bytes: &mut [u8],
     out: &mut Buffer,
     used: usize,
-) -> Answer {
+) -> Option<usize> {
     let By::Capture(capture, at) = read_by(words, named) else {
-        return Answer::Bad;
+        return None;
     };
     let Asked::Table(numbers, n) = read_asked(&words[at..], bytes) else {
-        return Answer::Bad;
+        return None;
     };
     let mut rows = [SHORT; NUMBERS];
-    Answer::Put(answer_frames(
+    Some(answer_frames(
         &bytes[..n],
         capture,
         word,

@@ -5,7 +5,6 @@ mod frame_table;
 mod frames;
 mod single;
 
-use answer::Answer;
 use frames::{FRAMES, FRAMETABLE};
 use request::Word;
 use single::{body, count, rate, record};
@@ -18,7 +17,7 @@ pub fn frame_request(
     bytes: &mut [u8],
     out: &mut Buffer,
     used: usize,
-) -> Answer {
+) -> Option<usize> {
     match word {
         Word::Rate => rate(words, out, used),
         Word::Count => count(words, bytes, out, used),
@@ -29,6 +28,6 @@ pub fn frame_request(
         Word::Recordby => record(words, true, bytes, out, used),
         Word::Framesby => frames::frames(words, FRAMES, true, bytes, out, used),
         Word::Frametableby => frames::frames(words, FRAMETABLE, true, bytes, out, used),
-        _ => Answer::Bad,
+        _ => None,
     }
 }

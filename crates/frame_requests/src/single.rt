@@ -1,24 +1,24 @@
 // The requests on rates and on single records.
 use crate::frames::{By, FRAME, put_frame, put_target, put_word, read_by};
-use answer::{Answer, put_bytes, put_named, put_refusal};
+use answer::{put_bytes, put_named, put_refusal};
 use libtap::TapAnswer;
 use libtap::frames::{
     TapFrame, tap_count_records, tap_parse_record, tap_record_body, tap_speed_for,
 };
-use numerals::numbers::{Value, read_value};
-use request::{Bytes, Leading, read_bytes, read_leading};
+use numerals::numbers::read_value;
+use request::{read_bytes, read_leading};
 use writer::{Buffer, put};
 
 // `rate CHANNEL REGION`
-pub fn rate(words: &[u8], out: &mut Buffer, used: usize) -> Answer {
-    let Leading::Is(channel, at) = read_leading(words) else {
-        return Answer::Bad;
+pub fn rate(words: &[u8], out: &mut Buffer, used: usize) -> Option<usize> {
+    let Some((channel, at)) = read_leading(words) else {
+        return None;
     };
-    let Value::Is(region) = read_value(&words[at..]) else {
-        return Answer::Bad;
+    let Some(region) = read_value(&words[at..]) else {
+        return None;
     };
     let rate = tap_speed_for(channel as usize, region as usize);
-    Answer::Put(put_named(out, used, b"rate", rate as u64))
+    Some(put_named(out, used, b"rate", rate as u64))
 }
 
 fn put_count(out: &mut Buffer, used: usize, count: TapAnswer) -> usize {
@@ -29,12 +29,12 @@ fn put_count(out: &mut Buffer, used: usize, count: TapAnswer) -> usize {
 }
 
 // `count PAYLOAD`
-pub fn count(words: &[u8], bytes: &mut [u8], out: &mut Buffer, used: usize) -> Answer {
-    let Bytes::Are(n) = read_bytes(words, bytes) else {
-        return Answer::Bad;
+pub fn count(words: &[u8], bytes: &mut [u8], out: &mut Buffer, used: usize) -> Option<usize> {
+    let Some(n) = read_bytes(words, bytes) else {
+        return None;
     };
     let count = tap_count_records(&bytes[..n]);
-    Answer::Put(put_count(out, used, count))
+    Some(put_count(out, used, count))
 }
 
 fn put_body(out: &mut Buffer, used: usize, payload: &[u8], k: usize) -> usize {
@@ -46,14 +46,14 @@ fn put_body(out: &mut Buffer, used: usize, payload: &[u8], k: usize) -> usize {
 }
 
 // `body K PAYLOAD`
-pub fn body(words: &[u8], bytes: &mut [u8], out: &mut Buffer, used: usize) -> Answer {
-    let Leading::Is(k, at) = read_leading(words) else {
-        return Answer::Bad;
+pub fn body(words: &[u8], bytes: &mut [u8], out: &mut Buffer, used: usize) -> Option<usize> {
+    let Some((k, at)) = read_leading(words) else {
+        return None;
     };
-    let Bytes::Are(n) = read_bytes(&words[at..], bytes) else {
-        return Answer::Bad;
+    let Some(n) = read_bytes(&words[at..], bytes) else {
+        return None;
     };
-    Answer::Put(put_body(out, used, &bytes[..n], k as usize))
+    Some(put_body(out, used, &bytes[..n], k as usize))
 }
 
 // `record BODY` and `recordby FIRMWARE READING BODY`
@@ -63,15 +63,15 @@ pub fn record(
     bytes: &mut [u8],
     out: &mut Buffer,
     used: usize,
-) -> Answer {
+) -> Option<usize> {
     let By::Capture(capture, at) = read_by(words, named) else {
-        return Answer::Bad;
+        return None;
     };
-    let Bytes::Are(n) = read_bytes(&words[at..], bytes) else {
-        return Answer::Bad;
+    let Some(n) = read_bytes(&words[at..], bytes) else {
+        return None;
     };
     let frame = tap_parse_record(&bytes[..n], capture.firmware, capture.family);
-    Answer::Put(put_single(out, used, named, frame))
+    Some(put_single(out, used, named, frame))
 }
 
 // Its start is that in the body.

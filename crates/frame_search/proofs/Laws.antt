@@ -1,17 +1,17 @@
 -- The laws that the proofs of this crate and of its callers go by. Assumes nothing.
 use Rattle.std.proofs.Common.{◌≡◌, ℕ, ◌+◌, ◌*◌, ◌<◌, ◌≤◌, List, length, take, sym, arith, length-take-le}
 use Rattle.frame.specs.declared.Reading.{Reading}
-use Rattle.pti.specs.declared.payload.Frames.{Frames}
-use Rattle.pti.specs.declared.payload.Frames.TheVariants.{Rows}
 use Rattle.pti.specs.Payload.{row_width, Parses}
 use Rattle.pti.proofs.Laws.{rows-room}
 use Rattle.frame_search.specs.Search.{Holds}
 use Rattle.frame_search.specs.declared.Hit.{Hit}
 use Rattle.frame_search.specs.declared.Search.{Search}
 use Rattle.frame_search.specs.declared.Search.TheVariants.{Found}
+use Rattle.std.specs.Prelude.{Result, Ok}
+use Rattle.refusal.specs.declared.Refusal.{Refusal}
 
 -- one of the rows that are answered stands in the table
-pub row_there : (firmware : ℕ) (reading : Reading) (s t t' : List ℕ) (r : Frames) (n k : ℕ) → Parses firmware reading s t r t' → r ≡ Rows n
+pub row_there : (firmware : ℕ) (reading : Reading) (s t t' : List ℕ) (r : Result ℕ Refusal) (n k : ℕ) → Parses firmware reading s t r t' → r ≡ Ok n
     → length t' ≡ length t → k < n → k * row_width + row_width ≤ length t'
 row_there firmware reading s t t' r n k parses is-n same few = omega (arith, rows-room firmware reading s t t' r n parses is-n same)
 

@@ -10,10 +10,10 @@ use files::arguments::argument;
 use files::capture::{Item, Opened, Source, next_item};
 use files::input::Reader;
 use output::outcome::fail;
-use pti::payload::{Frames, ROW_WIDTH};
+use pti::payload::ROW_WIDTH;
 use pti::{parse_payload, reading_by};
 use readers::cells::part;
-use readers::numeral::{Numeral, read_numeral};
+use readers::numeral::read_numeral;
 use screen::{FrameRecord, record_at};
 use std::num::wrapping_add_u64;
 use std::rt::{Env, Files};
@@ -76,7 +76,7 @@ fn search_payload(payload: &[u8], aim: Aim, table: &mut Table, mpdu: &mut [u8; 4
     ensures { Holds mpdu.new result }
 {
     let left = aim.left;
-    let Frames::Rows(n) = parse_payload(payload, aim.firmware, reading_by(aim.family), table) else {
+    let Ok(n) = parse_payload(payload, aim.firmware, reading_by(aim.family), table) else {
         return Search::Left(aim.behind(left));
     };
     if left < n as u64 {
@@ -179,7 +179,7 @@ pub fn fail_number(name: &[u8], number: u64, frames: u64) {
 }
 
 // The number that argument k says, from 1.
-pub fn read_number(rt: &impl Env, k: usize) -> Numeral {
+pub fn read_number(rt: &impl Env, k: usize) -> Option<u64> {
     let mut bytes = io::buffer();
     let n = argument(rt, k, &mut bytes);
     read_numeral(&bytes[..n])

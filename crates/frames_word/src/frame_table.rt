@@ -1,7 +1,6 @@
 // The frames of a capture as an aligned table.
-ghost use Rattle.std.specs.Prelude.{◌≡◌, ◌*◌, ◌≤◌, length};
+ghost use Rattle.std.specs.Prelude.{◌≡◌, ◌*◌, ◌≤◌, length, Ok};
 ghost use Rattle.pti.specs.Payload.{row_width};
-ghost use Rattle.text.specs.declared.Verdict.TheVariants.{Accepted};
 ghost use Rattle.frame_text.specs.Rules.{verdict};
 ghost use Rattle.files.specs.Capture.{Inside};
 
@@ -9,7 +8,7 @@ use crate::sheet::{Sheet, Verdict, put_empty, put_passed, put_refused, tell_prog
 use files::capture::{Item, Next, Source, next_item};
 use files::input::Reader;
 use frame_line::frame_row::{put_header, put_number, put_row};
-use pti::payload::{Frames, ROW_WIDTH};
+use pti::payload::ROW_WIDTH;
 use pti::{parse_payload, reading_by};
 use refusal::Refusal;
 use screen::{FrameRecord, record_at};
@@ -29,7 +28,7 @@ fn put_frame(
     out: &mut Buffer,
     sheet: Sheet,
 ) -> Sheet
-    requires { verdict text.now ≡ Accepted }
+    requires { verdict text.now ≡ Ok tt }
 {
     let next = sheet.with_frame(frame.is_beam);
     let from = put_number(out, next.at, next.frames, frame, next.records);
@@ -50,7 +49,7 @@ fn put_frames(
     sheet: Sheet,
 ) -> Sheet
     requires row_width_in_bounds { n * row_width ≤ length table.now }
-    requires text_value { verdict text.now ≡ Accepted }
+    requires text_value { verdict text.now ≡ Ok tt }
 {
     let mut shown = sheet;
     let mut i: usize = 0;
@@ -71,16 +70,16 @@ fn put_payload(
     out: &mut Buffer,
     sheet: Sheet,
 ) -> Sheet
-    requires { verdict text.now ≡ Accepted }
+    requires { verdict text.now ≡ Ok tt }
 {
     match parse_payload(payload, sheet.firmware, reading_by(sheet.family), table) {
-        Frames::Rows(n) => {
+        Ok(n) => {
             if n == 0 {
                 return put_empty(out, sheet);
             }
             put_frames(rt, text, index, payload, table, n, out, sheet)
         }
-        Frames::Refused(refusal) => put_refused(refusal, out, sheet),
+        Err(refusal) => put_refused(refusal, out, sheet),
     }
 }
 
@@ -104,7 +103,7 @@ fn take_payload(
     out: &mut Buffer,
     sheet: Sheet,
 ) -> Sheet
-    requires { verdict text.now ≡ Accepted }
+    requires { verdict text.now ≡ Ok tt }
 {
     let next = begin_payload(out, sheet);
     if payload.len() < count {
@@ -123,7 +122,7 @@ fn take_item(
     out: &mut Buffer,
     sheet: Sheet,
 ) -> Sheet
-    requires { verdict text.now ≡ Accepted }
+    requires { verdict text.now ≡ Ok tt }
 {
     match item {
         Item::Payload(count) => take_payload(rt, text, index, count, payload, table, out, sheet),
@@ -153,7 +152,7 @@ fn take_next(
     out: &mut Buffer,
     sheet: Sheet,
 ) -> Sheet
-    requires { verdict text.now ≡ Accepted }
+    requires { verdict text.now ≡ Ok tt }
 {
     let item = next.item;
     let shown = take_item(rt, text, index, item, payload, table, out, sheet);
@@ -174,7 +173,7 @@ pub fn put_capture<R: Env + Files + Input>(
     empty: Sheet,
 ) -> Sheet
     requires inside { Inside block.old start }
-    requires text_value { verdict text.now ≡ Accepted }
+    requires text_value { verdict text.now ≡ Ok tt }
 {
     let mut source = start;
     let mut sheet = empty;

@@ -1,15 +1,14 @@
 // The word `frames`: the frames of a capture as a table.
-ghost use Rattle.std.specs.Prelude.{◌≡◌};
-ghost use Rattle.text.specs.declared.Verdict.TheVariants.{Accepted};
+ghost use Rattle.std.specs.Prelude.{◌≡◌, Ok};
 ghost use Rattle.frame_text.specs.Rules.{verdict};
 
 use crate::frame_table::{Table, put_capture};
 use crate::sheet::{Sheet, Verdict, print_end};
 use files::capture::Opened;
-use files::folder::{Loaded, load};
+use files::folder::load;
 use files::frame_names::{State, load_frames};
 use files::input::{File, Reader};
-use files::options::{Asked, Options};
+use files::options::Options;
 use output::outcome::fail_file;
 use pti::payload::ROW_WIDTH;
 use std::rt::{Env, Files};
@@ -23,7 +22,7 @@ fn show_capture<R: Env + Files + Input>(
     index: &[u8],
     empty: Sheet,
 )
-    requires { verdict text.now ≡ Accepted }
+    requires { verdict text.now ≡ Ok tt }
 {
     let mut block = io::buffer();
     let Opened::At(source) = files::capture::open(reader, &mut block) else {
@@ -58,19 +57,12 @@ fn show_indexed<R: Env + Files + Input>(
     folder: usize,
     empty: Sheet,
 )
-    requires { verdict text.now ≡ Accepted }
+    requires { verdict text.now ≡ Ok tt }
 {
     let mut index = io::large_buffer();
     match load(rt, folder, b"commands/index.txt", &mut index) {
-        Loaded::Bytes(n) => show_capture(rt, name, reader, text, &index[..n], empty),
-        Loaded::Missing => show_capture(
-            rt,
-            name,
-            reader,
-            text,
-            b"",
-            empty.judged(Verdict::Unnamed),
-        ),
+        Some(n) => show_capture(rt, name, reader, text, &index[..n], empty),
+        None => show_capture(rt, name, reader, text, b"", empty.judged(Verdict::Unnamed)),
     }
 }
 
@@ -84,7 +76,7 @@ fn show_found<R: Env + Files + Input>(
     folder: usize,
     empty: Sheet,
 )
-    requires { verdict text.now ≡ Accepted }
+    requires { verdict text.now ≡ Ok tt }
 {
     match state {
         State::Fine => show_indexed(rt, name, reader, text, folder, empty),
@@ -123,7 +115,7 @@ fn show_file<R: Env + Files + Input>(
 
 // `tap frames FILE`.
 pub fn show_frames(rt: &(impl Env + Files + Input)) {
-    let Asked::Options(options) = files::options::read(
+    let Some(options) = files::options::read(
         rt,
         1,
         b"--definitions\t--plain\t--colour\t--picture\t--progress\t--records\t--firmware\t--beams\t--by-position",

@@ -2,7 +2,6 @@
 use mathlib.Core.Path.{◌≡◌, refl, sym, ap, ◌∙◌}
 use mathlib.Core.Bool.{Bool, true, false, cond}
 use mathlib.Core.List.{List, [], ◌∷◌, map}
-use mathlib.Core.Option.{none}
 use Prim.Native.Nat.{ℕ, zero, suc, ◌+◌, ◌*◌, ◌/◌, ◌≤◌, ◌<◌}
 use native.Mathlib.Omega.{arith}
 use lib.Dec.{leb}
@@ -13,16 +12,12 @@ use Rattle.refusal.specs.declared.Refusal.TheVariants.{TooLong, TooShort, NoBase
 use Rattle.rows.specs.Rows.{put, laid}
 use Rattle.text.specs.Records.{Readable}
 use Rattle.text.specs.declared.Place.{Place}
-use Rattle.text.specs.declared.Verdict.{Verdict}
-use Rattle.text.specs.declared.Verdict.TheVariants as text
 use Rattle.frame_text.specs.Rules.{rules, verdict}
 use Rattle.frame_definition.specs.Definition.{Numbered, params, definition, first_base}
 use Rattle.frame_definition.specs.Names.{header_name}
 use Rattle.frame_definition.specs.Find.{FindsBase}
 use Rattle.frame_definition.proofs.Leveled.{base_leveled}
 use Rattle.frame_definition.specs.declared.Candidate.{Candidate}
-use Rattle.frame_definition.specs.declared.Found.{Found}
-use Rattle.frame_definition.specs.declared.Found.TheVariants as found
 use Rattle.crc.specs.Crc.{right}
 use Rattle.header_fields.specs.Fields.{line_width, fields_in}
 use Rattle.header_rules.specs.Data.{total}
@@ -38,16 +33,13 @@ use Rattle.header_paths.proofs.Scratch.{length-rows_in, get_d_rows_in}
 use Rattle.header_candidates.specs.Read.{Roomy, base_of, HoldsBase, ReadsBase}
 use Rattle.header_candidates.specs.Choose.{lines_at, IsChosen, Chooses}
 use Rattle.header_candidates.specs.declared.Read.{Read}
-use Rattle.header_candidates.specs.declared.Choice.{Choice}
-use Rattle.header_candidates.specs.declared.Choice.TheVariants as choice
 use Rattle.header.specs.declared.DecodedHeader.{DecodedHeader}
-use Rattle.header.specs.declared.Decoded.{Decoded}
-use Rattle.header.specs.declared.Decoded.TheVariants.{Header, Refused}
 use Rattle.header.specs.declared.Wanted.{Wanted}
 use Rattle.header.specs.declared.Wanted.TheVariants.{All, Nothing, One}
 use Rattle.header.specs.Decode.{key_of, told_of, decoded, table_after, Decodes}
 use Rattle.header.specs.Steps.{wanted_in, wanted_after, Gives, Ready, headed, rows_read, fits, Shows, Picks, Reads, Answers}
 use Rattle.header.proofs.Says.{decodes}
+use Rattle.std.specs.Prelude.{Option, Some, None, Result, Ok, Err}
 
 -- ---- the rows that are wanted
 row_of : {A : Type 0} (f : A → List ℕ) (l : List A) (k : ℕ) (d : A) → k < length l → get_or (map f l) k [] ≡ f (get_or l k d)
@@ -107,12 +99,12 @@ pub ruleset wanted_laws = (wanted-all, wanted-nothing, wanted_one, wanted-past, 
 -- ---- the answer for a candidate that was read
 module _ (t fields scratch : List ℕ) (read : Read) (h : DecodedHeader) (table : List ℕ) where
   pub show_more : (wanted : Wanted) → length table / row_width < read.rows
-      → Shows t fields scratch read h wanted table (Refused (MoreRows read.rows)) table
+      → Shows t fields scratch read h wanted table (Err (MoreRows read.rows)) table
   show_more wanted more = let no = lt-leb read.rows (length table / row_width) more in record { answer = rw no refl; rows = rw no refl }
 
   pub show_wanted : (wanted : Wanted) (table' : List ℕ) → read.rows ≤ length table / row_width
       → table' ≡ wanted_in wanted table (rows_read t fields scratch read)
-      → Shows t fields scratch read h wanted table (Header h) table'
+      → Shows t fields scratch read h wanted table (Ok h) table'
   show_wanted wanted table' few is-table =
       let yes = le-leb read.rows (length table / row_width) few in record { answer = rw yes refl; rows = rw yes is-table }
 
@@ -137,7 +129,7 @@ heading_read t fields scratch c read =
       rows = rows_read t fields scratch read;
     }
 
-module _ (t fields scratch : List ℕ) (c : Candidate) (read : Read) (ok : Bool) (wanted : Wanted) (table : List ℕ) (r : Decoded) (table' : List ℕ)
+module _ (t fields scratch : List ℕ) (c : Candidate) (read : Read) (ok : Bool) (wanted : Wanted) (table : List ℕ) (r : Result DecodedHeader Refusal) (table' : List ℕ)
     (is_name : c.name ≡ header_name t c.number) where
   rows_read_lem : length (rows_read t fields scratch read) ≡ read.rows
   rows_read_lem = rows_many t fields scratch read wanted table
@@ -149,7 +141,7 @@ module _ (t fields scratch : List ℕ) (c : Candidate) (read : Read) (ok : Bool)
       → Gives t ok (fitted (length table / row_width) heading) wanted table r table'
   gives_shown s = go (fits read table) refl s.answer s.rows
     where
-      go : (b : Bool) → fits read table ≡ b → r ≡ cond b (Header (headed c read ok)) (Refused (MoreRows read.rows))
+      go : (b : Bool) → fits read table ≡ b → r ≡ cond b (Ok (headed c read ok)) (Err (MoreRows read.rows))
           → table' ≡ cond b (wanted_in wanted table (rows_read t fields scratch read)) table
           → Gives t ok (fitted (length table / row_width) heading) wanted table r table'
       go true e is-r is-table =
@@ -160,13 +152,13 @@ module _ (t fields scratch : List ℕ) (c : Candidate) (read : Read) (ok : Bool)
           rw (f, is-r) (record { answer = refl; rows = is-table })
 
 -- ---- the base
-pub base_readable : (t : List ℕ) (key : ℕ) (p : Place) (n : ℕ) → FindsBase t key (found.At p n) → Readable rules t p
+pub base_readable : (t : List ℕ) (key : ℕ) (p : Place) (n : ℕ) → FindsBase t key (Some (p, n)) → Readable rules t p
 base_readable t key p n f = f.1
 
-pub base_number : (t : List ℕ) (key : ℕ) (p : Place) (n : ℕ) → FindsBase t key (found.At p n) → n ≤ length t
+pub base_number : (t : List ℕ) (key : ℕ) (p : Place) (n : ℕ) → FindsBase t key (Some (p, n)) → n ≤ length t
 base_number t key p n f = f.2
 
-pub base_few : (t : List ℕ) (key : ℕ) (p : Place) (n : ℕ) → FindsBase t key (found.At p n) → verdict t ≡ text.Accepted
+pub base_few : (t : List ℕ) (key : ℕ) (p : Place) (n : ℕ) → FindsBase t key (Some (p, n)) → verdict t ≡ Ok tt
     → length (lines_at t p n) ≤ 64
 base_few t key p n f accepted = (base_leveled t key (record { key = key; params = lines_at t p n }) accepted f.0).few
 
@@ -175,8 +167,8 @@ pub base_holds : (t d : List ℕ) (ps : List Numbered) (fields scratch : List �
 base_holds t d ps fields scratch base r = r.holds
 
 -- ---- the choice
-module _ (t d : List ℕ) (key : ℕ) (bs : List Numbered) (fields scratch : List ℕ) (r : Choice) (c : Candidate) (read : Read)
-    (chooses : Chooses t d key bs fields scratch r) (e : r ≡ choice.At c read) where
+module _ (t d : List ℕ) (key : ℕ) (bs : List Numbered) (fields scratch : List ℕ) (r : Option (Candidate × Read)) (c : Candidate) (read : Read)
+    (chooses : Chooses t d key bs fields scratch r) (e : r ≡ Some (c, read)) where
   chosen : IsChosen t d key bs fields scratch c read
   chosen = rw e at chooses
 
@@ -199,7 +191,7 @@ module _ (t d : List ℕ) (key : ℕ) (bs : List Numbered) (fields scratch : Lis
       ≡ table_of 7 d (definition t).sets (reading 7 d (trees bs) (trees own))
   the_rows = rw (chosen.own.lines, chosen.own.rows) (flat_rows bs own d (definition t).sets)
 
-  pub picks_one : (speed : ℕ) (ok : Bool) (wanted : Wanted) (h : DecodedHeader) (table : List ℕ) (x : Decoded) (table' : List ℕ)
+  pub picks_one : (speed : ℕ) (ok : Bool) (wanted : Wanted) (h : DecodedHeader) (table : List ℕ) (x : Result DecodedHeader Refusal) (table' : List ℕ)
       → ok ≡ right d speed
       → h ≡ headed c read ok → Shows t fields scratch read h wanted table x table' → Picks t d speed key bs wanted table x table'
   picks_one speed ok wanted h table x table' is_ok is_h shows =
@@ -209,70 +201,70 @@ module _ (t d : List ℕ) (key : ℕ) (bs : List Numbered) (fields scratch : Lis
   pub chosen_bit : (fields₀ scratch₀ : List ℕ) → Roomy d fields₀ scratch₀ → read.bit.0 ≤ 16384
   chosen_bit fields₀ scratch₀ roomy = omega (arith, chosen.own.within, roomy.short)
 
-pub picks_none : (t d : List ℕ) (speed key : ℕ) (bs : List Numbered) (fields scratch : List ℕ) (r : Choice) (wanted : Wanted)
-    (table : List ℕ) → Chooses t d key bs fields scratch r → r ≡ choice.Nothing
-    → Picks t d speed key bs wanted table (Refused NoCandidate) table
+pub picks_none : (t d : List ℕ) (speed key : ℕ) (bs : List Numbered) (fields scratch : List ℕ) (r : Option (Candidate × Read)) (wanted : Wanted)
+    (table : List ℕ) → Chooses t d key bs fields scratch r → r ≡ None
+    → Picks t d speed key bs wanted table (Err NoCandidate) table
 picks_none t d speed key bs fields scratch r wanted table chooses e =
     let none_is : answer 7 d (trees bs) (candidates_of key (definition t)) ≡ refused 7 = rw e at chooses in
     rw none_is (record { answer = refl; rows = refl })
 
 -- ---- what is told by it
 pub reads_picked : (t d : List ℕ) (speed key : ℕ) (p : Place) (n : ℕ) (fields scratch : List ℕ) (base : Read) (wanted : Wanted)
-    (table : List ℕ) (x : Decoded) (table' : List ℕ)
-    → ReadsBase t d (lines_at t p n) fields scratch base → FindsBase t key (found.At p n)
+    (table : List ℕ) (x : Result DecodedHeader Refusal) (table' : List ℕ)
+    → ReadsBase t d (lines_at t p n) fields scratch base → FindsBase t key (Some (p, n))
     → Picks t d speed key (base_of t fields base) wanted table x table'
     → Reads t d speed key wanted table x table'
 unfolding told
 reads_picked t d speed key p n fields scratch base wanted table x table' r f picks = rw (f.0, ← r.lines) picks
 
 -- ---- an accepted text
-module _ (t d : List ℕ) (region speed : ℕ) (wanted : Wanted) (table : List ℕ) (accepted : verdict t ≡ text.Accepted) where
+module _ (t d : List ℕ) (region speed : ℕ) (wanted : Wanted) (table : List ℕ) (accepted : verdict t ≡ Ok tt) where
   -- a refusal writes nothing
-  answers_refused : (x : Refusal) → Refused x ≡ decoded t d region speed (length table) → Answers t d region speed wanted table (Refused x) table
+  answers_refused : (x : Refusal) → Err x ≡ decoded t d region speed (length table) → Answers t d region speed wanted table (Err x) table
   answers_refused x is = record { answer = is; rows = refl }
 
-  pub answers_long : 2048 < length d → Answers t d region speed wanted table (Refused (TooLong (length d))) table
+  pub answers_long : 2048 < length d → Answers t d region speed wanted table (Err (TooLong (length d))) table
   answers_long h = answers_refused _ (rw (accepted, lt-ltb 2048 (length d) h) refl)
 
-  pub answers_short : length d ≤ 2048 → length d < 2 → Answers t d region speed wanted table (Refused (TooShort (length d))) table
+  pub answers_short : length d ≤ 2048 → length d < 2 → Answers t d region speed wanted table (Err (TooShort (length d))) table
   answers_short s h = answers_refused _ (rw (accepted, le-ltb 2048 (length d) s, lt-ltb (length d) 2 h) refl)
 
   module _ (s : length d ≤ 2048) (l : 2 ≤ length d) (key : ℕ) (is_key : key ≡ key_of t region speed) where
-    pub answers_no_base : (r : Found) → FindsBase t key r → r ≡ found.Nothing → Answers t d region speed wanted table (Refused (NoBase key)) table
+    pub answers_no_base : (r : Option (Place × ℕ)) → FindsBase t key r → r ≡ None → Answers t d region speed wanted table (Err (NoBase key)) table
     unfolding told
     answers_no_base r finds e =
-        let none_is : first_base (key_of t region speed) (definition t).bases ≡ none = rw (e, is_key) at finds in
+        let none_is : first_base (key_of t region speed) (definition t).bases ≡ None = rw (e, is_key) at finds in
         answers_refused _ (rw (accepted, le-ltb 2048 (length d) s, le-ltb (length d) 2 l, none_is, is_key) refl)
 
-    pub answers_read : (r : Decoded) (table' : List ℕ) → Reads t d speed key wanted table r table' → Answers t d region speed wanted table r table'
+    pub answers_read : (r : Result DecodedHeader Refusal) (table' : List ℕ) → Reads t d speed key wanted table r table' → Answers t d region speed wanted table r table'
     answers_read r table' reads =
         record {
           answer = rw (accepted, le-ltb 2048 (length d) s, le-ltb (length d) 2 l, ← is_key) reads.answer;
           rows = rw (← is_key) reads.rows;
         }
 
-    pub base_at : (r : Found) (p : Place) (n : ℕ) → FindsBase t key r → r ≡ found.At p n → FindsBase t key (found.At p n)
+    pub base_at : (r : Option (Place × ℕ)) (p : Place) (n : ℕ) → FindsBase t key r → r ≡ Some (p, n) → FindsBase t key (Some (p, n))
     base_at r p n finds e = rw e at finds
 
-pub decodes_all : (t d : List ℕ) (region speed : ℕ) (table : List ℕ) (r : Decoded) (table' : List ℕ)
+pub decodes_all : (t d : List ℕ) (region speed : ℕ) (table : List ℕ) (r : Result DecodedHeader Refusal) (table' : List ℕ)
     → Answers t d region speed All table r table' → Decodes t d region speed table r table'
 decodes_all t d region speed table r table' a =
     decodes t d region speed table r table' a.answer (a.rows ∙ all_after (told_of t d region speed (length table)) r)
   where
-    all_after : (x : Told) (r : Decoded) → wanted_after All table x r ≡ table_after table x r
-    all_after x (Header h) = refl
-    all_after x (Refused y) = refl
+    all_after : (x : Told) (r : Result DecodedHeader Refusal) → wanted_after All table x r ≡ table_after table x r
+    all_after x (Ok h) = refl
+    all_after x (Err y) = refl
 
-pub identified : (t d : List ℕ) (region speed : ℕ) (r : Decoded) (table' : List ℕ)
+pub identified : (t d : List ℕ) (region speed : ℕ) (r : Result DecodedHeader Refusal) (table' : List ℕ)
     → Answers t d region speed Nothing (replicate {A = ℕ} 896 0) r table' → r ≡ decoded t d region speed (128 * row_width)
 identified t d region speed r table' a = a.answer ∙ ap (decoded t d region speed) (length-replicate {A = ℕ} 896 0)
 
 -- ---- any text
-pub accepted-text : (t : List ℕ) (v : Verdict) → v ≡ verdict t → v ≡ text.Accepted → verdict t ≡ text.Accepted
+pub accepted-text : (t : List ℕ) (v : Result (Unit {0}) Refusal) → v ≡ verdict t → v ≡ Ok tt → verdict t ≡ Ok tt
 accepted-text t v e q = sym e ∙ q
 
-pub decodes_refused : (t d : List ℕ) (region speed : ℕ) (table : List ℕ) (v : Verdict) (x : Refusal) → v ≡ verdict t → v ≡ text.Refused x
-    → Decodes t d region speed table (Refused x) table
+pub decodes_refused : (t d : List ℕ) (region speed : ℕ) (table : List ℕ) (v : Result (Unit {0}) Refusal) (x : Refusal) → v ≡ verdict t → v ≡ Err x
+    → Decodes t d region speed table (Err x) table
 decodes_refused t d region speed table v x e q = decodes t d region speed table _ _ (rw (sym e ∙ q) refl) refl
 
 pub ruleset laws = (

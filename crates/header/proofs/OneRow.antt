@@ -2,7 +2,6 @@
 use mathlib.Core.Path.{◌≡◌, refl, sym, ap, ◌∙◌}
 use mathlib.Core.Bool.{Bool, true, false, cond}
 use mathlib.Core.List.{List, [], ◌∷◌, ◌++◌, append_assoc}
-use mathlib.Core.Option.{Option, none, some}
 use Prim.Native.Nat.{ℕ, zero, suc, ◌+◌, ◌*◌, ◌/◌, ◌≤◌, ◌<◌}
 use native.Mathlib.Nat.{zero-add}
 use native.Mathlib.Omega.{arith}
@@ -13,8 +12,6 @@ use Rattle.refusal.specs.declared.Refusal.TheVariants.{TooLong, TooShort}
 use Rattle.rows.specs.Rows.{put, flat, laid}
 use Rattle.rows.specs.Parts.{Wide}
 use Rattle.rows.proofs.Laws.{put-room}
-use Rattle.text.specs.declared.Verdict.{Verdict}
-use Rattle.text.specs.declared.Verdict.TheVariants as text
 use Rattle.frame_text.specs.Rules.{verdict}
 use Rattle.crc.specs.Crc.{right}
 use Rattle.frame_definition.specs.Definition.{Base, Definition, Set, definition, first_base}
@@ -24,11 +21,11 @@ use Rattle.header_rules.specs.Table.{row_width, numbers_of, rows_each, inner_tab
 use Rattle.header_rules.specs.Trees.{trees}
 use Rattle.header_rules.specs.Told.{Told, no_base, no_candidate, more_rows, header, heading_of, of_answer, of_base, candidates_of, told}
 use Rattle.header.specs.declared.DecodedHeader.{DecodedHeader}
-use Rattle.header.specs.declared.Decoded.{Decoded}
-use Rattle.header.specs.declared.Decoded.TheVariants.{Header, Refused}
 use Rattle.header.specs.declared.Wanted.TheVariants.{One}
 use Rattle.header.specs.Decode.{header_of, of_told, judged, key_of, told_of, decoded, rows_of, table_after}
 use Rattle.header.specs.Steps.{Answers}
+use Rattle.std.specs.Prelude.{Option, Some, None, Result, Ok, Err}
+use Rattle.refusal.specs.declared.Refusal.{Refusal}
 
 -- ---- a row has seven numbers
 wide_append : (rs ss : List (List ℕ)) → Wide row_width rs → Wide row_width ss → Wide row_width (rs ++ ss)
@@ -67,8 +64,8 @@ told_wide def d most key = go (first_base key def.bases)
         fits false = tt
 
     go : (b : Option Base) → Wide row_width (rows_of (of_base def d most key b))
-    go none = tt
-    go (some b) = given (answer 7 d (trees b.params) (candidates_of key def))
+    go None = tt
+    go (Some b) = given (answer 7 d (trees b.params) (candidates_of key def))
 
 -- ---- a number of a row
 number_in : (rs : List (List ℕ)) (rest : List ℕ) (k c : ℕ) → Wide row_width rs → k < length rs → c < row_width
@@ -109,8 +106,8 @@ row-alone table rs k c wide room inside l =
     ∙ sym (number_in rs (drop (length (flat rs)) table) k c wide inside l)
 
 -- the same of the table that is left for the row k of an answer
-pub one_row : (t d : List ℕ) (region speed k : ℕ) (table : List ℕ) (r : Decoded) (table' : List ℕ) (h : DecodedHeader)
-    → Answers t d region speed (One k) table r table' → r ≡ Header h → h.rows ≡ length (rows_of (told_of t d region speed (length table)))
+pub one_row : (t d : List ℕ) (region speed k : ℕ) (table : List ℕ) (r : Result DecodedHeader Refusal) (table' : List ℕ) (h : DecodedHeader)
+    → Answers t d region speed (One k) table r table' → r ≡ Ok h → h.rows ≡ length (rows_of (told_of t d region speed (length table)))
     → h.rows * row_width ≤ length table → k < h.rows → (c : ℕ) → c < row_width
     → get_or table' (k * row_width + c) 0 ≡ get_or (table_after table (told_of t d region speed (length table)) r) (k * row_width + c) 0
 one_row t d region speed k table r table' h a is many room inside c l =
@@ -120,17 +117,17 @@ one_row t d region speed k table r table' h a is many room inside c l =
     (row-alone table rs k c (told_wide (definition t) d (length table / row_width) (key_of t region speed)) (rw (← many) room) (rw (← many) inside) l)
 
 -- as many rows are answered as are told
-pub rows_told : (t d : List ℕ) (region speed room : ℕ) (h : DecodedHeader) → Header h ≡ decoded t d region speed room
+pub rows_told : (t d : List ℕ) (region speed room : ℕ) (h : DecodedHeader) → Ok h ≡ decoded t d region speed room
     → h.rows ≡ length (rows_of (told_of t d region speed room))
 rows_told t d region speed room h e = go (verdict t) (ltb 2048 (length d)) (ltb (length d) 2) (told_of t d region speed room) e
   where
-    go : (v : Verdict) (long short : Bool) (x : Told)
-        → Header h ≡ judged v (cond long (Refused (TooLong (length d))) (cond short (Refused (TooShort (length d))) (of_told t (right d speed) x)))
+    go : (v : Result (Unit {0}) Refusal) (long short : Bool) (x : Told)
+        → Ok h ≡ judged v (cond long (Err (TooLong (length d))) (cond short (Err (TooShort (length d))) (of_told t (right d speed) x)))
         → h.rows ≡ length (rows_of x)
-    go (text.Refused y) long short x q = absurd (let z : ◌≡◌ {A = ℕ} 0 1 = cc in omega arith)
-    go text.Accepted true short x q = absurd (let z : ◌≡◌ {A = ℕ} 0 1 = cc in omega arith)
-    go text.Accepted false true x q = absurd (let z : ◌≡◌ {A = ℕ} 0 1 = cc in omega arith)
-    go text.Accepted false false (no_base k) q = absurd (let z : ◌≡◌ {A = ℕ} 0 1 = cc in omega arith)
-    go text.Accepted false false no_candidate q = absurd (let z : ◌≡◌ {A = ℕ} 0 1 = cc in omega arith)
-    go text.Accepted false false (more_rows n) q = absurd (let z : ◌≡◌ {A = ℕ} 0 1 = cc in omega arith)
-    go text.Accepted false false (header g) q = let z : h ≡ header_of t (right d speed) g = cc in rw z refl
+    go (Err y) long short x q = absurd (let z : ◌≡◌ {A = ℕ} 0 1 = cc in omega arith)
+    go (Ok tt) true short x q = absurd (let z : ◌≡◌ {A = ℕ} 0 1 = cc in omega arith)
+    go (Ok tt) false true x q = absurd (let z : ◌≡◌ {A = ℕ} 0 1 = cc in omega arith)
+    go (Ok tt) false false (no_base k) q = absurd (let z : ◌≡◌ {A = ℕ} 0 1 = cc in omega arith)
+    go (Ok tt) false false no_candidate q = absurd (let z : ◌≡◌ {A = ℕ} 0 1 = cc in omega arith)
+    go (Ok tt) false false (more_rows n) q = absurd (let z : ◌≡◌ {A = ℕ} 0 1 = cc in omega arith)
+    go (Ok tt) false false (header g) q = let z : h ≡ header_of t (right d speed) g = cc in rw z refl

@@ -16,8 +16,10 @@ use Rattle.header_rules.proofs.Accepted.{accepted_one, accepted_enough}
 use Rattle.header_rules.proofs.Named.{Named, candidates-named}
 use Rattle.header_rules.proofs.Run.{every_split}
 use Rattle.header_rules.proofs.Told.{told-says, told_demanded}
-use Rattle.header.specs.declared.Decoded.{Decoded}
 use Rattle.header.specs.Decode.{of_told, key_of, told_of, decoded, table_after, number_in, values_in, number_told, values_told, Within, ByReadings, Decodes}
+use Rattle.std.specs.Prelude.{Result}
+use Rattle.header.specs.declared.DecodedHeader.{DecodedHeader}
+use Rattle.refusal.specs.declared.Refusal.{Refusal}
 
 -- an answer's number and values are those of what is told
 number-told : (t : List ℕ) (ok : Bool) (x : Told) → number_in (of_told t ok x) ≡ number_told x
@@ -53,7 +55,7 @@ module _ (t d : List ℕ) (region speed : ℕ) (table : List ℕ) where
       omega (arith, n, s.needed, s.more)
   never-eight w room (header h) s e = omega arith
 
-  module _ (r : Decoded) (table' : List ℕ) (e : r ≡ decoded t d region speed (length table))
+  module _ (r : Result DecodedHeader Refusal) (table' : List ℕ) (e : r ≡ decoded t d region speed (length table))
       (rows : table' ≡ table_after table (told_of t d region speed (length table)) r) where
     by_readings : Within t d → ByReadings t d region speed table r table'
     by_readings w =

@@ -1,12 +1,10 @@
 // The header of an MPDU, by a frame text. Counterpart of `decode_header` of frame_definition/decode.rs.
 #![tactic(auto)]
 
-ghost use Rattle.std.specs.Prelude.{◌≡◌, ◌*◌, ◌≤◌, length};
+ghost use Rattle.std.specs.Prelude.{◌≡◌, ◌*◌, ◌≤◌, length, Some, Ok};
 ghost use Rattle.refusal.specs.Refusal.{most_frame};
-ghost use Rattle.text.specs.declared.Verdict.TheVariants.{Accepted};
 ghost use Rattle.frame_text.specs.Rules.{verdict};
 ghost use Rattle.frame_definition.specs.Find.{FindsBase};
-ghost use Rattle.frame_definition.specs.declared.Found.TheVariants.{At};
 ghost use Rattle.header_rules.specs.Told.{offset_of};
 ghost use Rattle.header_rules.specs.Table.{row_width};
 ghost use Rattle.header.specs.Decode.{decoded, Decodes};
@@ -15,14 +13,14 @@ ghost use Rattle.header.specs.Steps.{Ready, headed, rows_read, wanted_in, Shows,
 ghost use Rattle.header_candidates.specs.Read.{Roomy, base_of, HoldsBase};
 
 use crc::check_crc;
-use frame_definition::{Candidate, Flags, Found, base_key, find_base};
+use frame_definition::{Candidate, Flags, base_key, find_base};
 use frame_text::check_frame_text;
-use header_candidates::{Choice, Read, choose, read_base};
+use header_candidates::{Read, choose, read_base};
 use header_fields::LINE_WIDTH;
 use header_paths::{BitOffset, SCRATCH_WIDTH};
 use header_rows::{ROW_WIDTH, write_row, write_rows};
 use refusal::{MOST_FRAME, Refusal};
-use text::{Part, Place, Verdict};
+use text::{Part, Place};
 
 // The numbers of a table that has room for every header: 128 rows are enough (`enough` of `ByReadings`).
 pub const MOST_NUMBERS: usize = 128 * ROW_WIDTH;
@@ -38,12 +36,6 @@ pub struct DecodedHeader {
     pub payload: u64,
     pub right: bool,
     pub rows: usize,
-}
-
-#[derive(Clone, Copy)]
-pub enum Decoded {
-    Header(DecodedHeader),
-    Refused(Refusal),
 }
 
 // Which rows of a header are wanted in the table: all of them, none, or the one of a number, from 0. Each stands in its place.
@@ -90,7 +82,7 @@ fn write_wanted(
     wanted: Wanted,
     rows: &mut [u64],
 )
-    requires { (verdict text.now ≡ Accepted) × (Ready fields.now scratch.now read) × (read.rows * row_width ≤ length rows.old) }
+    requires { (verdict text.now ≡ Ok tt) × (Ready fields.now scratch.now read) × (read.rows * row_width ≤ length rows.old) }
     ensures { rows.new
         ≡ wanted_in wanted rows.old (rows_read text.now fields.now scratch.now read) }
 {
@@ -114,16 +106,16 @@ fn show(
     header: DecodedHeader,
     wanted: Wanted,
     rows: &mut [u64],
-) -> Decoded
-    requires { (verdict text.now ≡ Accepted) × (Ready fields.now scratch.now read) }
+) -> Result<DecodedHeader, Refusal>
+    requires { (verdict text.now ≡ Ok tt) × (Ready fields.now scratch.now read) }
     ensures { Shows text.now fields.now scratch.now read header wanted rows.old result rows.new }
 {
     let n = read.rows;
     if rows.len() / ROW_WIDTH < n {
-        return Decoded::Refused(Refusal::MoreRows(n));
+        return Err(Refusal::MoreRows(n));
     }
     write_wanted(text, fields, scratch, read, wanted, rows);
-    Decoded::Header(header)
+    Ok(header)
 }
 
 // What is sought: the base key, at a speed, and which rows are to be written.
@@ -143,15 +135,14 @@ fn pick(
     scratch: &mut [u64],
     base: Read,
     rows: &mut [u64],
-) -> Decoded
-    requires text_value { verdict text.now ≡ Accepted }
+) -> Result<DecodedHeader, Refusal>
+    requires text_value { verdict text.now ≡ Ok tt }
     requires roomy { (Roomy mpdu.now fields.old scratch.old) × (HoldsBase text.now mpdu.now fields.old scratch.old base) }
     ensures { Picks text.now mpdu.now sought.speed sought.key (base_of text.now fields.old base)
         sought.wanted rows.old result rows.new }
 {
-    let Choice::At { candidate, read } = choose(text, mpdu, sought.key, fields, scratch, base)
-    else {
-        return Decoded::Refused(Refusal::NoCandidate);
+    let Some((candidate, read)) = choose(text, mpdu, sought.key, fields, scratch, base) else {
+        return Err(Refusal::NoCandidate);
     };
     let right = check_crc(mpdu, sought.speed);
     let header = heading_of(candidate, read, right);
@@ -167,9 +158,9 @@ fn read_header(
     start: Place,
     n: usize,
     rows: &mut [u64],
-) -> Decoded
-    requires text_value { (verdict text.now ≡ Accepted) × (length mpdu.now ≤ most_frame) }
-    requires finds_base { FindsBase text.now sought.key (At start n) }
+) -> Result<DecodedHeader, Refusal>
+    requires text_value { (verdict text.now ≡ Ok tt) × (length mpdu.now ≤ most_frame) }
+    requires finds_base { FindsBase text.now sought.key (Some (start, n)) }
     ensures { Reads text.now mpdu.now sought.speed sought.key sought.wanted rows.old result
         rows.new }
 {
@@ -187,19 +178,19 @@ fn decode_by(
     speed: u64,
     wanted: Wanted,
     rows: &mut [u64],
-) -> Decoded
-    requires { verdict text.now ≡ Accepted }
+) -> Result<DecodedHeader, Refusal>
+    requires { verdict text.now ≡ Ok tt }
     ensures { Answers text.now mpdu.now region speed wanted rows.old result rows.new }
 {
     if MOST_FRAME < mpdu.len() {
-        return Decoded::Refused(Refusal::TooLong(mpdu.len()));
+        return Err(Refusal::TooLong(mpdu.len()));
     }
     if mpdu.len() < 2 {
-        return Decoded::Refused(Refusal::TooShort(mpdu.len()));
+        return Err(Refusal::TooShort(mpdu.len()));
     }
     let key = base_key(text, region, speed);
-    let Found::At { place, params } = find_base(text, key as u64) else {
-        return Decoded::Refused(Refusal::NoBase(key as usize));
+    let Some((place, params)) = find_base(text, key as u64) else {
+        return Err(Refusal::NoBase(key as usize));
     };
     let sought = Sought {
         key: key as u64,
@@ -216,8 +207,8 @@ pub fn decode_accepted(
     region: u64,
     speed: u64,
     rows: &mut [u64],
-) -> Decoded
-    requires { verdict text.now ≡ Accepted }
+) -> Result<DecodedHeader, Refusal>
+    requires { verdict text.now ≡ Ok tt }
     ensures { Decodes text.now mpdu.now region speed rows.old result rows.new }
 {
     decode_by(text, mpdu, region, speed, Wanted::All, rows)
@@ -231,16 +222,21 @@ pub fn decode_row(
     speed: u64,
     row: usize,
     rows: &mut [u64],
-) -> Decoded
-    requires { verdict text.now ≡ Accepted }
+) -> Result<DecodedHeader, Refusal>
+    requires { verdict text.now ≡ Ok tt }
     ensures { Answers text.now mpdu.now region speed (One row) rows.old result rows.new }
 {
     decode_by(text, mpdu, region, speed, Wanted::One(row), rows)
 }
 
 // What `decode_accepted` answers for a table that has room for every header. No row is written, nor its symbol looked up.
-pub fn identify_accepted(text: &[u8], mpdu: &[u8], region: u64, speed: u64) -> Decoded
-    requires { verdict text.now ≡ Accepted }
+pub fn identify_accepted(
+    text: &[u8],
+    mpdu: &[u8],
+    region: u64,
+    speed: u64,
+) -> Result<DecodedHeader, Refusal>
+    requires { verdict text.now ≡ Ok tt }
     ensures { result ≡ decoded text.now mpdu.now region speed (128 * row_width) }
 {
     let mut rows = [0u64; MOST_NUMBERS];
@@ -248,11 +244,17 @@ pub fn identify_accepted(text: &[u8], mpdu: &[u8], region: u64, speed: u64) -> D
 }
 
 // The header of an MPDU, its rows in the table; or refusal 1 to 8. A refusal writes nothing, an answer nothing past its last row.
-pub fn decode_header(text: &[u8], mpdu: &[u8], region: u64, speed: u64, rows: &mut [u64]) -> Decoded
+pub fn decode_header(
+    text: &[u8],
+    mpdu: &[u8],
+    region: u64,
+    speed: u64,
+    rows: &mut [u64],
+) -> Result<DecodedHeader, Refusal>
     ensures { Decodes text.now mpdu.now region speed rows.old result rows.new }
 {
     match check_frame_text(text) {
-        Verdict::Accepted => decode_accepted(text, mpdu, region, speed, rows),
-        Verdict::Refused(refusal) => Decoded::Refused(refusal),
+        Ok(()) => decode_accepted(text, mpdu, region, speed, rows),
+        Err(refusal) => Err(refusal),
     }
 }

@@ -12,7 +12,6 @@ use Rattle.laws.proofs.Bools.{and_right}
 use Rattle.text.specs.Print.{Every}
 use Rattle.text.specs.Records.{Readable}
 use Rattle.text.specs.declared.Place.{Place}
-use Rattle.text.specs.declared.Verdict.TheVariants.{Accepted}
 use Rattle.frame_text.specs.Rules.{rules, verdict}
 use Rattle.frame_definition.specs.Definition.{Numbered, Frame, below, params, validations, frames, definition, is_key, some?, candidates}
 use Rattle.frame_definition.specs.Find.{from, Counted, frame_of, IsCandidate, FindsCandidate}
@@ -20,8 +19,6 @@ use Rattle.frame_definition.specs.Leveled.{Leveled}
 use Rattle.frame_definition.proofs.Candidates.{counted_starts}
 use Rattle.frame_definition.proofs.Leveled.{candidates_leveled}
 use Rattle.frame_definition.specs.declared.Candidate.{Candidate}
-use Rattle.frame_definition.specs.declared.NextCandidate.{NextCandidate}
-use Rattle.frame_definition.specs.declared.NextCandidate.TheVariants as next
 use Rattle.header_fields.specs.Fields.{line_width, fields_from, fields_in}
 use Rattle.header_fields.specs.Load.{Loads}
 use Rattle.header_fields.proofs.Laws.{fields-length}
@@ -41,9 +38,7 @@ use Rattle.header_walk.specs.declared.Walked.{Walked}
 use Rattle.header_candidates.specs.Read.{Roomy, base_of, HoldsBase, ReadsBase, Kept, ReadsBehind}
 use Rattle.header_candidates.specs.Choose.{lines_at, holds_at, Tries, Chooses}
 use Rattle.header_candidates.specs.declared.Read.{Read}
-use Rattle.header_candidates.specs.declared.Held.{Held}
-use Rattle.header_candidates.specs.declared.Held.TheVariants.{Holds, Fails}
-use Rattle.header_candidates.specs.declared.Choice.TheVariants as choice
+use Rattle.std.specs.Prelude.{Option, Some, None, Ok}
 
 -- a candidate has a V
 pub candidate_some : (key : ℕ) (gs : List Frame) (f : Frame) (fs : List Frame) → candidates key gs ≡ f ∷ fs → some? f.validations ≡ true
@@ -122,16 +117,16 @@ module _ (t d : List ℕ) (p : Place) (n : ℕ) (fields₀ : List ℕ) (base : R
   is_held =
       test ∙ (rw (read.both.lines, read.both.rows) (flat-meets (base_of t fields₀ base) (lines_at t p n) d (validations (below (from t p)))))
 
-  pub tries_holds : b ≡ true → Tries t d p n fields₀ base fields scratch (Holds r)
+  pub tries_holds : b ≡ true → Tries t d p n fields₀ base fields scratch (Some r)
   tries_holds e = record { kept = read.kept; held_by = (sym is_held ∙ e, read.both) }
 
-  pub tries_fails : b ≡ false → Tries t d p n fields₀ base fields scratch Fails
+  pub tries_fails : b ≡ false → Tries t d p n fields₀ base fields scratch None
   tries_fails e = record { kept = read.kept; held_by = sym is_held ∙ e }
 
 -- the base alone rules it out
 pub tries_ruled : (t d : List ℕ) (p : Place) (n : ℕ) (fields scratch : List ℕ) (base : Read) (b : Bool) → HoldsBase t d fields scratch base
     → b ≡ ruled_out (name_of (fields_in t fields base.count)) (rows_in scratch base.rows) (validations (below (from t p))) → b ≡ true
-    → Tries t d p n fields base fields scratch Fails
+    → Tries t d p n fields base fields scratch None
 tries_ruled t d p n fields scratch base b holds test e =
     let ruled : ruled_out (name_of (base_of t fields base)) (base_walked (base_of t fields base) d).rows (validations (below (from t p))) ≡ true =
     rw holds.rows at (sym test ∙ e) in
@@ -162,7 +157,7 @@ pub record Choosing (t d : List ℕ) (key : ℕ) (fields₀ scratch₀ : List �
   pub left : answer 7 d (trees (base_of t fields₀ base)) (candidates_of key (definition t))
       ≡ answer 7 d (trees (base_of t fields₀ base)) (map candidate_of (candidates key (frames h n (from t p))))
 
-pub choosing_starts : (t d : List ℕ) (key : ℕ) (base : Read) (fields scratch : List ℕ) (p : Place) → verdict t ≡ Accepted → Roomy d fields scratch
+pub choosing_starts : (t d : List ℕ) (key : ℕ) (base : Read) (fields scratch : List ℕ) (p : Place) → verdict t ≡ Ok tt → Roomy d fields scratch
     → HoldsBase t d fields scratch base
     → p ≡ record { at = 0; line = 1 } → Choosing t d key fields scratch base fields scratch p 0 0
 choosing_starts t d key base fields scratch p accepted roomy holds e =
@@ -180,13 +175,13 @@ pub choosing_counted : (t d : List ℕ) (key : ℕ) (fields₀ scratch₀ : List
     → Choosing t d key fields₀ scratch₀ base fields scratch p h n → Counted t p h n
 choosing_counted t d key fields₀ scratch₀ base fields scratch p h n w = w.counted
 
-module _ (t d : List ℕ) (key : ℕ) (fields₀ scratch₀ : List ℕ) (base : Read) (fields scratch : List ℕ) (p : Place) (h n : ℕ) (r : NextCandidate)
+module _ (t d : List ℕ) (key : ℕ) (fields₀ scratch₀ : List ℕ) (base : Read) (fields scratch : List ℕ) (p : Place) (h n : ℕ) (r : Option Candidate)
     (w : Choosing t d key fields₀ scratch₀ base fields scratch p h n) (found : FindsCandidate t p key h n r) where
-  pub chooses_none : r ≡ next.Nothing → Chooses t d key (base_of t fields₀ base) fields scratch choice.Nothing
+  pub chooses_none : r ≡ None → Chooses t d key (base_of t fields₀ base) fields scratch None
   unfolding answer
   chooses_none e = let none_left : candidates key (frames h n (from t p)) ≡ [] = rw e at found in w.left ∙ rw none_left refl
 
-  module _ (c : Candidate) (e : r ≡ next.At c) where
+  module _ (c : Candidate) (e : r ≡ Some c) where
     abbrev is : IsCandidate t p key h n c
     is = rw e at found
 
@@ -218,16 +213,16 @@ module _ (t d : List ℕ) (key : ℕ) (fields₀ scratch₀ : List ℕ) (base : 
     pub candidate_on : length t - c.place.at < length t - p.at
     candidate_on = omega (arith, is.on, is.counted.readable.inn.at_in)
 
-    module _ (fields' scratch' : List ℕ) (x : Held) (tries : Tries t d c.place c.params fields base fields' scratch' x) where
+    module _ (fields' scratch' : List ℕ) (x : Option Read) (tries : Tries t d c.place c.params fields base fields' scratch' x) where
       same_base : base_of t fields base ≡ base_of t fields₀ base
       same_base = w.kept.lines
 
-      pub chooses_one : (o : Read) → x ≡ Holds o → Chooses t d key (base_of t fields₀ base) fields' scratch' (choice.At c o)
+      pub chooses_one : (o : Read) → x ≡ Some o → Chooses t d key (base_of t fields₀ base) fields' scratch' (Some (c, o))
       chooses_one o q =
           let by = rw (q, same_base) at tries.held_by in
           record { answer_is = decides true by.0; own = by.1; named = is.named }
 
-      pub choosing_more : length fields' ≡ length fields → length scratch' ≡ length scratch → x ≡ Fails
+      pub choosing_more : length fields' ≡ length fields → length scratch' ≡ length scratch → x ≡ None
           → Choosing t d key fields₀ scratch₀ base fields' scratch' c.place (c.number + 1) c.params
       choosing_more same-fields same_scratch q =
           let by = rw (q, same_base) at tries.held_by in

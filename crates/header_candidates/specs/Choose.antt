@@ -1,5 +1,5 @@
 -- The candidate that is chosen.
-use Rattle.std.specs.Prelude.{◌≡◌, Bool, true, false, List, ℕ}
+use Rattle.std.specs.Prelude.{◌≡◌, Bool, true, false, List, ℕ, Option, Some, None}
 use Rattle.text.specs.declared.Place.{Place}
 use Rattle.frame_definition.specs.Definition.{Numbered, below, params, validations, definition}
 use Rattle.frame_definition.specs.Names.{header_name}
@@ -11,10 +11,6 @@ use Rattle.header_rules.specs.Trees.{trees, candidate_of}
 use Rattle.header_rules.specs.Told.{candidates_of}
 use Rattle.header_candidates.specs.Read.{base_of, ReadsOwn, Kept}
 use Rattle.header_candidates.specs.declared.Read.{Read}
-use Rattle.header_candidates.specs.declared.Held.{Held}
-use Rattle.header_candidates.specs.declared.Held.TheVariants as held
-use Rattle.header_candidates.specs.declared.Choice.{Choice}
-use Rattle.header_candidates.specs.declared.Choice.TheVariants as choice
 
 -- the P lines under the owner of what follows p, after n P lines
 abbrev pub lines_at : List ℕ → Place → ℕ → List Numbered
@@ -24,12 +20,12 @@ lines_at t p n = params n (below (from t p))
 abbrev pub holds_at : List ℕ → List ℕ → List Numbered → Place → List Numbered → Bool
 holds_at t d bs p own = meets_all 7 d (reading 7 d (trees bs) (trees own)) (validations (below (from t p)))
 
-abbrev pub HeldBy : List ℕ → List ℕ → List Numbered → Place → ℕ → List ℕ → List ℕ → Held → Type 0
-HeldBy t d bs p n fields scratch (held.Holds r) = (holds_at t d bs p (lines_at t p n) ≡ true) × ReadsOwn t d bs (lines_at t p n) fields scratch r
-HeldBy t d bs p n fields scratch held.Fails = holds_at t d bs p (lines_at t p n) ≡ false
+abbrev pub HeldBy : List ℕ → List ℕ → List Numbered → Place → ℕ → List ℕ → List ℕ → Option Read → Type 0
+HeldBy t d bs p n fields scratch (Some r) = (holds_at t d bs p (lines_at t p n) ≡ true) × ReadsOwn t d bs (lines_at t p n) fields scratch r
+HeldBy t d bs p n fields scratch None = holds_at t d bs p (lines_at t p n) ≡ false
 
 -- what a candidate's trial answers, and leaves in the tables
-pub record Tries (t d : List ℕ) (p : Place) (n : ℕ) (fields₀ : List ℕ) (base : Read) (fields scratch : List ℕ) (r : Held) : Type 0 where
+pub record Tries (t d : List ℕ) (p : Place) (n : ℕ) (fields₀ : List ℕ) (base : Read) (fields scratch : List ℕ) (r : Option Read) : Type 0 where
   pub kept : Kept t d fields₀ base fields scratch
   pub held_by : HeldBy t d (base_of t fields₀ base) p n fields scratch r
 
@@ -41,6 +37,6 @@ pub record IsChosen (t d : List ℕ) (key : ℕ) (bs : List Numbered) (fields sc
   pub named : c.name ≡ header_name t c.number
 
 -- by cases of the choice
-abbrev pub Chooses : List ℕ → List ℕ → ℕ → List Numbered → List ℕ → List ℕ → Choice → Type 0
-Chooses t d key bs fields scratch (choice.At c r) = IsChosen t d key bs fields scratch c r
-Chooses t d key bs fields scratch choice.Nothing = answer 7 d (trees bs) (candidates_of key (definition t)) ≡ refused 7
+abbrev pub Chooses : List ℕ → List ℕ → ℕ → List Numbered → List ℕ → List ℕ → Option (Candidate × Read) → Type 0
+Chooses t d key bs fields scratch (Some (c, r)) = IsChosen t d key bs fields scratch c r
+Chooses t d key bs fields scratch None = answer 7 d (trees bs) (candidates_of key (definition t)) ≡ refused 7

@@ -2,14 +2,13 @@
 // frame_definition/decode.rs. One table has the loaded P lines, one the scratch rows: base first, then the candidate at hand.
 #![tactic(auto)]
 
-ghost use Rattle.std.specs.Prelude.{◌≡◌, ◌≤◌, length};
+ghost use Rattle.std.specs.Prelude.{◌≡◌, ◌≤◌, length, Ok};
 ghost use Rattle.text.specs.Records.{Readable};
-ghost use Rattle.text.specs.declared.Verdict.TheVariants.{Accepted};
 ghost use Rattle.frame_text.specs.Rules.{rules, verdict};
 ghost use Rattle.header_candidates.specs.Read.{Roomy, base_of, HoldsBase, ReadsBase, ReadsBehind};
 ghost use Rattle.header_candidates.specs.Choose.{lines_at, Tries, Chooses};
 
-use frame_definition::{Candidate, NextCandidate, next_candidate};
+use frame_definition::{Candidate, next_candidate};
 use header_fields::load_params;
 use header_paths::BitOffset;
 use header_validations::{is_ruled_out, meets_all};
@@ -22,20 +21,6 @@ pub struct Read {
     pub count: usize,
     pub bit: BitOffset,
     pub rows: usize,
-}
-
-// A candidate's trial: what was read, if all its V are met.
-#[derive(Clone, Copy)]
-pub enum Held {
-    Holds(Read),
-    Fails,
-}
-
-// The candidate that is chosen, and what was read.
-#[derive(Clone, Copy)]
-pub enum Choice {
-    At { candidate: Candidate, read: Read },
-    Nothing,
 }
 
 // Reads the fields of the base header, whose P lines follow the place, after n P lines of the text.
@@ -106,7 +91,7 @@ fn hold_candidate(
     fields: &mut [u64],
     scratch: &mut [u64],
     base: Read,
-) -> Held
+) -> Option<Read>
     requires readable { (Readable rules text.now start) × (n ≤ length text.now) × (length (lines_at text.now start n) ≤ 64) }
     requires roomy { (Roomy mpdu.now fields.old scratch.old) × (HoldsBase text.now mpdu.now fields.old scratch.old base) }
     ensures { Tries text.now mpdu.now start n fields.old base fields.new scratch.new result }
@@ -120,9 +105,9 @@ fn hold_candidate(
         &scratch[..],
         read.rows,
     ) {
-        return Held::Holds(read);
+        return Some(read);
     }
-    Held::Fails
+    None
 }
 
 // The same. A V that finds another value in the base's rows decides before the candidate is read.
@@ -134,7 +119,7 @@ fn try_candidate(
     fields: &mut [u64],
     scratch: &mut [u64],
     base: Read,
-) -> Held
+) -> Option<Read>
     requires readable { (Readable rules text.now start) × (n ≤ length text.now) × (length (lines_at text.now start n) ≤ 64) }
     requires roomy { (Roomy mpdu.now fields.old scratch.old) × (HoldsBase text.now mpdu.now fields.old scratch.old base) }
     ensures { Tries text.now mpdu.now start n fields.old base fields.new scratch.new result }
@@ -147,7 +132,7 @@ fn try_candidate(
         &scratch[..],
         base.rows,
     ) {
-        return Held::Fails;
+        return None;
     }
     hold_candidate(text, mpdu, start, n, fields, scratch, base)
 }
@@ -160,8 +145,8 @@ pub fn choose(
     fields: &mut [u64],
     scratch: &mut [u64],
     base: Read,
-) -> Choice
-    requires text_value { verdict text.now ≡ Accepted }
+) -> Option<(Candidate, Read)>
+    requires text_value { verdict text.now ≡ Ok tt }
     requires roomy { (Roomy mpdu.now fields.old scratch.old) × (HoldsBase text.now mpdu.now fields.old scratch.old base) }
     ensures { Chooses text.now mpdu.now key (base_of text.now fields.old base) fields.new
         scratch.new result }
@@ -170,15 +155,15 @@ pub fn choose(
     let mut h: usize = 0;
     let mut n: usize = 0;
     loop {
-        let NextCandidate::At(candidate) = next_candidate(text, place, key, h, n) else {
-            return Choice::Nothing;
+        let Some(candidate) = next_candidate(text, place, key, h, n) else {
+            return None;
         };
         place = candidate.place;
         h = candidate.number + 1;
         n = candidate.params;
-        let Held::Holds(read) = try_candidate(text, mpdu, place, n, fields, scratch, base) else {
+        let Some(read) = try_candidate(text, mpdu, place, n, fields, scratch, base) else {
             continue;
         };
-        return Choice::At { candidate, read };
+        return Some((candidate, read));
     }
 }

@@ -1,7 +1,6 @@
 -- Laws of the candidate that is named, and of its rows. Assumes nothing.
 use mathlib.Core.Path.{◌≡◌, refl, sym, ap, ◌∙◌}
 use mathlib.Core.List.{List, [], ◌∷◌, map}
-use mathlib.Core.Option.{none, some}
 use Prim.Native.Nat.{ℕ, suc, ◌+◌, ◌-◌, ◌*◌, ◌≤◌, ◌<◌}
 use native.Mathlib.Numerals.{add-one}
 use native.Mathlib.Omega.{arith}
@@ -13,7 +12,6 @@ use Rattle.rows.specs.Rows.{laid}
 use Rattle.text.specs.Print.{Every}
 use Rattle.text.specs.Records.{Readable}
 use Rattle.text.specs.declared.Place.{Place}
-use Rattle.text.specs.declared.Verdict.TheVariants.{Accepted}
 use Rattle.frame_text.specs.Rules.{rules, verdict}
 use Rattle.frame_definition.specs.Definition.{Numbered, Frame, frames, definition, first_base, candidates}
 use Rattle.frame_definition.specs.Find.{from, FindsBase, Counted, frame_of, IsCandidate, FindsCandidate}
@@ -21,10 +19,6 @@ use Rattle.frame_definition.specs.Leveled.{Leveled}
 use Rattle.frame_definition.proofs.Candidates.{counted_starts}
 use Rattle.frame_definition.proofs.Leveled.{base_leveled, candidates_leveled}
 use Rattle.frame_definition.specs.declared.Candidate.{Candidate}
-use Rattle.frame_definition.specs.declared.NextCandidate.{NextCandidate}
-use Rattle.frame_definition.specs.declared.NextCandidate.TheVariants as next
-use Rattle.frame_definition.specs.declared.Found.{Found}
-use Rattle.frame_definition.specs.declared.Found.TheVariants as found
 use Rattle.header_fields.specs.Fields.{line_width, fields_in}
 use Rattle.header_rules.specs.Table.{row_width}
 use Rattle.header_rules.specs.Loaded.{shown}
@@ -37,7 +31,7 @@ use Rattle.header_candidates.specs.Read.{base_of, HoldsBase, ReadsBase, ReadsBeh
 use Rattle.header_candidates.specs.Choose.{lines_at}
 use Rattle.header_candidates.specs.declared.Read.{Read}
 use Rattle.header_named.specs.Named.{named, IsNamed, FindsNamed, rows_of, Gives, ReadsNamed}
-use Rattle.header_named.specs.declared.Named.TheVariants.{Rows, Nothing}
+use Rattle.std.specs.Prelude.{Option, Some, None, Ok}
 
 -- ---- candidate by candidate: what is left decides
 pub record Naming (t : List ℕ) (key number : ℕ) (p : Place) (h n : ℕ) : Type 0 where
@@ -45,19 +39,19 @@ pub record Naming (t : List ℕ) (key number : ℕ) (p : Place) (h n : ℕ) : Ty
   pub leveled : Every (λ (f : Frame). Leveled f.params) (candidates key (frames h n (from t p)))
   pub left : named number (candidates_of key (definition t)) ≡ named number (map candidate_of (candidates key (frames h n (from t p))))
 
-pub naming_starts : (t : List ℕ) (key number : ℕ) (p : Place) → verdict t ≡ Accepted → p ≡ record { at = 0; line = 1 } → Naming t key number p 0 0
+pub naming_starts : (t : List ℕ) (key number : ℕ) (p : Place) → verdict t ≡ Ok tt → p ≡ record { at = 0; line = 1 } → Naming t key number p 0 0
 naming_starts t key number p accepted e =
     rw e (record { counted = counted_starts t _ accepted refl; leveled = candidates_leveled t key accepted; left = refl })
 
 pub naming_counted : (t : List ℕ) (key number : ℕ) (p : Place) (h n : ℕ) → Naming t key number p h n → Counted t p h n
 naming_counted t key number p h n w = w.counted
 
-module _ (t : List ℕ) (key number : ℕ) (p : Place) (h n : ℕ) (r : NextCandidate) (w : Naming t key number p h n)
+module _ (t : List ℕ) (key number : ℕ) (p : Place) (h n : ℕ) (r : Option Candidate) (w : Naming t key number p h n)
     (finds : FindsCandidate t p key h n r) where
-  pub naming_none : r ≡ next.Nothing → FindsNamed t key number next.Nothing
+  pub naming_none : r ≡ None → FindsNamed t key number None
   naming_none e = let none_left : candidates key (frames h n (from t p)) ≡ [] = rw e at finds in w.left ∙ rw none_left refl
 
-  module _ (c : Candidate) (e : r ≡ next.At c) where
+  module _ (c : Candidate) (e : r ≡ Some c) where
     abbrev is : IsCandidate t p key h n c
     is = rw e at finds
 
@@ -67,7 +61,7 @@ module _ (t : List ℕ) (key number : ℕ) (p : Place) (h n : ℕ) (r : NextCand
     levels : Every (λ (f : Frame). Leveled f.params) (frame_of t key c ∷ rest)
     levels = rw is.first at w.leveled
 
-    pub naming_here : c.number ≡ number → FindsNamed t key number (next.At c)
+    pub naming_here : c.number ≡ number → FindsNamed t key number (Some c)
     naming_here q =
         record {
           one_is = w.left ∙ rw (is.first, eq-eqb c.number number q) refl;
@@ -128,15 +122,15 @@ pub base_holds : (t d : List ℕ) (ps : List Numbered) (fields scratch : List �
 base_holds t d ps fields scratch base r = r.holds
 
 -- ---- the call
-module _ (t : List ℕ) (key : ℕ) (f : Found) (finds : FindsBase t key f) where
-  pub no_base : (d : List ℕ) (number : ℕ) (table : List ℕ) → f ≡ found.Nothing → ReadsNamed t d key number table Nothing table
+module _ (t : List ℕ) (key : ℕ) (f : Option (Place × ℕ)) (finds : FindsBase t key f) where
+  pub no_base : (d : List ℕ) (number : ℕ) (table : List ℕ) → f ≡ None → ReadsNamed t d key number table None table
   no_base d number table e b q =
-      let none_is : first_base key (definition t).bases ≡ none = rw e at finds in
-      let z : ◌≡◌ (some b) none = sym q ∙ none_is in
+      let none_is : first_base key (definition t).bases ≡ None = rw e at finds in
+      let z : ◌≡◌ (Some b) None = sym q ∙ none_is in
       absurd (let w : ◌≡◌ {A = ℕ} 0 1 = cc in omega arith)
 
-  module _ (p : Place) (n : ℕ) (e : f ≡ found.At p n) where
-    abbrev at_base : FindsBase t key (found.At p n)
+  module _ (p : Place) (n : ℕ) (e : f ≡ Some (p, n)) where
+    abbrev at_base : FindsBase t key (Some (p, n))
     at_base = rw e at finds
 
     pub base_readable : Readable rules t p
@@ -145,10 +139,10 @@ module _ (t : List ℕ) (key : ℕ) (f : Found) (finds : FindsBase t key f) wher
     pub base_before : n ≤ length t
     base_before = at_base.2
 
-    pub base_few : verdict t ≡ Accepted → length (lines_at t p n) ≤ 64
+    pub base_few : verdict t ≡ Ok tt → length (lines_at t p n) ≤ 64
     base_few accepted = (base_leveled t key (record { key = key; params = lines_at t p n }) accepted at_base.0).few
 
-    module _ (number : ℕ) (x : NextCandidate) (c : Candidate) (names : FindsNamed t key number x) (q : x ≡ next.At c) where
+    module _ (number : ℕ) (x : Option Candidate) (c : Candidate) (names : FindsNamed t key number x) (q : x ≡ Some c) where
       abbrev one : IsNamed t key number c
       one = rw q at names
 
@@ -163,11 +157,11 @@ module _ (t : List ℕ) (key : ℕ) (f : Found) (finds : FindsBase t key f) wher
 
       pub named_reads : (d table : List ℕ) (r : ℕ) (table' : List ℕ)
           → Gives (rows_of t d (trees (lines_at t p n)) (trees (lines_at t c.place c.params))) table r table'
-          → ReadsNamed t d key number table (Rows r) table'
+          → ReadsNamed t d key number table (Some r) table'
       named_reads d table r table' gives = record { base = _; base_is = at_base.0; one = _; one_is = one.one_is; gives = gives }
 
-pub named_none : (t d : List ℕ) (key number : ℕ) (x : NextCandidate) (table : List ℕ) → FindsNamed t key number x → x ≡ next.Nothing
-    → ReadsNamed t d key number table Nothing table
+pub named_none : (t d : List ℕ) (key number : ℕ) (x : Option Candidate) (table : List ℕ) → FindsNamed t key number x → x ≡ None
+    → ReadsNamed t d key number table None table
 named_none t d key number x table names e b q = rw e at names
 
 pub ruleset laws = (

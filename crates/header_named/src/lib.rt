@@ -1,10 +1,9 @@
 // The rows of one candidate that is named, whether it holds or not.
 #![tactic(auto)]
 
-ghost use Rattle.std.specs.Prelude.{◌≡◌, ◌*◌, ◌≤◌, length};
+ghost use Rattle.std.specs.Prelude.{◌≡◌, ◌*◌, ◌≤◌, length, Ok};
 ghost use Rattle.refusal.specs.Refusal.{most_frame};
 ghost use Rattle.text.specs.Records.{Readable};
-ghost use Rattle.text.specs.declared.Verdict.TheVariants.{Accepted};
 ghost use Rattle.frame_text.specs.Rules.{rules, verdict};
 ghost use Rattle.header_rules.specs.Table.{row_width};
 ghost use Rattle.header_rules.specs.Trees.{trees};
@@ -12,34 +11,27 @@ ghost use Rattle.header_candidates.specs.Read.{Roomy, base_of, HoldsBase};
 ghost use Rattle.header_candidates.specs.Choose.{lines_at};
 ghost use Rattle.header_named.specs.Named.{FindsNamed, rows_of, Gives, ReadsNamed};
 
-use frame_definition::{Found, NextCandidate, find_base, next_candidate};
+use frame_definition::{find_base, next_candidate};
 use header_candidates::{Read, read_base, read_own};
 use header_fields::LINE_WIDTH;
 use header_paths::SCRATCH_WIDTH;
 use header_rows::write_rows;
 use text::Place;
 
-// How many rows the candidate has, or that there is none.
-#[derive(Clone, Copy)]
-pub enum Named {
-    Rows(usize),
-    Nothing,
-}
-
 // The candidate for a base key that has this number among the H lines.
-fn find_named(text: &[u8], key: u64, number: u64) -> NextCandidate
-    requires { verdict text.now ≡ Accepted }
+fn find_named(text: &[u8], key: u64, number: u64) -> Option<Candidate>
+    requires { verdict text.now ≡ Ok tt }
     ensures { FindsNamed text.now key number result }
 {
     let mut place = Place::start();
     let mut h: usize = 0;
     let mut n: usize = 0;
     loop {
-        let NextCandidate::At(candidate) = next_candidate(text, place, key, h, n) else {
-            return NextCandidate::Nothing;
+        let Some(candidate) = next_candidate(text, place, key, h, n) else {
+            return None;
         };
         if candidate.number as u64 == number {
-            return NextCandidate::At(candidate);
+            return Some(candidate);
         }
         place = candidate.place;
         h = candidate.number + 1;
@@ -64,7 +56,7 @@ fn read_behind(
     base: Read,
     rows: &mut [u64],
 ) -> usize
-    requires text_value { (verdict text.now ≡ Accepted) × (128 * row_width ≤ length rows.old) }
+    requires text_value { (verdict text.now ≡ Ok tt) × (128 * row_width ≤ length rows.old) }
     requires readable { (Readable rules text.now lines.place) × (lines.params ≤ length text.now)
         × (length (lines_at text.now lines.place lines.params) ≤ 64) }
     requires roomy { (Roomy mpdu.now fields.old scratch.old) × (HoldsBase text.now mpdu.now fields.old scratch.old base) }
@@ -80,7 +72,7 @@ fn read_behind(
 
 // Reads a base and a candidate behind it, and writes their rows into the table.
 fn read_rows(text: &[u8], mpdu: &[u8], first: Lines, second: Lines, rows: &mut [u64]) -> usize
-    requires text_value { (verdict text.now ≡ Accepted) × (length mpdu.now ≤ most_frame) × (128 * row_width ≤ length rows.old) }
+    requires text_value { (verdict text.now ≡ Ok tt) × (length mpdu.now ≤ most_frame) × (128 * row_width ≤ length rows.old) }
     requires readable { (Readable rules text.now first.place) × (first.params ≤ length text.now)
         × (length (lines_at text.now first.place first.params) ≤ 64) }
     requires readable_2 { (Readable rules text.now second.place) × (second.params ≤ length text.now)
@@ -97,15 +89,21 @@ fn read_rows(text: &[u8], mpdu: &[u8], first: Lines, second: Lines, rows: &mut [
 }
 
 // Writes the rows of the candidate for a base key that has this number into the table, whether it holds or not.
-pub fn read_named(text: &[u8], mpdu: &[u8], key: u64, number: u64, rows: &mut [u64]) -> Named
-    requires { (verdict text.now ≡ Accepted) × (length mpdu.now ≤ most_frame) × (128 * row_width ≤ length rows.old) }
+pub fn read_named(
+    text: &[u8],
+    mpdu: &[u8],
+    key: u64,
+    number: u64,
+    rows: &mut [u64],
+) -> Option<usize>
+    requires { (verdict text.now ≡ Ok tt) × (length mpdu.now ≤ most_frame) × (128 * row_width ≤ length rows.old) }
     ensures { ReadsNamed text.now mpdu.now key number rows.old result rows.new }
 {
-    let Found::At { place, params } = find_base(text, key) else {
-        return Named::Nothing;
+    let Some((place, params)) = find_base(text, key) else {
+        return None;
     };
-    let NextCandidate::At(candidate) = find_named(text, key, number) else {
-        return Named::Nothing;
+    let Some(candidate) = find_named(text, key, number) else {
+        return None;
     };
     let behind = candidate.place;
     let first = Lines { place, params };
@@ -113,5 +111,5 @@ pub fn read_named(text: &[u8], mpdu: &[u8], key: u64, number: u64, rows: &mut [u
         place: behind,
         params: candidate.params,
     };
-    Named::Rows(read_rows(text, mpdu, first, second, rows))
+    Some(read_rows(text, mpdu, first, second, rows))
 }

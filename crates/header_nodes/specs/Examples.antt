@@ -1,5 +1,5 @@
 -- A mask of two bytes in a header: rows that are such fields, and rows that are none.
-use Rattle.std.specs.Prelude.{◌≡◌, refl, List, [], ◌∷◌, ℕ}
+use Rattle.std.specs.Prelude.{◌≡◌, refl, List, [], ◌∷◌, ℕ, Result, Ok, Err}
 use Rattle.refusal.specs.declared.Refusal.TheVariants.{TooShort, MoreRows}
 use Rattle.frame_definition.specs.Definition.{param_numbered}
 use Rattle.frame_definition.specs.Names.{header_name}
@@ -14,10 +14,9 @@ use Rattle.header_rules.specs.Trees.{of_level, kids, trees}
 use Rattle.header_rules.specs.Table.{numbers_of, inner_table, table_from, rows_each}
 use Rattle.header_rules.specs.Told.{told}
 use Rattle.node_mask.specs.Nodes.{nodes_from, nodes_of}
-use Rattle.node_mask.specs.declared.Listed.{Listed}
-use Rattle.node_mask.specs.declared.Listed.TheVariants.{Nodes, Refused}
 use Rattle.header_nodes.specs.Fields.{param_type, is_mask, mask_at}
 use Rattle.header_nodes.specs.Answer.{no_such_field, answer_of, rows_of, of_decoded}
+use Rattle.refusal.specs.declared.Refusal.{Refusal}
 
 -- `B|0/P|0|0|16|BITMASK|Mask|-|-|-/P|0|1|8|HEX|Type|-|-|-/P|1|0|4|BITMASK|Low|-|-|-/H|0|0|0000|x/V|Type|3/`, | a tab and / a line end
 abbrev text : List ℕ
@@ -31,12 +30,12 @@ text =
     ∷ 48 ∷ 9 ∷ 48 ∷ 48 ∷ 48 ∷ 48 ∷ 9 ∷ 120 ∷ 10 ∷ 86 ∷ 9 ∷ 84 ∷ 121 ∷ 112 ∷ 101 ∷ 9 ∷ 51 ∷ 10 ∷ []
 
 -- row k by a table of `room` nodes, of 05 80 03
-abbrev asked : ℕ → ℕ → Listed
+abbrev asked : ℕ → ℕ → Result ℕ Refusal
 asked k room = of_decoded text (0x05 ∷ 0x80 ∷ 0x03 ∷ []) (rows_of text (0x05 ∷ 0x80 ∷ 0x03 ∷ []) 0 0) k room
     (answer_of text (0x05 ∷ 0x80 ∷ 0x03 ∷ []) 0 0)
 
 -- the mask: 1, 3 and 16
-mask : asked 0 3 ≡ Nodes 3
+mask : asked 0 3 ≡ Ok 3
 unfolding answer_of rows_of is_mask param_type param_numbered nodes_of nodes_from told answer reading base_read listed exists packed inner_at ordered insert width_of
     value_at in_first through first_named value_of bits_at trees kids of_level table_from inner_table numbers_of rows_each right plus header_name
 mask = refl
@@ -47,7 +46,7 @@ unfolding answer_of rows_of is_mask param_type param_numbered nodes_of nodes_fro
 mask_nodes = refl
 
 -- a table of two nodes
-short : asked 0 2 ≡ Refused (MoreRows 3)
+short : asked 0 2 ≡ Err (MoreRows 3)
 unfolding answer_of rows_of is_mask param_type param_numbered nodes_of nodes_from told answer reading base_read listed exists packed inner_at ordered insert width_of
     value_at in_first through first_named value_of bits_at trees kids of_level table_from inner_table numbers_of rows_each right plus header_name
 short = refl
@@ -69,6 +68,6 @@ unfolding answer_of rows_of is_mask param_type param_numbered nodes_of nodes_fro
 past = refl
 
 -- one byte: refusal 5 comes before 11
-one_byte : of_decoded text (0x05 ∷ []) (rows_of text (0x05 ∷ []) 0 0) 7 0 (answer_of text (0x05 ∷ []) 0 0) ≡ Refused (TooShort 1)
+one_byte : of_decoded text (0x05 ∷ []) (rows_of text (0x05 ∷ []) 0 0) 7 0 (answer_of text (0x05 ∷ []) 0 0) ≡ Err (TooShort 1)
 unfolding answer_of
 one_byte = refl

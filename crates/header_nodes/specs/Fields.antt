@@ -1,21 +1,18 @@
 -- BM2 (docs/RULES.md): which rows of a header are masks of nodes.
-use Rattle.std.specs.Prelude.{ℕ, ◌/◌, ◌%◌, Bool, true, false, ◌&&◌, List, eqb, take, drop}
-use Rattle.std.proofs.Math.Option.{Option, none, some}
+use Rattle.std.specs.Prelude.{ℕ, ◌/◌, ◌%◌, Bool, true, false, ◌&&◌, List, eqb, take, drop, Option, Some, None}
 use Rattle.frame_text.specs.Form.{Param}
 use Rattle.frame_text.specs.declared.ParamType.{ParamType}
 use Rattle.frame_text.specs.declared.ParamType.TheVariants.{Hex, Number, NumberSigned, NodeNumber, Boolean, Bitmask}
-use Rattle.frame_text.specs.declared.Typed.{Typed}
-use Rattle.frame_text.specs.declared.Typed.TheVariants.{Is, Not}
 use Rattle.frame_definition.specs.Definition.{param_numbered}
 use Rattle.header_rules.specs.Table.{cell, number_column, start_column, bits_column}
 
 -- the type of a P line, if there is one
-abbrev pub type_in : Option Param → Typed
-type_in none = Not
-type_in (some p) = Is p.type
+abbrev pub type_in : Option Param → Option ParamType
+type_in None = None
+type_in (Some p) = Some p.type
 
 -- BM2: the type of the P line of number k, as the text says it
-unfoldable pub param_type : List ℕ → ℕ → Typed
+unfoldable pub param_type : List ℕ → ℕ → Option ParamType
 param_type t k = type_in (param_numbered t k)
 
 abbrev pub is_bitmask : ParamType → Bool
@@ -26,9 +23,9 @@ is_bitmask NodeNumber = false
 is_bitmask Boolean = false
 is_bitmask Bitmask = true
 
-abbrev pub is_typed : Typed → Bool
-is_typed (Is kind) = is_bitmask kind
-is_typed Not = false
+abbrev pub is_typed : Option ParamType → Bool
+is_typed (Some kind) = is_bitmask kind
+is_typed None = false
 
 -- so many bits are whole bytes
 abbrev pub whole_bytes : ℕ → Bool

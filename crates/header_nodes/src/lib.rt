@@ -2,33 +2,31 @@
 // for must be a BITMASK of whole bytes at a whole byte.
 #![tactic(auto)]
 
-ghost use Rattle.std.specs.Prelude.{◌≡◌, ◌+◌, ◌*◌, ◌≤◌, length};
-ghost use Rattle.text.specs.declared.Verdict.TheVariants.{Accepted};
+ghost use Rattle.std.specs.Prelude.{◌≡◌, ◌+◌, ◌*◌, ◌≤◌, length, Ok};
 ghost use Rattle.frame_text.specs.Rules.{verdict};
 ghost use Rattle.header_rules.specs.Table.{row_width};
 ghost use Rattle.header_nodes.specs.Fields.{param_type, is_bitmask, is_typed, is_mask};
 ghost use Rattle.header_nodes.specs.Answer.{RowNodes, LentNodes, HeaderNodes};
 
-use frame_definition::{NextParam, find_param};
-use frame_text::{ParamType, Typed, check_frame_text};
-use header::{Decoded, MOST_NUMBERS, decode_accepted};
+use frame_definition::find_param;
+use frame_text::{ParamType, check_frame_text};
+use header::{MOST_NUMBERS, decode_accepted};
 use header_paths::part_of;
 use header_rows::{BITS, NUMBER, ROW_WIDTH, START};
-use node_mask::{Listed, mask_nodes};
+use node_mask::mask_nodes;
 use refusal::Refusal;
-use text::Verdict;
 
 // The type of the P line of this number.
-pub fn param_type(text: &[u8], number: u64) -> Typed
-    requires { verdict text.now ≡ Accepted }
+pub fn param_type(text: &[u8], number: u64) -> Option<ParamType>
+    requires { verdict text.now ≡ Ok tt }
     ensures { result ≡ param_type text.now number }
 {
     match find_param(text, number) {
-        NextParam::At { field, place: _ } => {
+        Some((field, _)) => {
             let kind = field.kind;
-            Typed::Is(kind)
+            Some(kind)
         }
-        NextParam::Nothing => Typed::Not,
+        None => None,
     }
 }
 
@@ -45,18 +43,18 @@ fn is_bitmask(kind: ParamType) -> bool
     }
 }
 
-fn is_typed(typed: Typed) -> bool
+fn is_typed(typed: Option<ParamType>) -> bool
     ensures { result ≡ is_typed typed }
 {
     match typed {
-        Typed::Is(kind) => is_bitmask(kind),
-        Typed::Not => false,
+        Some(kind) => is_bitmask(kind),
+        None => false,
     }
 }
 
 // Is it such a field, of the P line of this number, with so many bits from the bit `start` on?
 fn is_mask(text: &[u8], number: u64, start: u64, bits: u64) -> bool
-    requires { verdict text.now ≡ Accepted }
+    requires { verdict text.now ≡ Ok tt }
     ensures { result ≡ is_mask text.now number start bits }
 {
     if start % 8 != 0 {
@@ -69,8 +67,14 @@ fn is_mask(text: &[u8], number: u64, start: u64, bits: u64) -> bool
 }
 
 // The nodes of a row of a header by a text that is accepted; or refusal 11 or 8.
-fn nodes_of_row(text: &[u8], mpdu: &[u8], rows: &[u64], row: usize, nodes: &mut [u16]) -> Listed
-    requires { (verdict text.now ≡ Accepted) × (row * row_width + row_width ≤ length rows.now) }
+fn nodes_of_row(
+    text: &[u8],
+    mpdu: &[u8],
+    rows: &[u64],
+    row: usize,
+    nodes: &mut [u16],
+) -> Result<usize, Refusal>
+    requires { (verdict text.now ≡ Ok tt) × (row * row_width + row_width ≤ length rows.now) }
     ensures { RowNodes text.now mpdu.now rows.now row nodes.old result nodes.new }
 {
     let at = row * ROW_WIDTH;
@@ -78,21 +82,27 @@ fn nodes_of_row(text: &[u8], mpdu: &[u8], rows: &[u64], row: usize, nodes: &mut 
         let mask = part_of(mpdu, rows[at + START] / 8, rows[at + BITS] / 8);
         return mask_nodes(mask, nodes);
     }
-    Listed::Refused(Refusal::NoSuchField(row))
+    Err(Refusal::NoSuchField(row))
 }
 
 // The nodes of a row of a table that `decode_header` has filled; or refusal 1 to 3, 11, 4 or 8.
-pub fn row_nodes(text: &[u8], mpdu: &[u8], rows: &[u64], row: usize, nodes: &mut [u16]) -> Listed
+pub fn row_nodes(
+    text: &[u8],
+    mpdu: &[u8],
+    rows: &[u64],
+    row: usize,
+    nodes: &mut [u16],
+) -> Result<usize, Refusal>
     ensures { LentNodes text.now mpdu.now rows.now row nodes.old result nodes.new }
 {
     match check_frame_text(text) {
-        Verdict::Accepted => {
+        Ok(()) => {
             if rows.len() / ROW_WIDTH <= row {
-                return Listed::Refused(Refusal::NoSuchField(row));
+                return Err(Refusal::NoSuchField(row));
             }
             nodes_of_row(text, mpdu, rows, row, nodes)
         }
-        Verdict::Refused(refusal) => Listed::Refused(refusal),
+        Err(refusal) => Err(refusal),
     }
 }
 
@@ -104,19 +114,19 @@ pub fn nodes_accepted(
     speed: u64,
     row: usize,
     nodes: &mut [u16],
-) -> Listed
-    requires { verdict text.now ≡ Accepted }
+) -> Result<usize, Refusal>
+    requires { verdict text.now ≡ Ok tt }
     ensures { HeaderNodes text.now mpdu.now region speed row nodes.old result nodes.new }
 {
     let mut rows = [0u64; MOST_NUMBERS];
     match decode_accepted(text, mpdu, region, speed, &mut rows) {
-        Decoded::Header(header) => {
+        Ok(header) => {
             if header.rows <= row {
-                return Listed::Refused(Refusal::NoSuchField(row));
+                return Err(Refusal::NoSuchField(row));
             }
             nodes_of_row(text, mpdu, &rows, row, nodes)
         }
-        Decoded::Refused(refusal) => Listed::Refused(refusal),
+        Err(refusal) => Err(refusal),
     }
 }
 
@@ -128,11 +138,11 @@ pub fn header_nodes(
     speed: u64,
     row: usize,
     nodes: &mut [u16],
-) -> Listed
+) -> Result<usize, Refusal>
     ensures { HeaderNodes text.now mpdu.now region speed row nodes.old result nodes.new }
 {
     match check_frame_text(text) {
-        Verdict::Accepted => nodes_accepted(text, mpdu, region, speed, row, nodes),
-        Verdict::Refused(refusal) => Listed::Refused(refusal),
+        Ok(()) => nodes_accepted(text, mpdu, region, speed, row, nodes),
+        Err(refusal) => Err(refusal),
     }
 }

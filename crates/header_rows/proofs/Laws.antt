@@ -2,7 +2,6 @@
 use mathlib.Core.Path.{◌≡◌, refl, sym, ap, ◌∙◌}
 use mathlib.Core.Bool.{cond}
 use mathlib.Core.List.{List, [], ◌∷◌, ◌++◌, map, append-nil, append_assoc}
-use mathlib.Core.Option.{Option, none, some}
 use Prim.Native.Nat.{ℕ, zero, suc, ◌+◌, ◌*◌, ◌≤◌, ◌<◌}
 use native.Mathlib.Nat.{add-zero, zero-add}
 use native.Mathlib.Numerals.{add-one}
@@ -14,8 +13,6 @@ use borrow.Author.Tests.{eq-eqb, ne_eqb}
 use Rattle.text.specs.Place.{part_of}
 use Rattle.text.specs.Records.{Readable}
 use Rattle.text.specs.declared.Place.{Place}
-use Rattle.text.specs.declared.Under.{Under}
-use Rattle.text.specs.declared.Under.TheVariants as under
 use Rattle.frame_text.specs.Form.{Param}
 use Rattle.frame_text.specs.Rules.{rules}
 use Rattle.frame_definition.specs.Definition.{Numbered, Set, below, entries, definition, first_set, first_entry}
@@ -32,14 +29,15 @@ use Rattle.header_paths.specs.Scratch.{row_in, rows_in, tells}
 use Rattle.header_paths.specs.declared.Row as told
 use Rattle.header_paths.proofs.Fields.{said_in, said_out}
 use Rattle.header_paths.proofs.Scratch.{length-rows_in}
+use Rattle.std.specs.Prelude.{Option, Some, None}
 
 -- ---- the first E with a key in the first D of a name
-module _ (t name : List ℕ) (v : ℕ) (r : Under) (found : FindsSet t name r) where
-  pub symbol_none : r ≡ under.Nothing → 0 ≡ entry_of (first_set name (definition t).sets) v
-  symbol_none e = let none_is : first_set name (definition t).sets ≡ none = rw e at found in rw none_is refl
+module _ (t name : List ℕ) (v : ℕ) (r : Option Place) (found : FindsSet t name r) where
+  pub symbol_none : r ≡ None → 0 ≡ entry_of (first_set name (definition t).sets) v
+  symbol_none e = let none_is : first_set name (definition t).sets ≡ None = rw e at found in rw none_is refl
 
-  module _ (p : Place) (e : r ≡ under.At p) where
-    abbrev at_set : (first_set name (definition t).sets ≡ some (record { name = name; entries = entries (below (from t p)) })) × Readable rules t p
+  module _ (p : Place) (e : r ≡ Some p) where
+    abbrev at_set : (first_set name (definition t).sets ≡ Some (record { name = name; entries = entries (below (from t p)) })) × Readable rules t p
     at_set = rw e at found
 
     pub set-readable : Readable rules t p
@@ -49,9 +47,9 @@ module _ (t name : List ℕ) (v : ℕ) (r : Under) (found : FindsSet t name r) w
     symbol_entry n q = rw at_set.0 q
 
 -- ---- the symbol of a row
-no_symbol : (ss : List Set) (name : Option Name) (v : Option ℕ) → v ≡ none → 0 ≡ symbol_of ss name v
-no_symbol ss none v e = refl
-no_symbol ss (some x) v e = rw e refl
+no_symbol : (ss : List Set) (name : Option Name) (v : Option ℕ) → v ≡ None → 0 ≡ symbol_of ss name v
+no_symbol ss None v e = refl
+no_symbol ss (Some x) v e = rw e refl
 
 module _ (x t : List ℕ) (n : ℕ) (row : told.Row) where
   abbrev set_of_lem : Option Name
@@ -61,22 +59,22 @@ module _ (x t : List ℕ) (n : ℕ) (row : told.Row) where
   symbol_unvalued h = no_symbol (definition x).sets set_of_lem (row_value (tells row)) (rw (ne_eqb row.valued 1 h) refl)
 
   pub symbol_past : n ≤ row.place → 0 ≡ symbol_of (definition x).sets set_of_lem (row_value (tells row))
-  symbol_past h = let e : set_of_lem ≡ none = ap (λ (p : Param). p.set) (said_out x t n row.place h) in rw e refl
+  symbol_past h = let e : set_of_lem ≡ None = ap (λ (p : Param). p.set) (said_out x t n row.place h) in rw e refl
 
   module _ (inside : row.place < n) where
-    the_set : set_of_lem ≡ cond (eqb (set_in t row.place).len 0) none (some (part_of x (set_in t row.place)))
+    the_set : set_of_lem ≡ cond (eqb (set_in t row.place).len 0) None (Some (part_of x (set_in t row.place)))
     unfolding param_at
     the_set = ap (λ (p : Param). p.set) (said_in x t n row.place inside)
 
     pub symbol_unset : (set_in t row.place).len ≡ 0 → 0 ≡ symbol_of (definition x).sets set_of_lem (row_value (tells row))
-    symbol_unset h = let e : set_of_lem ≡ none = the_set ∙ rw (eq-eqb (set_in t row.place).len 0 h) refl in rw e refl
+    symbol_unset h = let e : set_of_lem ≡ None = the_set ∙ rw (eq-eqb (set_in t row.place).len 0 h) refl in rw e refl
 
     pub symbol_is : (name : List ℕ) (r : ℕ) → ((set_in t row.place).len ≡ 0 → ⊥) → row.valued ≡ 1
         → name ≡ part_of x (set_in t row.place) → r ≡ entry_of (first_set name (definition x).sets) row.value
         → r ≡ symbol_of (definition x).sets set_of_lem (row_value (tells row))
     symbol_is name r h v part is =
-        let e : set_of_lem ≡ some name = the_set ∙ rw (ne_eqb (set_in t row.place).len 0 h, part) refl in
-        let u : row_value (tells row) ≡ some row.value = rw (eq-eqb row.valued 1 v) refl in
+        let e : set_of_lem ≡ Some name = the_set ∙ rw (ne_eqb (set_in t row.place).len 0 h, part) refl in
+        let u : row_value (tells row) ≡ Some row.value = rw (eq-eqb row.valued 1 v) refl in
         rw (e, u) is
 
 -- ---- the number of a P

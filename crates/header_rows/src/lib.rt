@@ -1,8 +1,7 @@
 // The rows of a header's answer: what the scratch rows tell, with the P's number for its place, and with the symbol.
 #![tactic(auto)]
 
-ghost use Rattle.std.specs.Prelude.{◌≡◌, List, map, ℕ, ◌+◌, ◌*◌, ◌≤◌, length};
-ghost use Rattle.text.specs.declared.Verdict.TheVariants.{Accepted};
+ghost use Rattle.std.specs.Prelude.{◌≡◌, List, map, ℕ, ◌+◌, ◌*◌, ◌≤◌, length, Ok};
 ghost use Rattle.frame_text.specs.Rules.{verdict};
 ghost use Rattle.frame_definition.specs.Definition.{definition, first_set};
 ghost use Rattle.header_fields.specs.Fields.{line_width, fields_in};
@@ -17,7 +16,6 @@ use frame_definition::{find_entry, find_set};
 use header_fields::{LINE_WIDTH, SET};
 use header_paths::{Row, part_of, row_at};
 use rows::put_row;
-use text::Under;
 
 // The columns of a row: H18 of docs/RULES.md.
 pub const NUMBER: usize = 0;
@@ -39,10 +37,10 @@ pub const ROW_WIDTH: usize = SYMBOL + 1;
 
 // The number, from 1, of the first E with a value for its key in the first D of a name, or 0.
 fn find_symbol(text: &[u8], name: &[u8], value: u64) -> u64
-    requires { verdict text.now ≡ Accepted }
+    requires { verdict text.now ≡ Ok tt }
     ensures { result ≡ entry_of (first_set name.now (definition text.now).sets) value }
 {
-    let Under::At(place) = find_set(text, name) else {
+    let Some(place) = find_set(text, name) else {
         return 0;
     };
     find_entry(text, place, value) as u64
@@ -50,7 +48,7 @@ fn find_symbol(text: &[u8], name: &[u8], value: u64) -> u64
 
 // The symbol of a row, whose P is at its place among the loaded lines.
 fn symbol_of(text: &[u8], fields: &[u64], count: usize, row: Row) -> u64
-    requires text_value { verdict text.now ≡ Accepted }
+    requires text_value { verdict text.now ≡ Ok tt }
     requires line_width_in_bounds { count * line_width ≤ length fields.now }
     ensures { let ps = fields_in text.now fields.now count in
         result ≡ symbol_of (definition text.now).sets (said_at ps row.place).set (row_value (tells row)) }
@@ -82,7 +80,7 @@ fn number_of(fields: &[u64], count: usize, place: u64) -> u64
 
 // The row of the answer.
 fn row_of(text: &[u8], fields: &[u64], count: usize, row: Row) -> [u64; ROW_WIDTH]
-    requires text_value { verdict text.now ≡ Accepted }
+    requires text_value { verdict text.now ≡ Ok tt }
     requires line_width_in_bounds { count * line_width ≤ length fields.now }
     ensures { let ps = fields_in text.now fields.now count in
         result ≡ shown ps (definition text.now).sets (tells row) }
@@ -108,7 +106,7 @@ pub fn write_row(
     k: usize,
     rows: &mut [u64],
 )
-    requires text_value { verdict text.now ≡ Accepted }
+    requires text_value { verdict text.now ≡ Ok tt }
     requires line_width_in_bounds { (count * line_width ≤ length fields.now) × ((k + 1) * scratch_width ≤ length scratch.now)
         × (k * row_width ≤ length rows.old) }
     ensures { let ps = fields_in text.now fields.now count in
@@ -128,7 +126,7 @@ pub fn write_rows(
     n: usize,
     rows: &mut [u64],
 )
-    requires text_value { verdict text.now ≡ Accepted }
+    requires text_value { verdict text.now ≡ Ok tt }
     requires line_width_in_bounds { (count * line_width ≤ length fields.now) × (n * scratch_width ≤ length scratch.now) × (n * row_width ≤ length rows.old) }
     ensures { let ps = fields_in text.now fields.now count in
         rows.new ≡ laid rows.old (map (shown ps (definition text.now).sets) (rows_in scratch.now n)) }

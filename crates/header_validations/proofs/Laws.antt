@@ -2,7 +2,6 @@
 use mathlib.Core.Path.{◌≡◌, refl, sym, ap, ◌∙◌}
 use mathlib.Core.Bool.{Bool, true, false, not, ◌&&◌, ◌||◌}
 use mathlib.Core.List.{List, []}
-use mathlib.Core.Option.{Option, none, some}
 use Prim.Native.Nat.{ℕ, ◌-◌, ◌<◌}
 use native.Mathlib.Omega.{arith}
 use lib.Dec.{eqb}
@@ -23,34 +22,33 @@ use Rattle.header_rules.specs.Rows.{Row, flat_value}
 use Rattle.header_rules.specs.Flat.{flat_meets}
 use Rattle.header_rules.specs.Decide.{differs, ruled_out}
 use Rattle.header_paths.specs.Lookup.{valued}
-use Rattle.header_paths.specs.declared.Valued.{Valued}
-use Rattle.header_paths.specs.declared.Valued.TheVariants.{Value, Nothing}
 use Rattle.header_validations.specs.Validations.{met, other}
+use Rattle.std.specs.Prelude.{Option, Some, None}
 
 -- ---- one V
-pub path-part : (t : List ℕ) (ns : ℕ → Name) (rows : List Row) (path : Part) (part : List ℕ) (r : Valued) → part ≡ part_of t path
+pub path-part : (t : List ℕ) (ns : ℕ → Name) (rows : List Row) (path : Part) (part : List ℕ) (r : Option ℕ) → part ≡ part_of t path
     → r ≡ valued (flat_value ns rows (names part) 0)
     → r ≡ valued (flat_value ns rows (names (part_of t path)) 0)
 path-part t ns rows path part r e h = rw (← e) h
 
 met_is : (o : Option ℕ) (v : ℕ) → met (valued o) v ≡ is_value o v
-met_is none v = refl
-met_is (some u) v = refl
+met_is None v = refl
+met_is (Some u) v = refl
 
 other_is : (o : Option ℕ) (v : ℕ) → other (valued o) v ≡ differs o v
-other_is none v = refl
-other_is (some u) v = refl
+other_is None v = refl
+other_is (Some u) v = refl
 
-pub met-value : (r : Valued) (u v : ℕ) → r ≡ Value u → eqb u v ≡ met r v
+pub met-value : (r : Option ℕ) (u v : ℕ) → r ≡ Some u → eqb u v ≡ met r v
 met-value r u v e = rw e refl
 
-pub met-nothing : (r : Valued) (v : ℕ) → r ≡ Nothing → false ≡ met r v
+pub met-nothing : (r : Option ℕ) (v : ℕ) → r ≡ None → false ≡ met r v
 met-nothing r v e = rw e refl
 
-pub other-value : (r : Valued) (u v : ℕ) → r ≡ Value u → not (eqb u v) ≡ other r v
+pub other-value : (r : Option ℕ) (u v : ℕ) → r ≡ Some u → not (eqb u v) ≡ other r v
 other-value r u v e = rw e refl
 
-pub other-nothing : (r : Valued) (v : ℕ) → r ≡ Nothing → false ≡ other r v
+pub other-nothing : (r : Option ℕ) (v : ℕ) → r ≡ None → false ≡ other r v
 other-nothing r v e = rw e refl
 
 -- ---- V by V: what is left decides
@@ -76,20 +74,20 @@ module _ (t : List ℕ) (ns : ℕ → Name) (rows : List Row) where
   module _ (p₀ p : Place) (r : NextValidation) (found : FindsValidation t p r) where
     pub met_all : Meeting p₀ p → r ≡ next.Nothing → true ≡ flat_meets ns rows (validations (below (from t p₀)))
     unfolding flat_meets
-    met_all m e = let none : validations (below (from t p)) ≡ [] = rw e at found in sym (m.left ∙ rw none refl)
+    met_all m e = let None : validations (below (from t p)) ≡ [] = rw e at found in sym (m.left ∙ rw None refl)
 
     pub ruled_none : Ruling p₀ p → r ≡ next.Nothing → false ≡ ruled_out ns rows (validations (below (from t p₀)))
     unfolding ruled_out
-    ruled_none m e = let none : validations (below (from t p)) ≡ [] = rw e at found in sym (m.left ∙ rw none refl)
+    ruled_none m e = let None : validations (below (from t p)) ≡ [] = rw e at found in sym (m.left ∙ rw None refl)
 
     module _ (path : Part) (v : ℕ) (q : Place) (e : r ≡ next.At path v q) where
       is : IsValidation t p q path v
       is = rw e at found
 
-      module _ (x : Valued) (b : Bool) (is_x : x ≡ valued (flat_value ns rows (names (part_of t path)) 0)) where
+      module _ (x : Option ℕ) (b : Bool) (is_x : x ≡ valued (flat_value ns rows (names (part_of t path)) 0)) where
         module _ (m : Meeting p₀ p) (is_b : b ≡ met x v) where
           test : b ≡ is_value (flat_value ns rows (names (part_of t path)) 0) v
-          test = is_b ∙ ap (λ (y : Valued). met y v) is_x ∙ met_is (flat_value ns rows (names (part_of t path)) 0) v
+          test = is_b ∙ ap (λ (y : Option ℕ). met y v) is_x ∙ met_is (flat_value ns rows (names (part_of t path)) 0) v
 
           one_met : flat_meets ns rows (validations (below (from t p₀))) ≡ (b && flat_meets ns rows (validations (below (from t q))))
           unfolding flat_meets
@@ -103,7 +101,7 @@ module _ (t : List ℕ) (ns : ℕ → Name) (rows : List Row) where
 
         module _ (m : Ruling p₀ p) (is_b : b ≡ other x v) where
           differing : b ≡ differs (flat_value ns rows (names (part_of t path)) 0) v
-          differing = is_b ∙ ap (λ (y : Valued). other y v) is_x ∙ other_is (flat_value ns rows (names (part_of t path)) 0) v
+          differing = is_b ∙ ap (λ (y : Option ℕ). other y v) is_x ∙ other_is (flat_value ns rows (names (part_of t path)) 0) v
 
           one_ruled : ruled_out ns rows (validations (below (from t p₀))) ≡ (b || ruled_out ns rows (validations (below (from t q))))
           unfolding ruled_out

@@ -1,12 +1,10 @@
 -- What a V finds: the value that it wants, or another.
-use Rattle.std.specs.Prelude.{Bool, false, not, ℕ, eqb}
-use Rattle.header_paths.specs.declared.Valued.{Valued}
-use Rattle.header_paths.specs.declared.Valued.TheVariants.{Value, Nothing}
+use Rattle.std.specs.Prelude.{Bool, false, not, ℕ, eqb, Option, Some, None}
 
-abbrev pub met : Valued → ℕ → Bool
-met (Value u) v = eqb u v
-met Nothing v = false
+abbrev pub met : Option ℕ → ℕ → Bool
+met (Some u) v = eqb u v
+met None v = false
 
-abbrev pub other : Valued → ℕ → Bool
-other (Value u) v = not (eqb u v)
-other Nothing v = false
+abbrev pub other : Option ℕ → ℕ → Bool
+other (Some u) v = not (eqb u v)
+other None v = false

@@ -18,7 +18,7 @@ ghost use Rattle.header_paths.specs.Lookup.{valued};
 ghost use Rattle.header_validations.specs.Validations.{met, other};
 
 use frame_definition::{NextValidation, next_validation};
-use header_paths::{Valued, find_value, part_of};
+use header_paths::{find_value, part_of};
 use text::{Part, Place};
 
 // What a V's path finds among the n rows.
@@ -29,7 +29,7 @@ fn find_path(
     rows: &[u64],
     n: usize,
     path: Part,
-) -> Valued
+) -> Option<u64>
     requires { (count * line_width ≤ length fields.now) × (n * scratch_width ≤ length rows.now) }
     ensures { let ps = fields_in text.now fields.now count in
         result ≡ valued (flat_value (name_of ps) (rows_in rows.now n) (names (part_of text.now path)) 0) }
@@ -38,21 +38,21 @@ fn find_path(
     find_value(text, fields, count, rows, n, found)
 }
 
-fn is_met(found: Valued, value: u16) -> bool
+fn is_met(found: Option<u64>, value: u16) -> bool
     ensures { result ≡ met found value }
 {
     match found {
-        Valued::Value(v) => v == value as u64,
-        Valued::Nothing => false,
+        Some(v) => v == value as u64,
+        None => false,
     }
 }
 
-fn is_other(found: Valued, value: u16) -> bool
+fn is_other(found: Option<u64>, value: u16) -> bool
     ensures { result ≡ other found value }
 {
     match found {
-        Valued::Value(v) => v != value as u64,
-        Valued::Nothing => false,
+        Some(v) => v != value as u64,
+        None => false,
     }
 }
 

@@ -2,7 +2,6 @@
 use mathlib.Core.Path.{◌≡◌, refl, sym, ap, ◌∙◌}
 use mathlib.Core.Bool.{Bool, true, false, cond}
 use mathlib.Core.List.{List, []}
-use mathlib.Core.Option.{some}
 use Prim.Native.Nat.{ℕ, ◌*◌, ◌/◌, ◌%◌, ◌≤◌, ◌<◌}
 use native.Mathlib.Omega.{arith}
 use lib.Dec.{ltb}
@@ -10,18 +9,12 @@ use lib.ListN.{length, take, drop, replicate, length-replicate, length-take, len
 use borrow.Author.Tests.{eq-eqb, ne_eqb, le-leb, lt-leb, lt-ltb, le-ltb, ltb-false}
 use Rattle.refusal.specs.declared.Refusal.{Refusal}
 use Rattle.refusal.specs.declared.Refusal.TheVariants.{TooLong, TooShort, NoSuchField}
-use Rattle.text.specs.declared.Verdict.{Verdict}
-use Rattle.text.specs.declared.Verdict.TheVariants as text
 use Rattle.frame_text.specs.Rules.{verdict}
 use Rattle.frame_definition.specs.Find.{heard, meant, FindsNumbered}
 use Rattle.frame_definition.specs.declared.Field.{Field}
-use Rattle.frame_definition.specs.declared.NextParam.{NextParam}
-use Rattle.frame_definition.specs.declared.NextParam.TheVariants.{At, Nothing}
 use Rattle.text.specs.declared.Place.{Place}
 use Rattle.header_rules.specs.Table.{row_width, cell, number_column, start_column, bits_column, valued_column, value_column, symbol_column}
 use Rattle.header.specs.declared.DecodedHeader.{DecodedHeader}
-use Rattle.header.specs.declared.Decoded.{Decoded}
-use Rattle.header.specs.declared.Decoded.TheVariants.{Header, Refused}
 use Rattle.header.specs.declared.Wanted.TheVariants.{One}
 use Rattle.header.specs.Decode.{Within, judged, of_told, told_of, table_after, number_in, Decodes}
 use Rattle.header.specs.Steps.{Answers}
@@ -30,22 +23,19 @@ use Rattle.header.proofs.OneRow.{one_row, rows_told}
 use Rattle.header.proofs.Room.{header-stands}
 use Rattle.crc.specs.Crc.{right}
 use Rattle.header_nodes.specs.Answer.{answer_of, rows_of}
-use Rattle.buffer.specs.declared.Written.{Written}
-use Rattle.buffer.specs.declared.Written.TheVariants as written
 use Rattle.buffer.specs.Buffer.{Writes, answer_in, buffer_after}
-use Rattle.display.specs.declared.Value.{Value}
-use Rattle.display.specs.declared.Value.TheVariants.{Is, Not}
 use Rattle.display.specs.Display.{display_value}
 use Rattle.header_value.specs.Fields.{symbol_text, value_by, is_long, bytes_of, field_text, row_text}
 use Rattle.header_value.specs.Lookup.{Stands}
 use Rattle.header_value.specs.Answer.{of_decoded, HeaderValue}
 use Rattle.header_value.proofs.LookupLaws.{lookup_laws}
+use Rattle.std.specs.Prelude.{Option, Some, None, Result, Ok, Err}
 
 -- ---- value_of
-pub value_is : (valued v : ℕ) → valued ≡ 1 → Is v ≡ value_by valued v
+pub value_is : (valued v : ℕ) → valued ≡ 1 → Some v ≡ value_by valued v
 value_is valued v e = rw (eq-eqb valued 1 e)
 
-pub value_not : (valued v : ℕ) → (valued ≡ 1 → ⊥) → Not ≡ value_by valued v
+pub value_not : (valued v : ℕ) → (valued ≡ 1 → ⊥) → None ≡ value_by valued v
 value_not valued v e = rw (ne_eqb valued 1 e)
 
 -- ---- bytes_of
@@ -73,31 +63,31 @@ module _ (d : List ℕ) (start bits : ℕ) where
 pub ruleset part_laws = (value_is, value_not, bytes_few, bytes-start, bytes_bits, bytes_are, bytes-short)
 
 -- ---- field_value, row_value
-pub field-shown : (t d : List ℕ) (f : Field) (start bits valued v n : ℕ) (symbol bytes : List ℕ) (value : Value) (b : List ℕ) (r : Written)
+pub field-shown : (t d : List ℕ) (f : Field) (start bits valued v n : ℕ) (symbol bytes : List ℕ) (value : Option ℕ) (b : List ℕ) (r : Result ℕ Refusal)
     (b' : List ℕ)
     → Writes (display_value symbol f.kind value bytes) b r b' → symbol ≡ symbol_text t (heard (λ l. l) t f.set) n
     → bytes ≡ bytes_of d start bits
-    → value ≡ value_by valued v → Writes (field_text t d (some (meant t f)) start bits valued v n) b r b'
+    → value ≡ value_by valued v → Writes (field_text t d (Some (meant t f)) start bits valued v n) b r b'
 unfolding field_text
 field-shown t d f start bits valued v n symbol bytes value b r b' w s y e = rw (s, y, e) at w
 
-module _ (t d rows : List ℕ) (k : ℕ) (x : NextParam) (found : FindsNumbered t (cell rows k number_column) x) (b : List ℕ) (r : Written)
+module _ (t d rows : List ℕ) (k : ℕ) (x : Option (Field × Place)) (found : FindsNumbered t (cell rows k number_column) x) (b : List ℕ) (r : Result ℕ Refusal)
     (b' : List ℕ) where
-  pub row-none : Writes [] b r b' → x ≡ Nothing → Writes (row_text t d rows k) b r b'
+  pub row-none : Writes [] b r b' → x ≡ None → Writes (row_text t d rows k) b r b'
   unfolding row_text field_text
   row-none w e = rw (rw e at found) w
 
   pub row-shown : (f : Field) (q : Place)
-      → Writes (field_text t d (some (meant t f)) (cell rows k start_column) (cell rows k bits_column) (cell rows k valued_column)
+      → Writes (field_text t d (Some (meant t f)) (cell rows k start_column) (cell rows k bits_column) (cell rows k valued_column)
       (cell rows k value_column) (cell rows k symbol_column)) b r b'
-      → x ≡ At f q → Writes (row_text t d rows k) b r b'
+      → x ≡ Some (f, q) → Writes (row_text t d rows k) b r b'
   unfolding row_text
   row-shown f q w e = rw (rw e at found) w
 
 pub ruleset row_laws = (field-shown, row-none, row-shown)
 
 -- ---- value_accepted: behind `decode_row`'s answer x and the table in which that row stands
-module _ (t d : List ℕ) (region speed k : ℕ) (x : Decoded) (rows : List ℕ)
+module _ (t d : List ℕ) (region speed k : ℕ) (x : Result DecodedHeader Refusal) (rows : List ℕ)
     (dec : Answers t d region speed (One k) (replicate {A = ℕ} 896 0) x rows) where
   abbrev zeros : List ℕ
   zeros = replicate {A = ℕ} 896 0
@@ -118,17 +108,17 @@ module _ (t d : List ℕ) (region speed k : ℕ) (x : Decoded) (rows : List ℕ)
   eight w e = (whole.by_readings w).enough (rw (length-replicate {A = ℕ} 896 0) (omega arith)) (rw answer_is e)
 
   -- a header is answered only for an MPDU within limits
-  mpdu_short : (h : DecodedHeader) → x ≡ Header h → length d ≤ 2048
+  mpdu_short : (h : DecodedHeader) → x ≡ Ok h → length d ≤ 2048
   mpdu_short h is = go (verdict t) (ltb 2048 (length d)) refl (sym is ∙ dec.answer)
     where
-      go : (v : Verdict) (long : Bool) → ltb 2048 (length d) ≡ long
-          → Header h ≡ judged v (cond long (Refused (TooLong (length d))) (cond (ltb (length d) 2)
-          (Refused (TooShort (length d))) (of_told t (right d speed) (told_of t d region speed (length (replicate {A = ℕ} 896 0)))))) → length d ≤ 2048
-      go (text.Refused y) long q e = absurd (let z : ◌≡◌ {A = ℕ} 0 1 = cc in omega arith)
-      go text.Accepted true q e = absurd (let z : ◌≡◌ {A = ℕ} 0 1 = cc in omega arith)
-      go text.Accepted false q e = ltb-false 2048 (length d) q
+      go : (v : Result (Unit {0}) Refusal) (long : Bool) → ltb 2048 (length d) ≡ long
+          → Ok h ≡ judged v (cond long (Err (TooLong (length d))) (cond (ltb (length d) 2)
+          (Err (TooShort (length d))) (of_told t (right d speed) (told_of t d region speed (length (replicate {A = ℕ} 896 0)))))) → length d ≤ 2048
+      go (Err y) long q e = absurd (let z : ◌≡◌ {A = ℕ} 0 1 = cc in omega arith)
+      go (Ok tt) true q e = absurd (let z : ◌≡◌ {A = ℕ} 0 1 = cc in omega arith)
+      go (Ok tt) false q e = ltb-false 2048 (length d) q
 
-  module _ (h : DecodedHeader) (is : x ≡ Header h) where
+  module _ (h : DecodedHeader) (is : x ≡ Ok h) where
     room : h.rows * row_width ≤ length zeros
     room = rw is at (header-stands t d region speed zeros x (table_after zeros (told_of t d region speed (length zeros)) x) whole)
 
@@ -154,37 +144,37 @@ module _ (t d : List ℕ) (region speed k : ℕ) (x : Decoded) (rows : List ℕ)
         refl
 
   module _ (b : List ℕ) where
-    told : (r : Written) (b' : List ℕ) → r ≡ of_decoded (row_text t d (rows_of t d region speed) k) k (length b) x
+    told : (r : Result ℕ Refusal) (b' : List ℕ) → r ≡ of_decoded (row_text t d (rows_of t d region speed) k) k (length b) x
         → b' ≡ buffer_after (row_text t d (rows_of t d region speed) k) b r
         → HeaderValue t d region speed k b r b'
     told r b' e l = record { answer = rw (← answer_is) e; leaves = l; enough = eight }
 
-    pub told-refused : (y : Refusal) → x ≡ Refused y → HeaderValue t d region speed k b (written.Refused y) b
+    pub told-refused : (y : Refusal) → x ≡ Err y → HeaderValue t d region speed k b (Err y) b
     told-refused y is = told _ _ (rw is refl) refl
 
-    module _ (h : DecodedHeader) (is : x ≡ Header h) where
-      pub told-past : h.rows ≤ k → HeaderValue t d region speed k b (written.Refused (NoSuchField k)) b
+    module _ (h : DecodedHeader) (is : x ≡ Ok h) where
+      pub told-past : h.rows ≤ k → HeaderValue t d region speed k b (Err (NoSuchField k)) b
       told-past past = told _ _ (rw (is, le-leb h.rows k past) refl) refl
 
-      pub told-row : (r : Written) (b' : List ℕ) → Writes (row_text t d rows k) b r b' → k < h.rows → HeaderValue t d region speed k b r b'
+      pub told-row : (r : Result ℕ Refusal) (b' : List ℕ) → Writes (row_text t d rows k) b r b' → k < h.rows → HeaderValue t d region speed k b r b'
       told-row r b' w inside =
           let same : row_text t d rows k ≡ row_text t d (rows_of t d region speed) k = row_same h is inside in
           told r b' (rw (is, lt-leb h.rows k inside) (w.answer ∙ ap (λ (l : List ℕ). answer_in (length l) (length b)) same))
           (w.buffer ∙ ap (λ (l : List ℕ). buffer_after l b r) same)
 
 -- ---- header_value
-pub told-not : (t d : List ℕ) (region speed k : ℕ) (b : List ℕ) (v : Verdict) (y : Refusal) → v ≡ verdict t → v ≡ text.Refused y
-    → HeaderValue t d region speed k b (written.Refused y) b
+pub told-not : (t d : List ℕ) (region speed k : ℕ) (b : List ℕ) (v : Result (Unit {0}) Refusal) (y : Refusal) → v ≡ verdict t → v ≡ Err y
+    → HeaderValue t d region speed k b (Err y) b
 unfolding answer_of
 told-not t d region speed k b v y is e =
-    let w : verdict t ≡ text.Refused y = sym is ∙ e in
+    let w : verdict t ≡ Err y = sym is ∙ e in
     record {
       answer = rw w refl;
       leaves = refl;
-      enough = λ i. absurd (let z : ◌≡◌ {A = ℕ} 0 1 = (let u : text.Refused y ≡ text.Accepted = sym w ∙ i.accepted in cc) in omega arith);
+      enough = λ i. absurd (let z : ◌≡◌ {A = ℕ} 0 1 = (let u : Err y ≡ (Ok tt) = sym w ∙ i.accepted in cc) in omega arith);
     }
 
-pub told-judged : (t : List ℕ) (v : Verdict) → v ≡ verdict t → v ≡ text.Accepted → verdict t ≡ text.Accepted
+pub told-judged : (t : List ℕ) (v : Result (Unit {0}) Refusal) → v ≡ verdict t → v ≡ Ok tt → verdict t ≡ Ok tt
 told-judged t v is e = sym is ∙ e
 
 pub ruleset told_laws = (told-refused, told-past, told-row, row-stands, told-not, told-judged)

@@ -2,7 +2,6 @@
 use mathlib.Core.Path.{◌≡◌, refl, sym, ap, ◌∙◌}
 use mathlib.Core.Bool.{Bool, true, false, cond}
 use mathlib.Core.List.{List, [], ◌∷◌}
-use mathlib.Core.Option.{Option, none, some}
 use Prim.Native.Nat.{ℕ, ◌-◌, ◌≤◌, ◌<◌}
 use native.Mathlib.Omega.{arith}
 use lib.Dec.{eqb}
@@ -14,18 +13,16 @@ use Rattle.text.specs.Records.{Readable}
 use Rattle.text.specs.declared.Place.{Place}
 use Rattle.text.specs.declared.Line.{Line}
 use Rattle.text.specs.declared.Part.{Part}
-use Rattle.text.specs.declared.Under.{Under}
-use Rattle.text.specs.declared.Under.TheVariants as stand
 use Rattle.text.proofs.Reading.{rest_end}
 use Rattle.text.proofs.Passing.{passing}
 use Rattle.frame_text.specs.Form.{Record, frequency, base, header, param, validation, set, entry}
 use Rattle.frame_text.specs.Rules.{letter, rules}
 use Rattle.frame_definition.specs.Definition.{Entry, Set, below, entries, first_set, definition}
 use Rattle.frame_definition.specs.Find.{from, owner_kind, heard, FindsSet}
-use Rattle.frame_definition.specs.declared.NextParam.TheVariants.{At, Nothing}
 use Rattle.frame_definition.proofs.Views.{View, fields_of}
 use Rattle.frame_definition.proofs.Finding.{Lined, lined, Over, over_line, kind_at, over_less}
 use Rattle.header_value.specs.Fields.{entry_text, set_text, symbol_text}
+use Rattle.std.specs.Prelude.{Option, Some, None}
 
 -- ---- the E of a number: one line more
 ends_here : (x : Record) (rs : List Record) → owner_kind (letter x) ≡ true → entries (below (x ∷ rs)) ≡ []
@@ -146,10 +143,10 @@ unfolding symbol_text
 symbol_zero t s n e = rw e (go (eqb s.len 0))
   where
     named : (o : Option Set) → [] ≡ set_text 0 o
-    named none = refl
-    named (some x) = sym (entry_zero x.entries)
+    named None = refl
+    named (Some x) = sym (entry_zero x.entries)
 
-    go : (b : Bool) → [] ≡ symbol_text t (cond b none (some (part_of t s))) 0
+    go : (b : Bool) → [] ≡ symbol_text t (cond b None (Some (part_of t s))) 0
     go true = refl
     go false = named (first_set (part_of t s) (definition t).sets)
 
@@ -157,22 +154,22 @@ pub symbol_none : (t : List ℕ) (s : Part) (n : ℕ) → s.len ≡ 0 → [] ≡
 unfolding symbol_text
 symbol_none t s n e = rw (eq-eqb s.len 0 e)
 
-module _ (t : List ℕ) (s : Part) (n : ℕ) (name : List ℕ) (r : Under) (is : name ≡ take s.len (drop s.start t)) (found : FindsSet t name r)
+module _ (t : List ℕ) (s : Part) (n : ℕ) (name : List ℕ) (r : Option Place) (is : name ≡ take s.len (drop s.start t)) (found : FindsSet t name r)
     (given : s.len ≡ 0 → ⊥) where
   heard_is : symbol_text t (heard (λ l. l) t s) n ≡ set_text n (first_set name (definition t).sets)
   unfolding symbol_text
   heard_is = rw (ne_eqb s.len 0 given, ← is)
 
-  pub symbol_nothing : r ≡ stand.Nothing → [] ≡ symbol_text t (heard (λ l. l) t s) n
-  symbol_nothing e = let f : first_set name (definition t).sets ≡ none = rw e at found in sym (heard_is ∙ rw f)
+  pub symbol_nothing : r ≡ None → [] ≡ symbol_text t (heard (λ l. l) t s) n
+  symbol_nothing e = let f : first_set name (definition t).sets ≡ None = rw e at found in sym (heard_is ∙ rw f)
 
-  pub symbol_readable : (p : Place) → r ≡ stand.At p → Readable rules t p
+  pub symbol_readable : (p : Place) → r ≡ Some p → Readable rules t p
   symbol_readable p e = (rw e at found).1
 
   pub symbol_is : (p : Place) (x : Part) (l : List ℕ) → l ≡ take x.len (drop x.start t) → part_of t x ≡ entry_text n (entries (below (from t p)))
-      → r ≡ stand.At p → l ≡ symbol_text t (heard (λ l. l) t s) n
+      → r ≡ Some p → l ≡ symbol_text t (heard (λ l. l) t s) n
   symbol_is p x l a b e =
-      let f : first_set name (definition t).sets ≡ some (record { name = name; entries = entries (below (from t p)) }) = (rw e at found).0 in
+      let f : first_set name (definition t).sets ≡ Some (record { name = name; entries = entries (below (from t p)) }) = (rw e at found).0 in
       a ∙ b ∙ sym (heard_is ∙ rw f)
 
 pub ruleset symbol_laws = (symbol_zero, symbol_none, symbol_nothing, symbol_readable, symbol_is)

@@ -4,10 +4,8 @@
 
 mod lookup;
 
-ghost use Rattle.std.specs.Prelude.{◌≡◌, ◌≤◌, length};
-ghost use Rattle.std.proofs.Math.Option.{some};
+ghost use Rattle.std.specs.Prelude.{◌≡◌, ◌≤◌, length, Some, Ok};
 ghost use Rattle.refusal.specs.Refusal.{most_frame};
-ghost use Rattle.text.specs.declared.Verdict.TheVariants.{Accepted};
 ghost use Rattle.frame_text.specs.Rules.{verdict};
 ghost use Rattle.frame_definition.specs.Find.{meant};
 ghost use Rattle.buffer.specs.Buffer.{Writes};
@@ -15,16 +13,14 @@ ghost use Rattle.header_value.specs.Fields.{value_by, bytes_of, field_text, row_
 ghost use Rattle.header_value.specs.Lookup.{Stands};
 ghost use Rattle.header_value.specs.Answer.{HeaderValue};
 
-use buffer::Written;
-use display::{Value, display_value, write_nothing};
-use frame_definition::{Field, NextParam, find_param};
+use display::{display_value, write_nothing};
+use frame_definition::{Field, find_param};
 use frame_text::check_frame_text;
-use header::{Decoded, MOST_NUMBERS, decode_row};
+use header::{MOST_NUMBERS, decode_row};
 use header_paths::part_of;
 use header_rows::{BITS, NUMBER, ROW_WIDTH, START, SYMBOL, VALUE, VALUED};
 use lookup::symbol_text;
 use refusal::Refusal;
-use text::Verdict;
 
 // Numbers of a row that are shown: the start bit, the bits, whether there is a value, the value, and the symbol's number + 1 or 0.
 #[derive(Clone, Copy)]
@@ -36,13 +32,13 @@ struct Shown {
     symbol: u64,
 }
 
-fn value_of(valued: u64, value: u64) -> Value
+fn value_of(valued: u64, value: u64) -> Option<u64>
     ensures { result ≡ value_by valued value }
 {
     if valued == 1 {
-        return Value::Is(value);
+        return Some(value);
     }
-    Value::Not
+    None
 }
 
 // The bytes of a field over 64 bits, if they are whole bytes at a whole byte; else none.
@@ -62,9 +58,15 @@ fn bytes_of(mpdu: &[u8], start: u64, bits: u64) -> &[u8]
 }
 
 // What is shown of a field.
-fn field_value(text: &[u8], mpdu: &[u8], field: Field, shown: Shown, buffer: &mut [u8]) -> Written
-    requires { (verdict text.now ≡ Accepted) × (length mpdu.now ≤ most_frame) }
-    ensures { Writes (field_text text.now mpdu.now (some (meant text.now field)) shown.start shown.bits shown.valued
+fn field_value(
+    text: &[u8],
+    mpdu: &[u8],
+    field: Field,
+    shown: Shown,
+    buffer: &mut [u8],
+) -> Result<usize, Refusal>
+    requires { (verdict text.now ≡ Ok tt) × (length mpdu.now ≤ most_frame) }
+    ensures { Writes (field_text text.now mpdu.now (Some (meant text.now field)) shown.start shown.bits shown.valued
         shown.value shown.symbol) buffer.old result buffer.new }
 {
     let set = field.set;
@@ -76,12 +78,18 @@ fn field_value(text: &[u8], mpdu: &[u8], field: Field, shown: Shown, buffer: &mu
 }
 
 // What is shown of a row of a header.
-pub fn row_value(text: &[u8], mpdu: &[u8], rows: &[u64], row: usize, buffer: &mut [u8]) -> Written
-    requires { (verdict text.now ≡ Accepted) × (Stands mpdu.now rows.now row) }
+pub fn row_value(
+    text: &[u8],
+    mpdu: &[u8],
+    rows: &[u64],
+    row: usize,
+    buffer: &mut [u8],
+) -> Result<usize, Refusal>
+    requires { (verdict text.now ≡ Ok tt) × (Stands mpdu.now rows.now row) }
     ensures { Writes (row_text text.now mpdu.now rows.now row) buffer.old result buffer.new }
 {
     let at = row * ROW_WIDTH;
-    let NextParam::At { field, place: _ } = find_param(text, rows[at + NUMBER]) else {
+    let Some((field, _)) = find_param(text, rows[at + NUMBER]) else {
         return write_nothing(buffer);
     };
     let shown = Shown {
@@ -102,19 +110,19 @@ pub fn value_accepted(
     speed: u64,
     row: usize,
     buffer: &mut [u8],
-) -> Written
-    requires { verdict text.now ≡ Accepted }
+) -> Result<usize, Refusal>
+    requires { verdict text.now ≡ Ok tt }
     ensures { HeaderValue text.now mpdu.now region speed row buffer.old result buffer.new }
 {
     let mut rows = [0u64; MOST_NUMBERS];
     match decode_row(text, mpdu, region, speed, row, &mut rows) {
-        Decoded::Header(header) => {
+        Ok(header) => {
             if header.rows <= row {
-                return Written::Refused(Refusal::NoSuchField(row));
+                return Err(Refusal::NoSuchField(row));
             }
             row_value(text, mpdu, &rows, row, buffer)
         }
-        Decoded::Refused(refusal) => Written::Refused(refusal),
+        Err(refusal) => Err(refusal),
     }
 }
 
@@ -127,11 +135,11 @@ pub fn header_value(
     speed: u64,
     row: usize,
     buffer: &mut [u8],
-) -> Written
+) -> Result<usize, Refusal>
     ensures { HeaderValue text.now mpdu.now region speed row buffer.old result buffer.new }
 {
     match check_frame_text(text) {
-        Verdict::Accepted => value_accepted(text, mpdu, region, speed, row, buffer),
-        Verdict::Refused(refusal) => Written::Refused(refusal),
+        Ok(()) => value_accepted(text, mpdu, region, speed, row, buffer),
+        Err(refusal) => Err(refusal),
     }
 }

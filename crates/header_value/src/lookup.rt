@@ -1,8 +1,7 @@
 // The symbol that a row of a header names.
-ghost use Rattle.std.specs.Prelude.{◌≡◌, ◌≤◌};
+ghost use Rattle.std.specs.Prelude.{◌≡◌, ◌≤◌, Ok};
 ghost use Rattle.text.specs.Records.{Readable};
 ghost use Rattle.text.specs.Place.{part_of};
-ghost use Rattle.text.specs.declared.Verdict.TheVariants.{Accepted};
 ghost use Rattle.frame_text.specs.Rules.{rules, verdict};
 ghost use Rattle.frame_definition.specs.Definition.{below, entries};
 ghost use Rattle.frame_definition.specs.Find.{from, heard};
@@ -10,7 +9,7 @@ ghost use Rattle.header_value.specs.Fields.{entry_text, symbol_text};
 
 use frame_definition::{find_set, is_owner};
 use header_paths::part_of;
-use text::{Part, Place, Under};
+use text::{Part, Place};
 
 // The text of the E of number n, from 1, under the D that owns what follows the place; of no bytes where there is none.
 fn entry_text(text: &[u8], start: Place, n: u64) -> Part
@@ -41,7 +40,7 @@ fn entry_text(text: &[u8], start: Place, n: u64) -> Part
 
 // The text of the E of number n, from 1, in the define set whose name stands in a part of the text; nothing for 0 or a part of no bytes.
 pub fn symbol_text(text: &[u8], set: Part, n: u64) -> &[u8]
-    requires { verdict text.now ≡ Accepted }
+    requires { verdict text.now ≡ Ok tt }
     ensures { result.now ≡ symbol_text text.now (heard (λ l. l) text.now set) n }
 {
     if n == 0 {
@@ -51,7 +50,7 @@ pub fn symbol_text(text: &[u8], set: Part, n: u64) -> &[u8]
         return &text[..0];
     }
     let name = part_of(text, set.start as u64, set.len as u64);
-    let Under::At(place) = find_set(text, name) else {
+    let Some(place) = find_set(text, name) else {
         return &text[..0];
     };
     let part = entry_text(text, place, n);

@@ -26,14 +26,11 @@ use Rattle.header_paths.specs.Order.{list_from, IsNext}
 use Rattle.header_paths.proofs.Fields.{said_in, fields-length}
 use Rattle.header_paths.proofs.Scratch.{length-rows_in, rows_in-take}
 use Rattle.header_paths.proofs.Choice.{rest, from_zero, Chosen, chosen, none_left}
-use Rattle.header_walk.specs.declared.Extent.{Extent}
-use Rattle.header_walk.specs.declared.Extent.TheVariants as extent
-use Rattle.header_walk.specs.declared.Field.{Field}
-use Rattle.header_walk.specs.declared.Field.TheVariants.{Read, Missing}
 use Rattle.header_walk.specs.declared.Walked.{Walked}
 use Rattle.header_walk.specs.Walk.{Holds, Walks}
 use Rattle.header_walk.specs.Steps.{Laid, Absent, Lays, field_done, field_read, inner_done, Reads, Fills}
 use Rattle.header_walk.proofs.Exists.{exists-within}
+use Rattle.std.specs.Prelude.{Option, Some, None}
 
 -- ---- the flat walk of loaded lines, shortly
 
@@ -63,14 +60,14 @@ module _ (ps : List Numbered) (d : List ℕ) (left i s p : ℕ) (done : List Row
       go zero = rw e refl
       go (suc l) = rw e refl
 
-module _ (ps : List Numbered) (d u u' : List ℕ) (left i s p n : ℕ) (r : Extent) (er : Lays ps d u u' i s p n r) where
-  pub field-missing : r ≡ extent.Missing → Reads u' (field_read ps d left i s p (rows_in u n)) (field_done ps d left i s p (rows_in u n)) Missing
+module _ (ps : List Numbered) (d u u' : List ℕ) (left i s p n : ℕ) (r : Option ℕ) (er : Lays ps d u u' i s p n r) where
+  pub field-missing : r ≡ None → Reads u' (field_read ps d left i s p (rows_in u n)) (field_done ps d left i s p (rows_in u n)) None
   unfolding field_read
   field-missing e =
       let a : Absent ps d u u' i s p n = rw e at er in
       record { answer = rw a.exists refl; rows = rw (done_none ps d left i s p (rows_in u n) a.exists, length-rows_in) a.rows }
 
-  module _ (w : ℕ) (e : r ≡ extent.Bits w) where
+  module _ (w : ℕ) (e : r ≡ Some w) where
     own : Laid ps d u u' i s p n w
     own = rw e at er
 
@@ -80,7 +77,7 @@ module _ (ps : List Numbered) (d u u' : List ℕ) (left i s p n : ℕ) (r : Exte
     pub bits_fit : length d ≤ 2048 → Fits w64 (s + w)
     bits_fit l = let q = own.within in record { fits = omega arith }
 
-    answer_is : field_read ps d left i s p (rows_in u n) ≡ Read (length (field_done ps d left i s p (rows_in u n))) w
+    answer_is : field_read ps d left i s p (rows_in u n) ≡ Some ((length (field_done ps d left i s p (rows_in u n))), w)
     unfolding field_read
     answer_is = rw (own.exists, own.width_is) refl
 
@@ -91,7 +88,7 @@ module _ (ps : List Numbered) (d u u' : List ℕ) (left i s p n : ℕ) (r : Exte
     unfolding flat_field
     leaf_done z = rw (z, own.exists) refl
 
-    pub field_leaf : left ≡ 0 → Reads u' (field_read ps d left i s p (rows_in u n)) (field_done ps d left i s p (rows_in u n)) (Read (n + 1) w)
+    pub field_leaf : left ≡ 0 → Reads u' (field_read ps d left i s p (rows_in u n)) (field_done ps d left i s p (rows_in u n)) (Some ((n + 1), w))
     field_leaf z =
         let q : field_done ps d left i s p (rows_in u n) ≡ rows_in u' (n + 1) = leaf_done z ∙ sym more in
         record { answer = rw (answer_is, q, length-rows_in) refl; rows = rw (q, length-rows_in) refl }
@@ -108,7 +105,7 @@ module _ (ps : List Numbered) (d u u' : List ℕ) (left i s p n : ℕ) (r : Exte
         go (suc k) g = rw (own.exists, sub-one, one, ← own.width_is) refl
 
     pub field_tree : (m : ℕ) (u'' : List ℕ) → Fills u'' (inner_done ps d (left - 1) i (s + w) w (rows_in u' (n + 1))) m → (left ≡ 0 → ⊥)
-        → Reads u'' (field_read ps d left i s p (rows_in u n)) (field_done ps d left i s p (rows_in u n)) (Read m w)
+        → Reads u'' (field_read ps d left i s p (rows_in u n)) (field_done ps d left i s p (rows_in u n)) (Some (m, w))
     field_tree m u'' f z =
         let q : field_done ps d left i s p (rows_in u n) ≡ inner_done ps d (left - 1) i (s + w) w (rows_in u' (n + 1)) = tree_done z ∙ rw more refl in
         record { answer = rw (answer_is, q, f.count) refl; rows = rw q f.rows }
@@ -119,7 +116,7 @@ row_room ps i n l h = let e = inside_extents ps i in omega arith
 
 -- ---- the answer of a field
 
-module _ (ps : List Numbered) (d u u' : List ℕ) (left i s p n : ℕ) (f : Field)
+module _ (ps : List Numbered) (d u u' : List ℕ) (left i s p n : ℕ) (f : Option (ℕ × ℕ))
     (a : Reads u' (field_read ps d left i s p (rows_in u n)) (field_done ps d left i s p (rows_in u n)) f) where
   -- one that was read
   pub record WasRead (m w : ℕ) : Type 0 where
@@ -127,12 +124,12 @@ module _ (ps : List Numbered) (d u u' : List ℕ) (left i s p n : ℕ) (f : Fiel
     pub width_is : w ≡ wide ps d i p (rows_in u n)
     pub rows : rows_in u' m ≡ field_done ps d left i s p (rows_in u n)
 
-  read : (m w : ℕ) → f ≡ Read m w → WasRead m w
+  read : (m w : ℕ) → f ≡ Some (m, w) → WasRead m w
   unfolding field_read
   read m w e = go (there ps d i s p (rows_in u n)) refl (sym e ∙ a.answer)
     where
       go : (b : Bool) → there ps d i s p (rows_in u n) ≡ b
-          → Read m w ≡ cond b (Read (length (field_done ps d left i s p (rows_in u n))) (wide ps d i p (rows_in u n))) Missing → WasRead m w
+          → Some (m, w) ≡ cond b (Some ((length (field_done ps d left i s p (rows_in u n))), (wide ps d i p (rows_in u n)))) None → WasRead m w
       go true x q =
           let k : m ≡ length (field_done ps d left i s p (rows_in u n)) = cc in
           let v : w ≡ wide ps d i p (rows_in u n) = cc in
@@ -140,15 +137,15 @@ module _ (ps : List Numbered) (d u u' : List ℕ) (left i s p n : ℕ) (f : Fiel
       go false x q = let z : ◌≡◌ {A = ℕ} 0 1 = cc in absurd (omega arith)
 
   -- one that is missing
-  missing-not : f ≡ Missing → there ps d i s p (rows_in u n) ≡ false
+  missing-not : f ≡ None → there ps d i s p (rows_in u n) ≡ false
   unfolding field_read
   missing-not e = go (there ps d i s p (rows_in u n)) (sym e ∙ a.answer)
     where
-      go : (b : Bool) → Missing ≡ cond b (Read (length (field_done ps d left i s p (rows_in u n))) (wide ps d i p (rows_in u n))) Missing → b ≡ false
+      go : (b : Bool) → None ≡ cond b (Some ((length (field_done ps d left i s p (rows_in u n))), (wide ps d i p (rows_in u n)))) None → b ≡ false
       go true q = let z : ◌≡◌ {A = ℕ} 0 1 = cc in absurd (omega arith)
       go false q = refl
 
-  missing-rows : f ≡ Missing → rows_in u' n ≡ field_done ps d left i s p (rows_in u n)
+  missing-rows : f ≡ None → rows_in u' n ≡ field_done ps d left i s p (rows_in u n)
   missing-rows e =
       let z = done_none ps d left i s p (rows_in u n) (missing-not e) in
       rw z (rw (z, length-rows_in) at a.rows)
@@ -231,7 +228,7 @@ module _ (x t d : List ℕ) (count left i end width n : ℕ) (u₀ : List ℕ) w
       pub inner_less : count ≤ 128 → i < count → length (rest x t count level (i + 1) o (j + 1)) < length (rest x t count level (i + 1) order place)
       inner_less few h = rw (is few h).then (omega arith)
 
-      module _ (u' : List ℕ) (f : Field) (a : Reads u' (field_read (fields_in x t count) d left j (bit - w) n (rows_in u next))
+      module _ (u' : List ℕ) (f : Option (ℕ × ℕ)) (a : Reads u' (field_read (fields_in x t count) d left j (bit - w) n (rows_in u next))
           (field_done (fields_in x t count) d left j (bit - w) n (rows_in u next)) f) where
         going_on : w ≤ room → length u' ≡ length u → count ≤ 128 → i < count → (m : ℕ)
             → rows_in u' m ≡ field_done (fields_in x t count) d left j (bit - w) n (rows_in u next)
@@ -258,11 +255,11 @@ module _ (x t d : List ℕ) (count left i end width n : ℕ) (u₀ : List ℕ) w
               same = len ∙ g.same;
             }
 
-        pub inner_takes : (m v : ℕ) → f ≡ Read m v → w ≤ room → length u' ≡ length u → count ≤ 128 → i < count
+        pub inner_takes : (m v : ℕ) → f ≡ Some (m, v) → w ≤ room → length u' ≡ length u → count ≤ 128 → i < count
             → Going x t d count left i end width n u₀ u' level o (j + 1) (room - w) (bit - w) m
         inner_takes m v q l len few h = going_on l len few h m (read (fields_in x t count) d u u' left j (bit - w) n next f a m v q).rows
 
-        pub inner_skips : f ≡ Missing → w ≤ room → length u' ≡ length u → count ≤ 128 → i < count
+        pub inner_skips : f ≡ None → w ≤ room → length u' ≡ length u → count ≤ 128 → i < count
             → Going x t d count left i end width n u₀ u' level o (j + 1) (room - w) (bit - w) next
         inner_skips q l len few h = going_on l len few h next (missing-rows (fields_in x t count) d u u' left j (bit - w) n next f a q)
 
@@ -344,9 +341,9 @@ module _ (x t d : List ℕ) (count first start n : ℕ) (u₀ : List ℕ) where
       pub listing_less : count ≤ 128 → first ≤ count → length (rest x t count 0 first o (j + 1)) < length (rest x t count 0 first order place)
       listing_less few h = rw (at_j few h).then (omega arith)
 
-      module _ (u' : List ℕ) (f : Field) (a : Reads u' (field_read (fields_in x t count) d 7 j bit 0 (rows_in u next))
+      module _ (u' : List ℕ) (f : Option (ℕ × ℕ)) (a : Reads u' (field_read (fields_in x t count) d 7 j bit 0 (rows_in u next))
           (field_done (fields_in x t count) d 7 j bit 0 (rows_in u next)) f) where
-        pub listing-stops : f ≡ Missing → count ≤ 128 → first ≤ count
+        pub listing-stops : f ≡ None → count ≤ 128 → first ≤ count
             → Walks d u₀ u' n (count - first) (walked_from (fields_in x t count) d first start (rows_in u₀ n))
             (record { bit = record { 0 = bit }; rows = next })
         unfolding flat_listed
@@ -355,7 +352,7 @@ module _ (x t d : List ℕ) (count first start n : ℕ) (u₀ : List ℕ) where
             stopped (rw ((at_j few h).then, z) at g.left) u'
             (missing-rows (fields_in x t count) d u u' 7 j bit 0 next f a q ∙ done_none (fields_in x t count) d 7 j bit 0 (rows_in u next) z)
 
-        module _ (m v : ℕ) (q : f ≡ Read m v) where
+        module _ (m v : ℕ) (q : f ≡ Some (m, v)) where
           done : WasRead (fields_in x t count) d u u' 7 j bit 0 next f a m v
           done = read (fields_in x t count) d u u' 7 j bit 0 next f a m v q
 

@@ -1,6 +1,5 @@
 -- E9 (docs/RULES.md): A5 C3 is walked by the loaded P lines of that text.
-use Rattle.std.specs.Prelude.{◌≡◌, refl, List, [], ◌∷◌, ℕ}
-use Rattle.std.proofs.Math.Option.{some}
+use Rattle.std.specs.Prelude.{◌≡◌, refl, List, [], ◌∷◌, ℕ, Some}
 use Rattle.bits.specs.Bits.{bits_at}
 use Rattle.frame_definition.specs.Definition.{Numbered}
 use Rattle.header_fields.specs.Fields.{param_at, fields_from, fields_in}
@@ -41,6 +40,6 @@ unfolding bits_at param_at fields_from said_at places_of since inside_of outer_f
     flat_packed flat_field flat_listed
 walked = refl
 
-found : flat_value (name_of lines) rows (names path) 0 ≡ some 3
+found : flat_value (name_of lines) rows (names path) 0 ≡ Some 3
 unfolding param_at fields_from said_at find_row flat_value
 found = refl

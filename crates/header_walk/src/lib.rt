@@ -11,28 +11,14 @@ ghost use Rattle.header_paths.specs.Scratch.{scratch_width, rows_in, tells};
 ghost use Rattle.header_walk.specs.Walk.{Shaped, Walks};
 ghost use Rattle.header_walk.specs.Steps.{wanted, width, fitting, extent_of, Lays, field_done, field_read, inner_done, Reads, Fills};
 
-use bits::{Bits, read_bits};
+use bits::read_bits;
 use header_fields::{BITS, LINE_WIDTH, OPTIONAL, SIZE};
-use header_paths::{BitOffset, Next, Row, SCRATCH_WIDTH, Valued, find_inside, next_field, part_of};
+use header_paths::{BitOffset, Next, Row, SCRATCH_WIDTH, find_inside, next_field, part_of};
 pub use header_paths::{find_value, row_at};
 use rows::put_row;
 
 // The deepest level.
 const DEEPEST: u64 = 7;
-
-// How wide a field is where it exists.
-#[derive(Clone, Copy)]
-pub enum Extent {
-    Bits(u64),
-    Missing,
-}
-
-// A field that was read: how many rows there are behind it, and how wide it is.
-#[derive(Clone, Copy)]
-pub enum Field {
-    Read { rows: usize, bits: u64 },
-    Missing,
-}
 
 // Where a list of fields ends, and how many rows there are behind it.
 #[derive(Clone, Copy)]
@@ -74,8 +60,7 @@ fn is_wanted(text: &[u8], fields: &[u64], count: usize, spot: Spot, rows: &[u64]
         return true;
     }
     let path = part_of(text, fields[at], len);
-    let Valued::Value(value) = find_inside(text, fields, count, rows, spot.rows, path, spot.parent)
-    else {
+    let Some(value) = find_inside(text, fields, count, rows, spot.rows, path, spot.parent) else {
         return false;
     };
     0 < value
@@ -95,8 +80,7 @@ fn width_of(text: &[u8], fields: &[u64], count: usize, spot: Spot, rows: &[u64],
         return fitting(fields[i * LINE_WIDTH + BITS], left);
     }
     let path = part_of(text, fields[at], len);
-    let Valued::Value(bytes) = find_inside(text, fields, count, rows, spot.rows, path, spot.parent)
-    else {
+    let Some(bytes) = find_inside(text, fields, count, rows, spot.rows, path, spot.parent) else {
         return 0;
     };
     bits_of(bytes, left)
@@ -130,20 +114,20 @@ fn extent_of(
     spot: Spot,
     rows: &[u64],
     left: u64,
-) -> Extent
+) -> Option<u64>
     requires { (count * line_width ≤ length fields.now) × (spot.place < count) × (spot.rows * scratch_width ≤ length rows.now)
         × (left ≤ 16384) }
     ensures { result ≡ extent_of (fields_in text.now fields.now count) spot.place spot.parent left
         (rows_in rows.now spot.rows) }
 {
     if !is_wanted(text, fields, count, spot, rows) {
-        return Extent::Missing;
+        return None;
     }
     let bits = width_of(text, fields, count, spot, rows, left);
     if bits == 0 {
-        return Extent::Missing;
+        return None;
     }
-    Extent::Bits(bits)
+    Some(bits)
 }
 
 // The row of a field that exists. One of more than 64 bits has no value.
@@ -152,7 +136,7 @@ fn row_of(mpdu: &[u8], place: u64, parent: u64, start: BitOffset, bits: u64) -> 
     ensures { tells result ≡ row_at mpdu.now place parent start.0 bits }
 {
     match read_bits(mpdu, start.0, bits) {
-        Bits::Value(value) => Row {
+        Some(value) => Row {
             place,
             parent,
             start,
@@ -160,7 +144,7 @@ fn row_of(mpdu: &[u8], place: u64, parent: u64, start: BitOffset, bits: u64) -> 
             valued: 1,
             value,
         },
-        Bits::Declined => Row {
+        None => Row {
             place,
             parent,
             start,
@@ -191,7 +175,7 @@ fn lay_row(
     count: usize,
     spot: Spot,
     rows: &mut [u64],
-) -> Extent
+) -> Option<u64>
     requires shaped { Shaped mpdu.now fields.now count }
     requires place_lt_count { (spot.place < count) × (spot.start.0 ≤ length mpdu.now * 8) × ((spot.rows + 1) * scratch_width ≤ length rows.old) }
     ensures { Lays (fields_in text.now fields.now count) mpdu.now rows.old rows.new spot.place
@@ -199,12 +183,12 @@ fn lay_row(
 {
     let start = spot.start;
     let left = mpdu.len() as u64 * 8 - start.0;
-    let Extent::Bits(bits) = extent_of(text, fields, count, spot, &rows[..], left) else {
-        return Extent::Missing;
+    let Some(bits) = extent_of(text, fields, count, spot, &rows[..], left) else {
+        return None;
     };
     let row = row_of(mpdu, spot.place as u64, spot.parent, start, bits);
     write_row(rows, spot.rows, row);
-    Extent::Bits(bits)
+    Some(bits)
 }
 
 // Reads a field, and the fields inside it: their rows are written behind the rows before it.
@@ -216,7 +200,7 @@ fn decode_param(
     count: usize,
     spot: Spot,
     rows: &mut [u64],
-) -> Field
+) -> Option<(usize, u64)>
     requires shaped { Shaped mpdu.now fields.now count }
     requires place_lt_count { (spot.place < count) × (level_in fields.now spot.place + spot.left ≡ 7) × (spot.start.0 ≤ length mpdu.now * 8)
         × ((spot.rows + extent_at (fields_in text.now fields.now count) spot.place) * scratch_width ≤ length rows.old) }
@@ -226,12 +210,12 @@ fn decode_param(
         Reads rows.new (field_read ps d spot.left spot.place spot.start.0 spot.parent before)
         (field_done ps d spot.left spot.place spot.start.0 spot.parent before) result }
 {
-    let Extent::Bits(bits) = lay_row(mpdu, text, fields, count, spot, rows) else {
-        return Field::Missing;
+    let Some(bits) = lay_row(mpdu, text, fields, count, spot, rows) else {
+        return None;
     };
     let own = spot.rows + 1;
     if spot.left == 0 {
-        return Field::Read { rows: own, bits };
+        return Some((own, bits));
     }
     let outer = Outer {
         place: spot.place,
@@ -241,7 +225,7 @@ fn decode_param(
         left: spot.left - 1,
     };
     let after = decode_inner(mpdu, text, fields, count, outer, rows);
-    Field::Read { rows: after, bits }
+    Some((after, bits))
 }
 
 // Reads the fields inside a field: from its end downwards, while the declared widths fit. One that is missing keeps its room. Returns how many rows
@@ -293,11 +277,7 @@ fn decode_inner(
             rows: next,
             left,
         };
-        let Field::Read {
-            rows: after,
-            bits: _,
-        } = decode_param(mpdu, text, fields, count, spot, rows)
-        else {
+        let Some((after, _)) = decode_param(mpdu, text, fields, count, spot, rows) else {
             continue;
         };
         next = after;
@@ -346,8 +326,7 @@ pub fn walk_from(
             rows: next,
             left: DEEPEST,
         };
-        let Field::Read { rows: after, bits } = decode_param(mpdu, text, fields, count, spot, rows)
-        else {
+        let Some((after, bits)) = decode_param(mpdu, text, fields, count, spot, rows) else {
             return Walked {
                 bit: at,
                 rows: next,

@@ -10,26 +10,14 @@ use mir.Val.{to_z, of_z, hbits}
 use mir.Facts.{to_z-of_z}
 use Rattle.refusal.specs.declared.Refusal.{Refusal}
 use Rattle.refusal.specs.Refusal.{number_of, carried_by}
-use Rattle.records.specs.declared.Counted.{Counted}
-use Rattle.records.specs.declared.Counted.TheVariants.{Records, Refused as Uncounted}
 use Rattle.records.specs.declared.Span.{Span}
 use Rattle.records.specs.Records.{said, said_of, Counts}
 use Rattle.records.specs.Steps.{IsBody}
 use Rattle.frame.specs.declared.Reading.{Reading}
 use Rattle.frame.specs.Frame.{reading_by, direction_number, beams_number, target_numbers, frame_numbers, parsed_of, Parses as ParsesRecord}
 use Rattle.frame.specs.declared.PtiFrame.{PtiFrame}
-use Rattle.frame.specs.declared.Parsed.{Parsed}
-use Rattle.frame.specs.declared.Parsed.TheVariants.{Frame, Refused as NoFrame}
-use Rattle.pti.specs.declared.payload.Frames.{Frames}
-use Rattle.pti.specs.declared.payload.Frames.TheVariants.{Rows, Refused}
 use Rattle.pti.specs.Payload.{said as saidFrames, Parses}
-use Rattle.text.specs.declared.Verdict.{Verdict}
-use Rattle.text.specs.declared.Verdict.TheVariants.{Accepted, Refused as Unfit}
-use Rattle.bits.specs.declared.Bits.{Bits}
-use Rattle.bits.specs.declared.Bits.TheVariants.{Value, Declined}
 use Rattle.header.specs.declared.DecodedHeader.{DecodedHeader}
-use Rattle.header.specs.declared.Decoded.{Decoded}
-use Rattle.header.specs.declared.Decoded.TheVariants as header
 use Rattle.header.specs.Decode.{Decodes}
 use Rattle.records.specs.declared.PayloadOffset.{PayloadOffset}
 use Rattle.command_rules.specs.declared.Offsets.{Offsets}
@@ -47,32 +35,33 @@ use Rattle.libtap.specs.declared.commands.TapParams.{TapParams}
 use Rattle.libtap.specs.Answers.{answered, judged, part, ToldBody, aimed, framed, told_frame, Told}
 use Rattle.libtap.specs.Headers.{told_bits, headed, told_header, ToldHeader}
 use Rattle.libtap.specs.Commands.{told_by}
+use Rattle.std.specs.Prelude.{Option, Some, None, Result, Ok, Err}
 
 pub refuses : (x : Refusal) (number carried : ℕ) → number ≡ number_of x → carried ≡ carried_by x
     → record { refusal = number; value = carried } ≡ answered (number_of x, carried_by x)
 refuses x number carried is_number is_Carried = rw (is_number, is_Carried) refl
 
 -- ---- frames
-pub tells-rows : (f : Frames) (n : ℕ) (r : TapAnswer) → f ≡ Rows n → r ≡ answered (0, n) → r ≡ answered (saidFrames f)
+pub tells-rows : (f : Result ℕ Refusal) (n : ℕ) (r : TapAnswer) → f ≡ Ok n → r ≡ answered (0, n) → r ≡ answered (saidFrames f)
 tells-rows f n r e is = rw e is
 
-pub tells_refusal : (f : Frames) (x : Refusal) (r : TapAnswer) → f ≡ Refused x → r ≡ answered (number_of x, carried_by x)
+pub tells_refusal : (f : Result ℕ Refusal) (x : Refusal) (r : TapAnswer) → f ≡ Err x → r ≡ answered (number_of x, carried_by x)
     → r ≡ answered (saidFrames f)
 tells_refusal f x r e is = rw e is
 
-pub told-all : (firmware : ℕ) (reading : Reading) (family : Bool) (s t : List ℕ) (f : Frames) (r : TapAnswer) (t' : List ℕ)
+pub told-all : (firmware : ℕ) (reading : Reading) (family : Bool) (s t : List ℕ) (f : Result ℕ Refusal) (r : TapAnswer) (t' : List ℕ)
     → Parses firmware reading s t f t' → reading ≡ reading_by family → r ≡ answered (saidFrames f) → Told firmware (reading_by family) s t r t'
 told-all firmware reading family s t f r t' parses is-reading is-r =
     let p : Parses firmware (reading_by family) s t f t' = rw is-reading at parses in
     record { answer = is-r ∙ ap answered p.numbers; table = rw p.answer at p.table; located = rw p.answer at p.located }
 
-pub counts : (c : Counted) (n : ℕ) (r : TapAnswer) → c ≡ Records n → r ≡ answered (0, n) → r ≡ answered (said c)
+pub counts : (c : Result ℕ Refusal) (n : ℕ) (r : TapAnswer) → c ≡ Ok n → r ≡ answered (0, n) → r ≡ answered (said c)
 counts c n r e is = rw e is
 
-pub counts_refusal : (c : Counted) (x : Refusal) (r : TapAnswer) → c ≡ Uncounted x → r ≡ answered (number_of x, carried_by x) → r ≡ answered (said c)
+pub counts_refusal : (c : Result ℕ Refusal) (x : Refusal) (r : TapAnswer) → c ≡ Err x → r ≡ answered (number_of x, carried_by x) → r ≡ answered (said c)
 counts_refusal c x r e is = rw e is
 
-pub counts_all : (s : List ℕ) (c : Counted) (r : TapAnswer) → Counts s c → r ≡ answered (said c) → r ≡ answered (said_of s)
+pub counts_all : (s : List ℕ) (c : Result ℕ Refusal) (r : TapAnswer) → Counts s c → r ≡ answered (said c) → r ≡ answered (said_of s)
 counts_all s c r so is-r = is-r ∙ ap answered so.numbers
 
 pub parts : (s : List ℕ) (k : ℕ) (b : Span) → IsBody s k b → ToldBody s k (record { start = b.start.0; length = b.end.0 - b.start.0 })
@@ -98,10 +87,10 @@ framed-row f d rssi beams target is-d is-rssi ok is-beams is-target =
     let read_back : to_z w8 (of_z w8 f.rssi) ≡ f.rssi = to_z-of_z {w = w8} {z = f.rssi} (record { sfits = ok }) in
     rw (is-d, is-rssi, read_back, is-beams, is-target) refl
 
-pub frames : (p : Parsed) (f : PtiFrame) (r : TapFrame) → p ≡ Frame f → r ≡ framed (frame_numbers f) → r ≡ told_frame p
+pub frames : (p : Result PtiFrame Refusal) (f : PtiFrame) (r : TapFrame) → p ≡ Ok f → r ≡ framed (frame_numbers f) → r ≡ told_frame p
 frames p f r e is-r = rw e is-r
 
-pub frames_refusal : (p : Parsed) (x : Refusal) (number carried : ℕ) → p ≡ NoFrame x → number ≡ number_of x → carried ≡ carried_by x
+pub frames_refusal : (p : Result PtiFrame Refusal) (x : Refusal) (number carried : ℕ) → p ≡ Err x → number ≡ number_of x → carried ≡ carried_by x
     → record {
       refusal = number;
       value = carried;
@@ -117,34 +106,34 @@ pub frames_refusal : (p : Parsed) (x : Refusal) (number carried : ℕ) → p ≡
     } ≡ told_frame p
 frames_refusal p x number carried e is_number is_Carried = rw (e, is_number, is_Carried) refl
 
-pub frames-all : (firmware : ℕ) (reading : Reading) (family : Bool) (b : List ℕ) (p : Parsed) (r : TapFrame) → ParsesRecord firmware reading b p
+pub frames-all : (firmware : ℕ) (reading : Reading) (family : Bool) (b : List ℕ) (p : Result PtiFrame Refusal) (r : TapFrame) → ParsesRecord firmware reading b p
     → reading ≡ reading_by family → r ≡ told_frame p → r ≡ told_frame (parsed_of firmware (reading_by family) b)
 frames-all firmware reading family b p r so is-reading is-r = is-r ∙ ap told_frame (rw is-reading at so.answer)
 
 -- ---- texts
-pub tells-accepted : (v : Verdict) (r : TapAnswer) → v ≡ Accepted → r ≡ answered (0, 0) → r ≡ judged v
+pub tells-accepted : (v : Result (Unit {0}) Refusal) (r : TapAnswer) → v ≡ Ok tt → r ≡ answered (0, 0) → r ≡ judged v
 tells-accepted v r e is = rw e is
 
-pub tells_unfit : (v : Verdict) (x : Refusal) (r : TapAnswer) → v ≡ Unfit x → r ≡ answered (number_of x, carried_by x) → r ≡ judged v
+pub tells_unfit : (v : Result (Unit {0}) Refusal) (x : Refusal) (r : TapAnswer) → v ≡ Err x → r ≡ answered (number_of x, carried_by x) → r ≡ judged v
 tells_unfit v x r e is = rw e is
 
-pub tells-verdict : (v w : Verdict) (r : TapAnswer) → v ≡ w → r ≡ judged v → r ≡ judged w
+pub tells-verdict : (v w : Result (Unit {0}) Refusal) (r : TapAnswer) → v ≡ w → r ≡ judged v → r ≡ judged w
 tells-verdict v w r e is-r = rw e at is-r
 
 -- ---- headers
-pub reads_value : (b : Bits) (n : ℕ) → b ≡ Value n → record { is_read = true; value = n } ≡ told_bits b
+pub reads_value : (b : Option ℕ) (n : ℕ) → b ≡ Some n → record { is_read = true; value = n } ≡ told_bits b
 reads_value b n e = rw e refl
 
-pub reads_none : (b : Bits) → b ≡ Declined → record { is_read = false; value = 0 } ≡ told_bits b
+pub reads_none : (b : Option ℕ) → b ≡ None → record { is_read = false; value = 0 } ≡ told_bits b
 reads_none b e = rw e refl
 
-pub reads_all : (b c : Bits) (r : TapBits) → b ≡ c → r ≡ told_bits b → r ≡ told_bits c
+pub reads_all : (b c : Option ℕ) (r : TapBits) → b ≡ c → r ≡ told_bits b → r ≡ told_bits c
 reads_all b c r e is-r = rw e at is-r
 
-pub heads : (d : Decoded) (h : DecodedHeader) (r : TapHeader) → d ≡ header.Header h → r ≡ headed h → r ≡ told_header d
+pub heads : (d : Result DecodedHeader Refusal) (h : DecodedHeader) (r : TapHeader) → d ≡ Ok h → r ≡ headed h → r ≡ told_header d
 heads d h r e is-r = rw e is-r
 
-pub heads_refusal : (d : Decoded) (x : Refusal) (number carried : ℕ) → d ≡ header.Refused x → number ≡ number_of x → carried ≡ carried_by x
+pub heads_refusal : (d : Result DecodedHeader Refusal) (x : Refusal) (number carried : ℕ) → d ≡ Err x → number ≡ number_of x → carried ≡ carried_by x
     → record {
       refusal = number;
       value = carried;
@@ -162,7 +151,7 @@ pub heads_refusal : (d : Decoded) (x : Refusal) (number carried : ℕ) → d ≡
     } ≡ told_header d
 heads_refusal d x number carried e is_number is_Carried = rw (e, is_number, is_Carried) refl
 
-pub heads-all : (text mpdu : List ℕ) (region speed : ℕ) (t : List ℕ) (d : Decoded) (r : TapHeader) (t' : List ℕ)
+pub heads-all : (text mpdu : List ℕ) (region speed : ℕ) (t : List ℕ) (d : Result DecodedHeader Refusal) (r : TapHeader) (t' : List ℕ)
     → Decodes text mpdu region speed t d t' → r ≡ told_header d
     → ToldHeader text mpdu region speed t r t'
 heads-all text mpdu region speed t d r t' so is-r = record { answer = d; decodes = so; told = is-r }

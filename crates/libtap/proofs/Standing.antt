@@ -11,16 +11,12 @@ use Rattle.refusal.specs.declared.Refusal.{Refusal}
 use Rattle.refusal.specs.declared.Refusal.TheVariants.{NoSuchField, TooLong, MoreRows, MoreBytes, Xml, NotPlain}
 use Rattle.refusal.specs.Refusal.{number_of, carried_by}
 use Rattle.refusal.proofs.Numbers.{numbered}
-use Rattle.text.specs.declared.Verdict.{Verdict}
-use Rattle.text.specs.declared.Verdict.TheVariants.{Accepted, Refused as Unfit}
 use Rattle.frame.specs.declared.Reading.{Reading}
 use Rattle.frame.specs.Frame.{region_bits, rules_of}
 use Rattle.pti.specs.Payload as pti
 use Rattle.command_text.specs.Rules.{verdict}
 use Rattle.frame_text.specs.Rules.{verdict as frameVerdict}
 use Rattle.tidy.specs.Tidy.{tidied}
-use Rattle.header.specs.declared.Decoded.{Decoded}
-use Rattle.header.specs.declared.Decoded.TheVariants as decoded
 use Rattle.header.proofs.Room as room
 use Rattle.header_rules.specs.Table as header
 use Rattle.command_class.specs.Definition.{definition}
@@ -31,16 +27,11 @@ use Rattle.command_rules.specs.declared.Offsets.{Offsets}
 use Rattle.command.specs.Answer as params
 use Rattle.command_rules.specs.declared.Row.{Row}
 use Rattle.command_row.specs.Answer.{row_of}
-use Rattle.command_row.specs.declared.Found.{Found}
-use Rattle.command_row.specs.declared.Found.TheVariants as found
-use Rattle.node_mask.specs.declared.Listed.TheVariants as listed
 use Rattle.node_mask.specs.Nodes.{nodes_of, listed}
 use Rattle.header_nodes.specs.Fields.{is_mask_row, mask_at}
 use Rattle.header_nodes.specs.Answer.{no_such_field, of_row, answer_of, rows_of, of_decoded}
 use Rattle.command_nodes.specs.Fields as fields
 use Rattle.command_nodes.specs.Answer as nodes
-use Rattle.buffer.specs.declared.Written.{Written}
-use Rattle.buffer.specs.declared.Written.TheVariants as written
 use Rattle.buffer.specs.Buffer.{answer_in, answer_by}
 use Rattle.header_value.specs.Fields.{row_text}
 use Rattle.header_value.specs.Answer as value
@@ -59,11 +50,11 @@ use Rattle.libtap.specs.Totals.{ToldTotals}
 use Rattle.plain_form.specs.PlainForm.{out_of_order, is_plain}
 use Rattle.xml_elements.specs.Elements.{xml_of}
 use Rattle.xml_writer.specs.Writer as writer
-use Rattle.xml_tags.specs.declared.Fault.{Fault}
-use Rattle.xml_tags.specs.declared.Fault.TheVariants.{Fine, At}
 use Rattle.xml_document.specs.Document as document
 use Rattle.xml.specs.Call as reader
 use Rattle.libtap.specs.Xml.{ToldXml, ToldText}
+use Rattle.std.specs.Prelude.{Option, Some, None, Result, Ok, Err}
+use Rattle.header.specs.declared.DecodedHeader.{DecodedHeader}
 
 refused-stands : (t : List ℕ) (x : Refusal) → Stands t (record { refusal = number_of x; value = carried_by x })
 refused-stands t x z = absurd (eqb-false (number_of x) 0 (numbered x) z)
@@ -97,9 +88,9 @@ pub header-stands : (t d : List ℕ) (region speed : ℕ) (table : List ℕ) (r 
 header-stands t d region speed table r table' p same =
     rw p.told (go p.answer (room.header-stands t d region speed table p.answer table' p.decodes))
   where
-    go : (x : Decoded) → room.Stands (length table) x → (told_header x).rows * header.row_width ≤ length table'
-    go (decoded.Header h) s = omega (arith, same)
-    go (decoded.Refused x) s = omega arith
+    go : (x : Result DecodedHeader Refusal) → room.Stands (length table) x → (told_header x).rows * header.row_width ≤ length table'
+    go (Ok h) s = omega (arith, same)
+    go (Err x) s = omega arith
 
 -- ---- the rows of a command
 module _ (offsets : Offsets) (payload t t' : List ℕ) (same : length t' ≡ length t) where
@@ -115,12 +106,12 @@ module _ (offsets : Offsets) (payload t t' : List ℕ) (same : length t' ≡ len
       go true few = omega (arith, few refl, same)
       go false few = omega arith
 
-  judged-stands : (v : Verdict) (long short : Bool) (a : params.Told) → RowsStand a
+  judged-stands : (v : Result (Unit {0}) Refusal) (long short : Bool) (a : params.Told) → RowsStand a
       → RowsStand (params.on_verdict v (cond long (params.refused 4 (length payload)) (cond short (params.refused 5 (length payload)) a)))
-  judged-stands (Unfit x) long short a s = omega arith
-  judged-stands Accepted true short a s = omega arith
-  judged-stands Accepted false true a s = omega arith
-  judged-stands Accepted false false a s = s
+  judged-stands (Err x) long short a s = omega arith
+  judged-stands (Ok tt) true short a s = omega arith
+  judged-stands (Ok tt) false true a s = omega arith
+  judged-stands (Ok tt) false false a s = s
 
   answer-stands : (text : List ℕ) → RowsStand (params.answer_of offsets text payload (length t))
   unfolding params.answer_of params.answer_by
@@ -140,12 +131,12 @@ module _ (table table' : List ℕ) (same : length table' ≡ length table) where
   listed-stands m = by_long (ltb 8191 (length m))
     where
       by_room : (b : Bool) → ltb (length table) (length (nodes_of m)) ≡ b
-          → Stands table' (told_listed (cond b (listed.Refused (MoreRows (length (nodes_of m)))) (listed.Nodes (length (nodes_of m)))))
+          → Stands table' (told_listed (cond b (Err (MoreRows (length (nodes_of m)))) (Ok (length (nodes_of m)))))
       by_room true e = refused-stands table' (MoreRows (length (nodes_of m)))
       by_room false e = λ z. omega (arith, same, ltb-false (length table) (length (nodes_of m)) e)
 
-      by_long : (b : Bool) → Stands table' (told_listed (cond b (listed.Refused (TooLong (length m)))
-          (cond (ltb (length table) (length (nodes_of m))) (listed.Refused (MoreRows (length (nodes_of m)))) (listed.Nodes (length (nodes_of m))))))
+      by_long : (b : Bool) → Stands table' (told_listed (cond b (Err (TooLong (length m)))
+          (cond (ltb (length table) (length (nodes_of m))) (Err (MoreRows (length (nodes_of m)))) (Ok (length (nodes_of m))))))
       by_long true = refused-stands table' (TooLong (length m))
       by_long false = by_room (ltb (length table) (length (nodes_of m))) refl
 
@@ -161,9 +152,9 @@ nodes_stand t d region speed k table r table' p same = rw (p.told_so, p.lists.an
     past true = refused-stands table' (NoSuchField k)
     past false = by_row (is_mask_row t (rows_of t d region speed) k)
 
-    by_answer : (x : Decoded) → Stands table' (told_listed (of_decoded t d (rows_of t d region speed) k (length table) x))
-    by_answer (decoded.Header h) = past (leb h.rows k)
-    by_answer (decoded.Refused x) = refused-stands table' x
+    by_answer : (x : Result DecodedHeader Refusal) → Stands table' (told_listed (of_decoded t d (rows_of t d region speed) k (length table) x))
+    by_answer (Ok h) = past (leb h.rows k)
+    by_answer (Err x) = refused-stands table' x
 
 -- ---- the nodes of a command's row
 pub command_nodes_stand : (offsets : Offsets) (t payload : List ℕ) (k : ℕ) (table : List ℕ) (r : TapAnswer) (table' : List ℕ)
@@ -174,21 +165,21 @@ command_nodes_stand offsets t payload k table r table' p same = rw (p.told_so, p
     by_row row true = listed-stands table table' same (fields.mask_of payload row)
     by_row row false = refused-stands table' (NoSuchField k)
 
-    by_found : (x : Found) → Stands table' (told_listed (nodes.of_found t payload k (length table) x))
-    by_found (found.Row row) = by_row row (fields.is_mask_row t row)
-    by_found (found.Refused x) = refused-stands table' x
+    by_found : (x : Result Row Refusal) → Stands table' (told_listed (nodes.of_found t payload k (length table) x))
+    by_found (Ok row) = by_row row (fields.is_mask_row t row)
+    by_found (Err x) = refused-stands table' x
 
 -- ---- a text in a buffer
 pub written_stands : (n : ℕ) (b b' : List ℕ) → length b' ≡ length b → Stands b' (told_written (answer_in n (length b)))
 written_stands n b b' same = go (leb n (length b)) refl
   where
-    go : (x : Bool) → leb n (length b) ≡ x → Stands b' (told_written (cond x (written.Length n) (written.Refused (MoreBytes n))))
+    go : (x : Bool) → leb n (length b) ≡ x → Stands b' (told_written (cond x (Ok n) (Err (MoreBytes n))))
     go true e = λ z. omega (arith, same, leb-true n (length b) e)
     go false e = refused-stands b' (MoreBytes n)
 
-checked_stands : (v : Verdict) (a : Written) (b : List ℕ) → Stands b (told_written a) → Stands b (told_written (answer_by v a))
-checked_stands Accepted a b s = s
-checked_stands (Unfit x) a b s = refused-stands b x
+checked_stands : (v : Result (Unit {0}) Refusal) (a : Result ℕ Refusal) (b : List ℕ) → Stands b (told_written a) → Stands b (told_written (answer_by v a))
+checked_stands (Ok tt) a b s = s
+checked_stands (Err x) a b s = refused-stands b x
 
 -- ---- a tidied text
 pub tidied-stands : (t b : List ℕ) (r : TapAnswer) (b' : List ℕ) → ToldTidied t b r b' → length b' ≡ length b → Stands b' r
@@ -202,13 +193,13 @@ pub value-stands : (t d : List ℕ) (region speed k : ℕ) (b : List ℕ) (r : T
 value-stands t d region speed k b r b' p same = rw (p.told_so, p.shows.answer) (by_answer (answer_of t d region speed))
   where
     past : (x : Bool)
-        → Stands b' (told_written (cond x (written.Refused (NoSuchField k)) (answer_in (length (row_text t d (rows_of t d region speed) k)) (length b))))
+        → Stands b' (told_written (cond x (Err (NoSuchField k)) (answer_in (length (row_text t d (rows_of t d region speed) k)) (length b))))
     past true = refused-stands b' (NoSuchField k)
     past false = written_stands (length (row_text t d (rows_of t d region speed) k)) b b' same
 
-    by_answer : (x : Decoded) → Stands b' (told_written (value.of_decoded (row_text t d (rows_of t d region speed) k) k (length b) x))
-    by_answer (decoded.Header h) = past (leb h.rows k)
-    by_answer (decoded.Refused x) = refused-stands b' x
+    by_answer : (x : Result DecodedHeader Refusal) → Stands b' (told_written (value.of_decoded (row_text t d (rows_of t d region speed) k) k (length b) x))
+    by_answer (Ok h) = past (leb h.rows k)
+    by_answer (Err x) = refused-stands b' x
 
 -- ---- the text of a command's row
 pub command_value-stands : (offsets : Offsets) (t p : List ℕ) (k : ℕ) (b : List ℕ) (r : TapAnswer) (b' : List ℕ)
@@ -216,9 +207,9 @@ pub command_value-stands : (offsets : Offsets) (t p : List ℕ) (k : ℕ) (b : L
     → length b' ≡ length b → Stands b' r
 command_value-stands offsets t p k b r b' told same = rw (told.told_so, told.shows.answer) (by_found (row_of offsets t p k))
   where
-    by_found : (x : Found) → Stands b' (told_written (shown.of_found t p (length b) x))
-    by_found (found.Row row) = written_stands (length (shown-rows.row_text t p row)) b b' same
-    by_found (found.Refused x) = refused-stands b' x
+    by_found : (x : Result Row Refusal) → Stands b' (told_written (shown.of_found t p (length b) x))
+    by_found (Ok row) = written_stands (length (shown-rows.row_text t p row)) b b' same
+    by_found (Err x) = refused-stands b' x
 
 -- ---- the text of totals
 pub totals_stand : (totals b : List ℕ) (r : TapAnswer) (b' : List ℕ) → ToldTotals totals b r b' → length b' ≡ length b → Stands b' r
@@ -229,7 +220,7 @@ pub xml_stands : (t b : List ℕ) (r : TapAnswer) (b' : List ℕ) → ToldXml t 
 xml_stands t b r b' p same =
     rw (p.told_so, p.writes.answer) (checked_stands (frameVerdict t) (writer.plain_answer t (length b)) b' (by_plain (is_plain t)))
   where
-    by_plain : (x : Bool) → Stands b' (told_written (cond x (answer_in (length (xml_of t)) (length b)) (written.Refused (NotPlain (out_of_order t)))))
+    by_plain : (x : Bool) → Stands b' (told_written (cond x (answer_in (length (xml_of t)) (length b)) (Err (NotPlain (out_of_order t)))))
     by_plain true = written_stands (length (xml_of t)) b b' same
     by_plain false = refused-stands b' (NotPlain (out_of_order t))
 
@@ -240,9 +231,9 @@ text-stands x b r b' p same = rw (p.told_so, p.turns.answer) (by_fault_lem (docu
     said : List ℕ
     said = document.text_of x
 
-    by_fault_lem : (f : Fault) → Stands b' (told_written (reader.by_fault f (answer_by (frameVerdict said) (answer_in (length said) (length b)))))
-    by_fault_lem Fine = checked_stands (frameVerdict said) (answer_in (length said) (length b)) b' (written_stands (length said) b b' same)
-    by_fault_lem (At place) = refused-stands b' (Xml place)
+    by_fault_lem : (f : Option ℕ) → Stands b' (told_written (reader.by_fault f (answer_by (frameVerdict said) (answer_in (length said) (length b)))))
+    by_fault_lem None = checked_stands (frameVerdict said) (answer_in (length said) (length b)) b' (written_stands (length said) b b' same)
+    by_fault_lem (Some place) = refused-stands b' (Xml place)
 
 pub ruleset standing_laws = (stands_in_lem, frames_stand, tidied-stands, header-stands, params_stand)
 

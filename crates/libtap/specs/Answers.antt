@@ -1,20 +1,18 @@
 -- The answers of the calls on payloads, records and texts as C has them.
-use Rattle.std.specs.Prelude.{◌≡◌, List, [], ℕ, ◌+◌, ◌≤◌, length, get_or, drop}
+use Rattle.std.specs.Prelude.{◌≡◌, List, [], ℕ, ◌+◌, ◌≤◌, length, get_or, drop, Result, Ok, Err}
 use Rattle.records.specs.Records.{span_of}
-use Rattle.frame.specs.declared.Parsed.{Parsed}
-use Rattle.frame.specs.declared.Parsed.TheVariants.{Frame, Refused as NoFrame}
 use Rattle.frame.specs.declared.Reading.{Reading}
 use Rattle.frame.specs.Frame.{said, rules_of}
 use Rattle.pti.specs.Payload.{frames_of, said_of, table_after, LocatedIn}
 use Rattle.text.specs.Judge as text
-use Rattle.buffer.specs.declared.Written.{Written}
 use Rattle.tidy.specs.Tidy.{Tidies}
-use Rattle.text.specs.declared.Verdict.{Verdict}
 use Rattle.libtap.specs.declared.TapAnswer.{TapAnswer}
 use Rattle.libtap.specs.declared.frames.TapFrame.{TapFrame}
 use Rattle.libtap.specs.declared.frames.TapPart.{TapPart}
 use Rattle.libtap.specs.declared.frames.TapTarget.{TapTarget}
 use Rattle.libtap.specs.Values.{told_written}
+use Rattle.refusal.specs.declared.Refusal.{Refusal}
+use Rattle.frame.specs.declared.PtiFrame.{PtiFrame}
 
 -- an answer in numbers, as F5 and F18 (docs/RULES.md) have it
 abbrev pub answered : ℕ × ℕ → TapAnswer
@@ -55,12 +53,12 @@ framed f =
     }
 
 -- the frame, or the refusal's number and what it carries
-abbrev pub told_frame : Parsed → TapFrame
-told_frame (Frame f) = framed (said (Frame f)).1
-told_frame (NoFrame x) =
+abbrev pub told_frame : Result PtiFrame Refusal → TapFrame
+told_frame (Ok f) = framed (said (Ok f)).1
+told_frame (Err x) =
     record {
-      refusal = (said (NoFrame x)).0;
-      value = get_or (said (NoFrame x)).1 0 0;
+      refusal = (said (Err x)).0;
+      value = get_or (said (Err x)).1 0 0;
       direction = 0;
       region = 0;
       channel = 0;
@@ -73,12 +71,12 @@ told_frame (NoFrame x) =
     }
 
 -- a verdict's number and its line
-abbrev pub judged : Verdict → TapAnswer
+abbrev pub judged : Result (Unit {0}) Refusal → TapAnswer
 judged v = record { refusal = text.number_of v; value = text.line_of v }
 
 -- what `tap_tidy_command_text` answers and leaves: what `tidy_command_text` does, told so
 pub record ToldTidied (text buffer : List ℕ) (r : TapAnswer) (buffer' : List ℕ) : Type 0 where
-  pub answer : Written
+  pub answer : Result ℕ Refusal
   pub tidies : Tidies text buffer answer buffer'
   pub told_so : r ≡ told_written answer
 

@@ -1,13 +1,13 @@
 -- The answers of the calls on a listing as C has them.
-use Rattle.std.specs.Prelude.{◌≡◌, List, ℕ}
+use Rattle.std.specs.Prelude.{◌≡◌, List, ℕ, Result}
 use Rattle.refusal.specs.Refusal.{number_of, carried_by}
-use Rattle.buffer.specs.declared.Written.{Written}
 use Rattle.listing.specs.declared.Judgement.{Judgement}
 use Rattle.listing.specs.declared.Judgement.TheVariants as judgement
 use Rattle.listing.specs.Judge.{Judges}
 use Rattle.listing.specs.Write.{Writes}
 use Rattle.libtap.specs.declared.TapAnswer.{TapAnswer}
 use Rattle.libtap.specs.Values.{told_written}
+use Rattle.refusal.specs.declared.Refusal.{Refusal}
 
 -- 0 for yes, the line that differs, or the refusal's number and what it carries
 abbrev pub told_judgement : Judgement → TapAnswer
@@ -23,6 +23,6 @@ pub record ToldJudgement (text mpdu : List ℕ) (region speed : ℕ) (listing : 
 
 -- what `tap_write_listing` answers and leaves: what `write_listing` does, told so
 pub record ToldWritten (text mpdu : List ℕ) (region speed : ℕ) (buffer : List ℕ) (r : TapAnswer) (buffer' : List ℕ) : Type 0 where
-  pub answer : Written
+  pub answer : Result ℕ Refusal
   pub writes : Writes text mpdu region speed buffer answer buffer'
   pub told_so : r ≡ told_written answer

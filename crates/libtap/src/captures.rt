@@ -6,15 +6,16 @@ ghost use Rattle.libtap.specs.Totals.{told_added, ToldAdded, ToldTotals};
 use crate::values::tell_written;
 use crate::{TapAnswer, answer, refuse};
 use frame::reading_by;
-use totals::{Added, TOTALS, add_payload};
+use refusal::Refusal;
+use totals::{TOTALS, add_payload};
 use totals_text::print_totals;
 
-fn tell_added(added: Added) -> TapAnswer
+fn tell_added(added: Result<(), Refusal>) -> TapAnswer
     ensures { result ≡ told_added added }
 {
     match added {
-        Added::Counted => answer(0),
-        Added::Refused(refusal) => refuse(refusal),
+        Ok(()) => answer(0),
+        Err(refusal) => refuse(refusal),
     }
 }
 

@@ -5,8 +5,9 @@ ghost use Rattle.command_row.specs.Answer.{row_of};
 ghost use Rattle.libtap.specs.Commands.{told_by, row_told, no_row, told_row};
 
 use command::{Params, decode_params, offsets_by};
-use command_row::{Found, command_row};
+use command_row::command_row;
 use command_rules::Row;
+use refusal::Refusal;
 
 // A command's parameters as C has them: where `refusal` is 0, how many rows there are, and where the remainder starts in the payload.
 #[repr(C)]
@@ -100,14 +101,12 @@ fn no_row() -> Row
     }
 }
 
-fn tell_row(found: Found) -> TapRow
+fn tell_row(found: Result<Row, Refusal>) -> TapRow
     ensures { result ≡ told_row found }
 {
     match found {
-        Found::Row(numbers) => row_of(0, 0, numbers),
-        Found::Refused(refusal) => {
-            row_of(refusal.number() as u64, refusal.carried() as u64, no_row())
-        }
+        Ok(numbers) => row_of(0, 0, numbers),
+        Err(refusal) => { row_of(refusal.number() as u64, refusal.carried() as u64, no_row()) }
     }
 }
 

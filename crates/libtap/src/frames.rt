@@ -8,12 +8,13 @@ ghost use Rattle.pti.specs.Payload.{said as saidFrames};
 ghost use Rattle.libtap.specs.Answers.{answered, ToldBody, aimed, framed, told_frame, Told};
 
 use crate::{TapAnswer, answer, refuse};
-use frame::{Parsed, PtiFrame};
-use pti::payload::{Frames, beams_number, direction_number};
+use frame::PtiFrame;
+use pti::payload::{beams_number, direction_number};
 use pti::{parse_payload, reading_by};
 use radio::beam::BeamTarget;
 use radio::rssi::byte_of;
-use records::{Counted, find_body};
+use records::find_body;
+use refusal::Refusal;
 
 // Whom a beam wakes, as C has it: the three numbers of BF2.
 #[repr(C)]
@@ -63,12 +64,12 @@ pub fn tap_beam_count(rate: u8, middle: &[u8]) -> usize
     pti::beam_count(rate, middle)
 }
 
-fn tell_count(count: Counted) -> TapAnswer
+fn tell_count(count: Result<usize, Refusal>) -> TapAnswer
     ensures { result ≡ answered (said count) }
 {
     match count {
-        Counted::Records(n) => answer(n as u64),
-        Counted::Refused(refusal) => refuse(refusal),
+        Ok(n) => answer(n as u64),
+        Err(refusal) => refuse(refusal),
     }
 }
 
@@ -124,12 +125,12 @@ fn tell_row(frame: PtiFrame) -> TapFrame
     }
 }
 
-fn tell_frame(parsed: Parsed) -> TapFrame
+fn tell_frame(parsed: Result<PtiFrame, Refusal>) -> TapFrame
     ensures { result ≡ told_frame parsed }
 {
     match parsed {
-        Parsed::Frame(frame) => tell_row(frame),
-        Parsed::Refused(refusal) => TapFrame {
+        Ok(frame) => tell_row(frame),
+        Err(refusal) => TapFrame {
             refusal: refusal.number() as u64,
             value: refusal.carried() as u64,
             direction: 0,
@@ -157,12 +158,12 @@ pub fn tap_parse_record(body: &[u8], firmware: usize, family: bool) -> TapFrame
     tell_frame(parsed)
 }
 
-fn tell(frames: Frames) -> TapAnswer
+fn tell(frames: Result<usize, Refusal>) -> TapAnswer
     ensures { result ≡ answered (saidFrames frames) }
 {
     match frames {
-        Frames::Rows(n) => answer(n as u64),
-        Frames::Refused(refusal) => refuse(refusal),
+        Ok(n) => answer(n as u64),
+        Err(refusal) => refuse(refusal),
     }
 }
 

@@ -7,9 +7,9 @@ ghost use Rattle.libtap.specs.Answers.{part};
 ghost use Rattle.libtap.specs.Headers.{told_bits, headed, told_header, ToldHeader};
 
 use crate::frames::TapPart;
-use bits::Bits;
 use command_part::find_command;
-use header::{Decoded, DecodedHeader, decode_header};
+use header::{DecodedHeader, decode_header};
+use refusal::Refusal;
 
 // Bits as C has them: `is_read` says whether there is a value.
 #[repr(C)]
@@ -39,15 +39,15 @@ pub struct TapHeader {
     pub error: bool,
 }
 
-fn tell_bits(bits: Bits) -> TapBits
+fn tell_bits(bits: Option<u64>) -> TapBits
     ensures { result ≡ told_bits bits }
 {
     match bits {
-        Bits::Value(value) => TapBits {
+        Some(value) => TapBits {
             is_read: true,
             value,
         },
-        Bits::Declined => TapBits {
+        None => TapBits {
             is_read: false,
             value: 0,
         },
@@ -91,12 +91,12 @@ fn tell_heading(header: DecodedHeader) -> TapHeader
     }
 }
 
-fn tell_header(decoded: Decoded) -> TapHeader
+fn tell_header(decoded: Result<DecodedHeader, Refusal>) -> TapHeader
     ensures { result ≡ told_header decoded }
 {
     match decoded {
-        Decoded::Header(header) => tell_heading(header),
-        Decoded::Refused(refusal) => TapHeader {
+        Ok(header) => tell_heading(header),
+        Err(refusal) => TapHeader {
             refusal: refusal.number() as u64,
             value: refusal.carried() as u64,
             number: 0,

@@ -7,14 +7,15 @@ use crate::{TapAnswer, answer, refuse};
 use command::offsets_by;
 use command_nodes::command_nodes;
 use header_nodes::header_nodes;
-use node_mask::{Listed, mask_nodes};
+use node_mask::mask_nodes;
+use refusal::Refusal;
 
-fn tell_listed(listed: Listed) -> TapAnswer
+fn tell_listed(listed: Result<usize, Refusal>) -> TapAnswer
     ensures { result ≡ told_listed listed }
 {
     match listed {
-        Listed::Nodes(n) => answer(n as u64),
-        Listed::Refused(refusal) => refuse(refusal),
+        Ok(n) => answer(n as u64),
+        Err(refusal) => refuse(refusal),
     }
 }
 

@@ -4,16 +4,17 @@ ghost use Rattle.libtap.specs.Orders.{told_harmless, ToldHarmless, ToldSorted};
 
 use crate::values::tell_written;
 use crate::{TapAnswer, answer, refuse};
-use overlaps::{Harmless, is_harmless};
+use overlaps::is_harmless;
+use refusal::Refusal;
 use sorting::sort_headers;
 
-fn tell_harmless(told: Harmless) -> TapAnswer
+fn tell_harmless(told: Result<bool, Refusal>) -> TapAnswer
     ensures { result ≡ told_harmless told }
 {
     match told {
-        Harmless::Yes => answer(1),
-        Harmless::No => answer(0),
-        Harmless::Refused(refusal) => refuse(refusal),
+        Ok(true) => answer(1),
+        Ok(false) => answer(0),
+        Err(refusal) => refuse(refusal),
     }
 }
 

@@ -8,15 +8,15 @@ use crate::values::tell_written;
 use crate::{TapAnswer, answer, refuse};
 use command_text::check_command_text;
 use frame_text::check_frame_text;
-use text::Verdict;
+use refusal::Refusal;
 use tidy::tidy_command_text;
 
-fn tell_verdict(verdict: Verdict) -> TapAnswer
+fn tell_verdict(verdict: Result<(), Refusal>) -> TapAnswer
     ensures { result ≡ judged verdict }
 {
     match verdict {
-        Verdict::Accepted => answer(0),
-        Verdict::Refused(refusal) => refuse(refusal),
+        Ok(()) => answer(0),
+        Err(refusal) => refuse(refusal),
     }
 }
 

@@ -4,17 +4,17 @@ ghost use Rattle.command.specs.Answer.{offsets_by};
 ghost use Rattle.libtap.specs.Values.{told_written, ToldHeaderValue, ToldCommandValue};
 
 use crate::{TapAnswer, answer, refuse};
-use buffer::Written;
 use command::offsets_by;
 use command_value::command_value;
 use header_value::header_value;
+use refusal::Refusal;
 
-pub fn tell_written(written: Written) -> TapAnswer
+pub fn tell_written(written: Result<usize, Refusal>) -> TapAnswer
     ensures { result ≡ told_written written }
 {
     match written {
-        Written::Length(n) => answer(n as u64),
-        Written::Refused(refusal) => refuse(refusal),
+        Ok(n) => answer(n as u64),
+        Err(refusal) => refuse(refusal),
     }
 }
 

@@ -1,7 +1,6 @@
 -- Laws of judging and writing a listing. Assumes nothing.
 use mathlib.Core.Path.{◌≡◌, refl, sym, ap, ◌∙◌, subst}
 use mathlib.Core.List.{List}
-use mathlib.Core.Option.{Option, none, some}
 use Prim.Native.Nat.{ℕ, zero, suc, ◌*◌, ◌≤◌, ◌<◌}
 use native.Mathlib.Omega.{arith}
 use lib.ListN.{length, drop}
@@ -9,11 +8,8 @@ use lib.Seq.{sets}
 use Rattle.refusal.specs.declared.Refusal.{Refusal}
 use Rattle.refusal.specs.declared.Refusal.TheVariants.{MoreBytes, Listing}
 use Rattle.rows.specs.Rows.{flat}
-use Rattle.buffer.specs.declared.Written.{Written}
-use Rattle.buffer.specs.declared.Written.TheVariants as written
 use Rattle.buffer.proofs.Laws.{writes_short, writes_room}
 use Rattle.text.specs.Text.{lines}
-use Rattle.text.specs.declared.Verdict.TheVariants.{Accepted}
 use Rattle.frame_text.specs.Rules.{verdict}
 use Rattle.frame_definition.specs.Definition.{Base, definition, first_base}
 use Rattle.header_rules.specs.Data.{Field, Candidate}
@@ -25,12 +21,8 @@ use Rattle.header_rules.specs.Trees.{trees}
 use Rattle.header_rules.specs.Told.{candidates_of}
 use Rattle.header_rules.proofs.Reading.{reading-only}
 use Rattle.header.specs.declared.DecodedHeader.{DecodedHeader}
-use Rattle.header.specs.declared.Decoded.{Decoded}
-use Rattle.header.specs.declared.Decoded.TheVariants as header
 use Rattle.header.specs.Decode.{key_of, decoded, Decodes}
 use Rattle.header_named.specs.Named.{named, rows_of, GivesNamed, ReadsNamed}
-use Rattle.header_named.specs.declared.Named.{Named}
-use Rattle.header_named.specs.declared.Named.TheVariants as reads
 use Rattle.listing_text.specs.Listing.{closed, text_of, listing_of, form_of, differs}
 use Rattle.listing_text.specs.Steps.{rows_in, PutsAll}
 use Rattle.listing_text.specs.declared.form.Form.{Form}
@@ -43,6 +35,7 @@ use Rattle.listing.specs.Write.{Writes}
 use Rattle.listing.specs.Steps.{Own, Other, ByForm, WritesRows}
 use Rattle.listing.proofs.Naming.{named_at, named-number, one_first, one_reading, first-reading, table_wide}
 use Rattle.listing.proofs.Owning.{laid-long, header_own}
+use Rattle.std.specs.Prelude.{Option, Some, None, Result, Ok, Err}
 
 -- ---- yes or the line
 pub yes-none : (k : ℕ) → k ≡ 0 → Yes ≡ or_yes k
@@ -63,26 +56,26 @@ same-yes : (k : ℕ) → or_yes k ≡ Yes → k ≡ 0
 same-yes zero e = refl
 same-yes (suc k) e = absurd (let z : ◌≡◌ {A = ℕ} 0 1 = cc in omega arith)
 
-same_base : (key : ℕ) (t : List ℕ) (a b : Base) → first_base key (definition t).bases ≡ some a → first_base key (definition t).bases ≡ some b
+same_base : (key : ℕ) (t : List ℕ) (a b : Base) → first_base key (definition t).bases ≡ Some a → first_base key (definition t).bases ≡ Some b
     → a ≡ b
-same_base key t a b p q = let e : some a ≡ some b = sym p ∙ q in cc
+same_base key t a b p q = let e : Some a ≡ Some b = sym p ∙ q in cc
 
-some_none : {A : Type 0} (o : Option A) (a : A) → o ≡ some a → o ≡ none → ⊥
+some_none : {A : Type 0} (o : Option A) (a : A) → o ≡ Some a → o ≡ None → ⊥
 some_none o a p q = let z : ◌≡◌ {A = ℕ} 0 1 = cc in omega arith
 
 -- ---- an H that is not the first that holds
-module _ (t d : List ℕ) (key number : ℕ) (table : List ℕ) (x : Named) (table' : List ℕ) (Named-by : ReadsNamed t d key number table x table') where
-  pub other_none : (region speed : ℕ) (l : List ℕ) (last : ℕ) → key ≡ key_of t region speed → x ≡ reads.Nothing
+module _ (t d : List ℕ) (key number : ℕ) (table : List ℕ) (x : Option ℕ) (table' : List ℕ) (Named-by : ReadsNamed t d key number table x table') where
+  pub other_none : (region speed : ℕ) (l : List ℕ) (last : ℕ) → key ≡ key_of t region speed → x ≡ None
       → Other t d (key_of t region speed) l number last (Differs last)
   other_none region speed l last is_key e =
-      let gone : (b : Base) → first_base key (definition t).bases ≡ some b → named number (candidates_of key (definition t)) ≡ none = rw e at Named-by in
+      let gone : (b : Base) → first_base key (definition t).bases ≡ Some b → named number (candidates_of key (definition t)) ≡ None = rw e at Named-by in
       rw (← is_key)
       (record {
         no_candidate = λ b q n. refl;
         one = λ b q c n. absurd (some_none (named number (candidates_of key (definition t))) c n (gone b q));
       })
 
-  module _ (count : ℕ) (e : x ≡ reads.Rows count) where
+  module _ (count : ℕ) (e : x ≡ Some count) where
     abbrev gives : GivesNamed t d key number table count table'
     gives = rw e at Named-by
 
@@ -115,7 +108,7 @@ module _ (t d : List ℕ) (key number : ℕ) (table : List ℕ) (x : Named) (tab
         (record {
           no_candidate = λ b q n. absurd (some_none (named number (candidates_of key (definition t))) gives.one gives.one_is n);
           one = λ b q c n.
-              let same-c : gives.one ≡ c = (let z : some gives.one ≡ some c = sym gives.one_is ∙ n in cc) in
+              let same-c : gives.one ≡ c = (let z : Some gives.one ≡ Some c = sym gives.one_is ∙ n in cc) in
               let same-b : gives.base ≡ b = same_base key t gives.base b gives.base_is q in
               ap Differs (line_is
               ∙ ap (λ (a : Base). or_last last (differs 1 (closed (rows_of t d (trees a.params) gives.one.params) number) l)) same-b
@@ -130,7 +123,7 @@ module _ (t d : List ℕ) (key own-number count : ℕ) (table : List ℕ) (own :
   pub own_room : count * 7 ≤ length table
   own_room = omega (arith, own.few, own.long)
 
-  pub own_accepted : verdict t ≡ Accepted
+  pub own_accepted : verdict t ≡ Ok tt
   own_accepted = own.accepted
 
   pub own_short : length d ≤ 2048
@@ -142,7 +135,7 @@ module _ (t d : List ℕ) (key own-number count : ℕ) (table : List ℕ) (own :
   abbrev cs : List (Candidate 7)
   cs = candidates_of key (definition t)
 
-  named_own : named own.one.number cs ≡ some own.one
+  named_own : named own.one.number cs ≡ Some own.one
   named_own = named_at t key own.first.front own.one own.first.back own.first.place
 
   pub beside_wrong : (l : List ℕ) (x : Form) (k : ℕ) → x ≡ form_of 1 (lines l) → x ≡ Wrong k
@@ -163,7 +156,7 @@ module _ (t d : List ℕ) (key own-number count : ℕ) (table : List ℕ) (own :
         → ByForm t d key l (form_of 1 (lines l)) r
     beside_own k r e is-k is-r =
         let is : number ≡ own.one.number = e ∙ own.number_is in
-        let one-named : named number cs ≡ some own.one = rw is named_own in
+        let one-named : named number cs ≡ Some own.one = rw is named_own in
         let r_is : r ≡ or_yes (differs 1 (closed (table_of 7 d (definition t).sets own.fields) number) l) =
         is-r ∙ ap or_yes (is-k ∙ ap (λ (rs : List (List ℕ)). differs 1 (closed rs number) l) own.rows_are) in
         by_base r
@@ -172,7 +165,7 @@ module _ (t d : List ℕ) (key own-number count : ℕ) (table : List ℕ) (own :
               ∙ ap (λ (gs : List (Field 7)). or_yes (differs 1 (closed (table_of 7 d (definition t).sets gs) number) l))
               (one_reading d (trees own.base.params) cs own.one own.fields own.first c fs f);
           other = λ c fs n g no.
-              let same-c : c ≡ own.one = (let z : some c ≡ some own.one = sym n ∙ one-named in cc) in
+              let same-c : c ≡ own.one = (let z : Some c ≡ Some own.one = sym n ∙ one-named in cc) in
               let gs-are : fs ≡ own.fields =
               first-reading d (trees own.base.params) cs own.one own.fields own.first fs
               (subst (λ (z : Candidate 7). Reading 7 d (trees own.base.params) z.params fs) same-c g) in
@@ -227,64 +220,64 @@ module _ (t d : List ℕ) (key own-number count : ℕ) (table : List ℕ) (own :
         no_differ k p q = let z : ◌≡◌ {A = ℕ} 0 1 = cc in omega arith
 
         never-yes : (x : Option (Candidate 7)) → named number cs ≡ x → r ≡ Yes → ⊥
-        never-yes none n y = no_differ _ (o.no_candidate own.base own.base_is n) y
-        never-yes (some c) n y = no_differ _ (o.one own.base own.base_is c n) y
+        never-yes None n y = no_differ _ (o.no_candidate own.base own.base_is n) y
+        never-yes (Some c) n y = no_differ _ (o.one own.base own.base_is c n) y
 
 -- ---- the call
-pub judges_refused : (t d : List ℕ) (region speed : ℕ) (l table : List ℕ) (r : Decoded) (table' : List ℕ) (x : Refusal)
-    → Decodes t d region speed table r table' → length table ≡ most_numbers → r ≡ header.Refused x
+pub judges_refused : (t d : List ℕ) (region speed : ℕ) (l table : List ℕ) (r : Result DecodedHeader Refusal) (table' : List ℕ) (x : Refusal)
+    → Decodes t d region speed table r table' → length table ≡ most_numbers → r ≡ Err x
     → Judges t d region speed l (Refused x)
 judges_refused t d region speed l table r table' x c size q =
-    let is : decoded t d region speed most_numbers ≡ header.Refused x = ap (decoded t d region speed) (sym size) ∙ sym c.answer ∙ q in
+    let is : decoded t d region speed most_numbers ≡ Err x = ap (decoded t d region speed) (sym size) ∙ sym c.answer ∙ q in
     record {
-      refused = λ y e. (let z : header.Refused x ≡ header.Refused y = sym is ∙ e in cc);
-      wrong = λ h k e f. absurd (let z : header.Refused x ≡ header.Header h = sym is ∙ e in let w : ◌≡◌ {A = ℕ} 0 1 = cc in omega arith);
+      refused = λ y e. (let z : Err x ≡ Err y = sym is ∙ e in cc);
+      wrong = λ h k e f. absurd (let z : Err x ≡ Ok h = sym is ∙ e in let w : ◌≡◌ {A = ℕ} 0 1 = cc in omega arith);
       judged = λ h number last e f b q. absurd
-          (let z : header.Refused x ≡ header.Header h = sym is ∙ e in let w : ◌≡◌ {A = ℕ} 0 1 = cc in omega arith);
+          (let z : Err x ≡ Ok h = sym is ∙ e in let w : ◌≡◌ {A = ℕ} 0 1 = cc in omega arith);
     }
 
-pub judges_form : (t d : List ℕ) (region speed : ℕ) (l table : List ℕ) (r : Decoded) (table' : List ℕ) (h : DecodedHeader) (j : Judgement)
-    → Decodes t d region speed table r table' → length table ≡ most_numbers → r ≡ header.Header h
+pub judges_form : (t d : List ℕ) (region speed : ℕ) (l table : List ℕ) (r : Result DecodedHeader Refusal) (table' : List ℕ) (h : DecodedHeader) (j : Judgement)
+    → Decodes t d region speed table r table' → length table ≡ most_numbers → r ≡ Ok h
     → ByForm t d (key_of t region speed) l (form_of 1 (lines l)) j → Judges t d region speed l j
 judges_form t d region speed l table r table' h j c size q by =
-    let is : decoded t d region speed most_numbers ≡ header.Header h = ap (decoded t d region speed) (sym size) ∙ sym c.answer ∙ q in
+    let is : decoded t d region speed most_numbers ≡ Ok h = ap (decoded t d region speed) (sym size) ∙ sym c.answer ∙ q in
     record {
-      refused = λ y e. absurd (let z : header.Header h ≡ header.Refused y = sym is ∙ e in let w : ◌≡◌ {A = ℕ} 0 1 = cc in omega arith);
+      refused = λ y e. absurd (let z : Ok h ≡ Err y = sym is ∙ e in let w : ◌≡◌ {A = ℕ} 0 1 = cc in omega arith);
       wrong = λ g k e f. rw f at by;
       judged = λ g number last e f. rw f at by;
     }
 
 -- ---- written
 module _ (rows : List (List ℕ)) (b : List ℕ) (size : ℕ) (none₀ none' : List ℕ) (counts : PutsAll rows none₀ size none') where
-  pub rows_short : length b < size → WritesRows rows b (written.Refused (MoreBytes size)) b
+  pub rows_short : length b < size → WritesRows rows b (Err (MoreBytes size)) b
   rows_short h = record { gives = writes_short (text_of rows) b size counts.count h; small = counts.small }
 
-  pub rows-room : (n : ℕ) (b' : List ℕ) → size ≤ length b → PutsAll rows b n b' → WritesRows rows b (written.Length size) b'
+  pub rows-room : (n : ℕ) (b' : List ℕ) → size ≤ length b → PutsAll rows b n b' → WritesRows rows b (Ok size) b'
   rows-room n b' h p =
       let all : b' ≡ sets b 0 (text_of rows) = p.says ∙ puts-all b 0 rows (omega (arith, counts.count)) in
       record { gives = writes_room (text_of rows) b size counts.count b' all h; small = counts.small }
 
-pub writes_refused : (t d : List ℕ) (region speed : ℕ) (b table : List ℕ) (r : Decoded) (table' : List ℕ) (x : Refusal)
-    → Decodes t d region speed table r table' → length table ≡ most_numbers → r ≡ header.Refused x
-    → Writes t d region speed b (written.Refused x) b
+pub writes_refused : (t d : List ℕ) (region speed : ℕ) (b table : List ℕ) (r : Result DecodedHeader Refusal) (table' : List ℕ) (x : Refusal)
+    → Decodes t d region speed table r table' → length table ≡ most_numbers → r ≡ Err x
+    → Writes t d region speed b (Err x) b
 writes_refused t d region speed b table r table' x c size q =
-    let is : decoded t d region speed most_numbers ≡ header.Refused x = ap (decoded t d region speed) (sym size) ∙ sym c.answer ∙ q in
+    let is : decoded t d region speed most_numbers ≡ Err x = ap (decoded t d region speed) (sym size) ∙ sym c.answer ∙ q in
     record {
-      refused = λ y e. ((let z : header.Refused x ≡ header.Refused y = sym is ∙ e in cc), refl);
+      refused = λ y e. ((let z : Err x ≡ Err y = sym is ∙ e in cc), refl);
       written = λ h e a f o fs g. absurd
-          (let z : header.Refused x ≡ header.Header h = sym is ∙ e in let w : ◌≡◌ {A = ℕ} 0 1 = cc in omega arith);
+          (let z : Err x ≡ Ok h = sym is ∙ e in let w : ◌≡◌ {A = ℕ} 0 1 = cc in omega arith);
     }
 
-pub writes_own : (t d : List ℕ) (region speed : ℕ) (b table : List ℕ) (r : Decoded) (table' : List ℕ) (h : DecodedHeader) (x : Written)
+pub writes_own : (t d : List ℕ) (region speed : ℕ) (b table : List ℕ) (r : Result DecodedHeader Refusal) (table' : List ℕ) (h : DecodedHeader) (x : Result ℕ Refusal)
     (b' : List ℕ)
-    → Decodes t d region speed table r table' → length table ≡ most_numbers → r ≡ header.Header h
+    → Decodes t d region speed table r table' → length table ≡ most_numbers → r ≡ Ok h
     → WritesRows (closed (rows_in h.rows table') h.number) b x b'
     → Writes t d region speed b x b'
 writes_own t d region speed b table r table' h x b' c size q w =
-    let is : decoded t d region speed most_numbers ≡ header.Header h = ap (decoded t d region speed) (sym size) ∙ sym c.answer ∙ q in
+    let is : decoded t d region speed most_numbers ≡ Ok h = ap (decoded t d region speed) (sym size) ∙ sym c.answer ∙ q in
     let own = header_own t d region speed h table r table' c q size in
     record {
-      refused = λ y e. absurd (let z : header.Header h ≡ header.Refused y = sym is ∙ e in let w : ◌≡◌ {A = ℕ} 0 1 = cc in omega arith);
+      refused = λ y e. absurd (let z : Ok h ≡ Err y = sym is ∙ e in let w : ◌≡◌ {A = ℕ} 0 1 = cc in omega arith);
       written = λ g e a f o fs first.
           let same-b : own.base ≡ a = same_base (key_of t region speed) t own.base a own.base_is f in
           let first' : First 7 d (trees own.base.params) (candidates_of (key_of t region speed) (definition t)) o fs =
@@ -305,18 +298,18 @@ writes_own t d region speed b table r table' h x b' c size q w =
           };
     }
 
-pub header_few : (t d : List ℕ) (region speed : ℕ) (table : List ℕ) (r : Decoded) (table' : List ℕ) (h : DecodedHeader)
-    → Decodes t d region speed table r table' → length table ≡ most_numbers → r ≡ header.Header h → h.rows ≤ 128
+pub header_few : (t d : List ℕ) (region speed : ℕ) (table : List ℕ) (r : Result DecodedHeader Refusal) (table' : List ℕ) (h : DecodedHeader)
+    → Decodes t d region speed table r table' → length table ≡ most_numbers → r ≡ Ok h → h.rows ≤ 128
 header_few t d region speed table r table' h c size q = (header_own t d region speed h table r table' c q size).few
 
-pub header-room : (t d : List ℕ) (region speed : ℕ) (table : List ℕ) (r : Decoded) (table' : List ℕ) (h : DecodedHeader)
-    → Decodes t d region speed table r table' → length table ≡ most_numbers → r ≡ header.Header h → h.rows * 7 ≤ length table'
+pub header-room : (t d : List ℕ) (region speed : ℕ) (table : List ℕ) (r : Result DecodedHeader Refusal) (table' : List ℕ) (h : DecodedHeader)
+    → Decodes t d region speed table r table' → length table ≡ most_numbers → r ≡ Ok h → h.rows * 7 ≤ length table'
 header-room t d region speed table r table' h c size q =
     let own = header_own t d region speed h table r table' c q size in
     omega (arith, own.few, own.long)
 
-pub decoded_own : (t d : List ℕ) (region speed : ℕ) (table : List ℕ) (r : Decoded) (table' : List ℕ) (h : DecodedHeader)
-    → Decodes t d region speed table r table' → length table ≡ most_numbers → r ≡ header.Header h
+pub decoded_own : (t d : List ℕ) (region speed : ℕ) (table : List ℕ) (r : Result DecodedHeader Refusal) (table' : List ℕ) (h : DecodedHeader)
+    → Decodes t d region speed table r table' → length table ≡ most_numbers → r ≡ Ok h
     → Own t d (key_of t region speed) h.number h.rows table'
 decoded_own t d region speed table r table' h c size q = header_own t d region speed h table r table' c q size
 

@@ -2,7 +2,6 @@
 use mathlib.Core.Path.{◌≡◌, refl, sym, ap, ◌∙◌}
 use mathlib.Core.Bool.{Bool, true, false, cond}
 use mathlib.Core.List.{List, [], ◌∷◌, ◌++◌, map}
-use mathlib.Core.Option.{some}
 use Prim.Native.Nat.{ℕ, zero, suc, ◌+◌, ◌<◌}
 use native.Mathlib.Omega.{arith}
 use lib.Dec.{eqb}
@@ -21,10 +20,11 @@ use Rattle.header_rules.proofs.Answer.{answer-only}
 use Rattle.header_rules.proofs.Reading.{reading-only}
 use Rattle.header_named.specs.Named.{named}
 use Rattle.reorder.proofs.Foremost.{Rises, candidates_rise}
+use Rattle.std.specs.Prelude.{Some}
 
 -- ---- the candidate that a number names
 named_in : (xs : List (Candidate 7)) (c : Candidate 7) (ys : List (Candidate 7)) → Rises (map (λ b. b.number) (xs ++ c ∷ ys))
-    → named c.number (xs ++ c ∷ ys) ≡ some c
+    → named c.number (xs ++ c ∷ ys) ≡ Some c
 named_in [] c ys r = rw (eq-eqb c.number c.number refl)
 named_in (x ∷ xs) c ys r =
     let l : x.number < c.number = above xs r.0 in
@@ -35,14 +35,14 @@ named_in (x ∷ xs) c ys r =
     above (z ∷ zs) a = above zs a.1
 
 pub named_at : (t : List ℕ) (key : ℕ) (xs : List (Candidate 7)) (c : Candidate 7) (ys : List (Candidate 7))
-    → candidates_of key (definition t) ≡ xs ++ c ∷ ys → named c.number (candidates_of key (definition t)) ≡ some c
+    → candidates_of key (definition t) ≡ xs ++ c ∷ ys → named c.number (candidates_of key (definition t)) ≡ Some c
 named_at t key xs c ys e = rw e (named_in xs c ys (rw e at (candidates_rise key t)))
 
-pub named-number : (n : ℕ) (cs : List (Candidate 7)) (c : Candidate 7) → named n cs ≡ some c → c.number ≡ n
+pub named-number : (n : ℕ) (cs : List (Candidate 7)) (c : Candidate 7) → named n cs ≡ Some c → c.number ≡ n
 named-number n [] c e = absurd (let z : ◌≡◌ {A = ℕ} 0 1 = cc in omega arith)
 named-number n (b ∷ cs) c e = go (eqb b.number n) refl e (named-number n cs c)
   where
-    go : (t : Bool) → eqb b.number n ≡ t → cond t (some b) (named n cs) ≡ some c → (named n cs ≡ some c → c.number ≡ n) → c.number ≡ n
+    go : (t : Bool) → eqb b.number n ≡ t → cond t (Some b) (named n cs) ≡ Some c → (named n cs ≡ Some c → c.number ≡ n) → c.number ≡ n
     go true q e ih = let z : b ≡ c = cc in ap (λ (x : Candidate 7). x.number) (sym z) ∙ eqb-true b.number n q
     go false q e ih = ih e
 

@@ -1,12 +1,9 @@
 -- What the steps below `judge_listing` and `write_listing` answer.
-use Rattle.std.specs.Prelude.{◌≡◌, List, ℕ, ◌≤◌, length}
-use Rattle.std.proofs.Math.Option.{none, some}
+use Rattle.std.specs.Prelude.{◌≡◌, List, ℕ, ◌≤◌, length, Some, None, Result, Ok}
 use Rattle.refusal.specs.Refusal.{most_frame}
 use Rattle.refusal.specs.declared.Refusal.TheVariants.{Listing}
 use Rattle.buffer.specs.Buffer.{Writes}
-use Rattle.buffer.specs.declared.Written.{Written}
 use Rattle.text.specs.Print.{Every}
-use Rattle.text.specs.declared.Verdict.TheVariants.{Accepted}
 use Rattle.frame_text.specs.Rules.{verdict}
 use Rattle.frame_definition.specs.Definition.{Base, definition, first_base}
 use Rattle.header_rules.specs.Data.{Field, Candidate}
@@ -22,13 +19,14 @@ use Rattle.listing_text.specs.declared.form.Form.TheVariants.{Names, Wrong}
 use Rattle.listing.specs.declared.Judgement.{Judgement}
 use Rattle.listing.specs.declared.Judgement.TheVariants.{Differs, Refused}
 use Rattle.listing.specs.Judge.{or_last, Against}
+use Rattle.refusal.specs.declared.Refusal.{Refusal}
 
 -- the answer is a header with this number, the first candidate that holds, and the table has so many rows of it
 pub record Own (t d : List ℕ) (key number count : ℕ) (table : List ℕ) : Type 0 where
-  pub accepted : verdict t ≡ Accepted
+  pub accepted : verdict t ≡ Ok tt
   pub short : length d ≤ most_frame
   pub base : Base
-  pub base_is : first_base key (definition t).bases ≡ some base
+  pub base_is : first_base key (definition t).bases ≡ Some base
   pub one : Candidate 7
   pub fields : List (Field 7)
   pub first : First 7 d (trees base.params) (candidates_of key (definition t)) one fields
@@ -39,17 +37,17 @@ pub record Own (t d : List ℕ) (key number count : ℕ) (table : List ℕ) : Ty
 
 -- the H of this number is not the first that holds
 pub record Other (t d : List ℕ) (key : ℕ) (l : List ℕ) (number last : ℕ) (r : Judgement) : Type 0 where
-  pub no_candidate : (b : Base) → first_base key (definition t).bases ≡ some b → named number (candidates_of key (definition t)) ≡ none
+  pub no_candidate : (b : Base) → first_base key (definition t).bases ≡ Some b → named number (candidates_of key (definition t)) ≡ None
       → r ≡ Differs last
-  pub one : (b : Base) → first_base key (definition t).bases ≡ some b → (c : Candidate 7) → named number (candidates_of key (definition t)) ≡ some c
+  pub one : (b : Base) → first_base key (definition t).bases ≡ Some b → (c : Candidate 7) → named number (candidates_of key (definition t)) ≡ Some c
       → r ≡ Differs (or_last last (differs 1 (closed (rows_of t d (trees b.params) c.params) number) l))
 
 -- by the listing's form
 abbrev pub ByForm : List ℕ → List ℕ → ℕ → List ℕ → Form → Judgement → Type 0
-ByForm t d key l (Names number last) r = (b : Base) → first_base key (definition t).bases ≡ some b → Against (definition t) d key b l number last r
+ByForm t d key l (Names number last) r = (b : Base) → first_base key (definition t).bases ≡ Some b → Against (definition t) d key b l number last r
 ByForm t d key l (Wrong k) r = r ≡ Refused (Listing k)
 
 -- the listing of the first rows of a table and of a number that fit into a listing
-pub record WritesRows (rows : List (List ℕ)) (b : List ℕ) (r : Written) (b' : List ℕ) : Type 0 where
+pub record WritesRows (rows : List (List ℕ)) (b : List ℕ) (r : Result ℕ Refusal) (b' : List ℕ) : Type 0 where
   pub gives : Writes (text_of rows) b r b'
   pub small : Every Small rows

@@ -1,10 +1,9 @@
 // A dealer's listing of a header, judged; and our own answer as such a listing.
 #![tactic(auto)]
 
-ghost use Rattle.std.specs.Prelude.{◌≡◌, ◌*◌, ◌≤◌, length};
+ghost use Rattle.std.specs.Prelude.{◌≡◌, ◌*◌, ◌≤◌, length, Ok};
 ghost use Rattle.refusal.specs.Refusal.{most_frame};
 ghost use Rattle.text.specs.Text.{lines};
-ghost use Rattle.text.specs.declared.Verdict.TheVariants.{Accepted};
 ghost use Rattle.frame_text.specs.Rules.{verdict};
 ghost use Rattle.header.specs.Decode.{key_of};
 ghost use Rattle.listing_text.specs.Listing.{row_width, closed, form_of};
@@ -14,10 +13,9 @@ ghost use Rattle.listing.specs.Judge.{or_yes, or_last, Judges};
 ghost use Rattle.listing.specs.Write.{Writes};
 ghost use Rattle.listing.specs.Steps.{Own, Other, ByForm, WritesRows};
 
-use buffer::Written;
 use frame_definition::base_key;
-use header::{Decoded, MOST_NUMBERS, decode_header};
-use header_named::{Named, read_named};
+use header::{MOST_NUMBERS, decode_header};
+use header_named::read_named;
 use listing_text::{Form, first_difference, put_lines, read_form};
 use refusal::Refusal;
 
@@ -64,11 +62,11 @@ fn judge_other(
     last: usize,
     rows: &mut [u64],
 ) -> Judgement
-    requires { (verdict text.now ≡ Accepted) × (length mpdu.now ≤ most_frame) × (length rows.old ≡ most_numbers) }
+    requires { (verdict text.now ≡ Ok tt) × (length mpdu.now ≤ most_frame) × (length rows.old ≡ most_numbers) }
     ensures { Other text.now mpdu.now (key_of text.now sent.region sent.speed) listing.now number last result }
 {
     let key = base_key(text, sent.region, sent.speed);
-    let Named::Rows(count) = read_named(text, mpdu, key as u64, number, rows) else {
+    let Some(count) = read_named(text, mpdu, key as u64, number, rows) else {
         return Judgement::Differs(last);
     };
     Judgement::Differs(or_last(last, first_difference(listing, &rows[..], count, number)))
@@ -111,7 +109,7 @@ pub fn judge_listing(text: &[u8], mpdu: &[u8], region: u64, speed: u64, listing:
 {
     let mut rows = [0u64; MOST_NUMBERS];
     match decode_header(text, mpdu, region, speed, &mut rows) {
-        Decoded::Header(header) => {
+        Ok(header) => {
             let sent = Sent { region, speed };
             let answered = Answered {
                 number: header.number,
@@ -119,22 +117,22 @@ pub fn judge_listing(text: &[u8], mpdu: &[u8], region: u64, speed: u64, listing:
             };
             judge_beside(text, mpdu, sent, listing, answered, &mut rows)
         }
-        Decoded::Refused(refusal) => Judgement::Refused(refusal),
+        Err(refusal) => Judgement::Refused(refusal),
     }
 }
 
 // Writes the listing of the first rows of a table and of a header's number, if the buffer has room; else refusal 12.
-fn write_rows(rows: &[u64], count: usize, number: u64, buffer: &mut [u8]) -> Written
+fn write_rows(rows: &[u64], count: usize, number: u64, buffer: &mut [u8]) -> Result<usize, Refusal>
     requires { (count ≤ 128) × (count * row_width ≤ length rows.now) }
     ensures { WritesRows (closed (rows_in count rows.now) number) buffer.old result buffer.new }
 {
     let mut none = [0u8; 0];
     let size = put_lines(rows, count, number, &mut none);
     if buffer.len() < size {
-        return Written::Refused(Refusal::MoreBytes(size));
+        return Err(Refusal::MoreBytes(size));
     }
     put_lines(rows, count, number, buffer);
-    Written::Length(size)
+    Ok(size)
 }
 
 // Writes our own answer for the MPDU into the buffer as a listing, and answers its length; or refusal 1 to 7 or 12. A refusal writes nothing, an answer
@@ -145,12 +143,12 @@ pub fn write_listing(
     region: u64,
     speed: u64,
     buffer: &mut [u8],
-) -> Written
+) -> Result<usize, Refusal>
     ensures { Writes text.now mpdu.now region speed buffer.old result buffer.new }
 {
     let mut rows = [0u64; MOST_NUMBERS];
     match decode_header(text, mpdu, region, speed, &mut rows) {
-        Decoded::Header(header) => write_rows(&rows, header.rows, header.number as u64, buffer),
-        Decoded::Refused(refusal) => Written::Refused(refusal),
+        Ok(header) => write_rows(&rows, header.rows, header.number as u64, buffer),
+        Err(refusal) => Err(refusal),
     }
 }

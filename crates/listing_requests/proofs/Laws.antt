@@ -8,11 +8,8 @@ use lib.Seq.{length-take-le}
 use Rattle.laws.proofs.Lists.{tail}
 use Rattle.text.proofs.Laws.{front_count}
 use Rattle.request.specs.Request.{Decoded, Decodes, DecodesBoth}
-use Rattle.request.specs.declared.Bytes.{Bytes}
-use Rattle.request.specs.declared.Bytes.TheVariants.{Are}
-use Rattle.request.specs.declared.Both.{Both}
-use Rattle.request.specs.declared.Both.TheVariants as both
 use Rattle.request.proofs.Laws.{decoded-inside, both-inside, two_laws, request_laws}
+use Rattle.std.specs.Prelude.{Option, Some}
 
 -- what stands behind the first n of a list: of its first e the first m are lent, and those from m on
 module _ (s : List ℕ) (n m e : ℕ) (inside : n ≤ length s) (ordered : m ≤ e) (within : e ≤ length s - n) where
@@ -29,7 +26,7 @@ module _ (s : List ℕ) (n m e : ℕ) (inside : n ≤ length s) (ordered : m ≤
   behind_end = omega (arith, behind)
 
 -- the bytes of two words go into the rest of the buffer, behind n bytes of a first; the rest is ys then
-module _ (d : Decoded) (held : List ℕ) (r : Bytes) (n : ℕ) (told : Decodes d held r) (are : r ≡ Are n) (ys : List ℕ)
+module _ (d : Decoded) (held : List ℕ) (r : Option ℕ) (n : ℕ) (told : Decodes d held r) (are : r ≡ Some n) (ys : List ℕ)
     (kept : length ys ≡ length (take (length held - n) (drop n held))) where
   within : n ≤ length held
   within = decoded-inside d held r n told are
@@ -53,7 +50,7 @@ module _ (d : Decoded) (held : List ℕ) (r : Bytes) (n : ℕ) (told : Decodes d
   pub rest_starts : n ≤ length after
   rest_starts = omega (arith, whole, within)
 
-  pub rest-ends : (a b : Decoded) (q : Both) (m e : ℕ) → DecodesBoth a b ys q → q ≡ both.Are m e → e ≤ length after - n
+  pub rest-ends : (a b : Decoded) (q : Option (ℕ × ℕ)) (m e : ℕ) → DecodesBoth a b ys q → q ≡ Some (m, e) → e ≤ length after - n
   rest-ends a b q m e next is = omega (arith, whole, within, same, both-inside a b ys q m e next is)
 
 pub ruleset laws = (request_laws, two_laws, behind-first, behind-start, behind_end, rest_starts, rest-ends)

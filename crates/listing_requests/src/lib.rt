@@ -3,10 +3,10 @@
 
 ghost use Rattle.std.specs.Prelude.{◌-◌, ◌≤◌, length};
 
-use answer::{Answer, put_named, put_refusal};
+use answer::{put_named, put_refusal};
 use libtap::TapAnswer;
 use libtap::listings::tap_judge_listing;
-use request::{Both, Bytes, Two, read_both, read_bytes, read_two};
+use request::{Two, read_both, read_bytes, read_two};
 use text::find;
 use writer::{Buffer, put};
 
@@ -56,16 +56,16 @@ fn judge_words(
     bytes: &mut [u8],
     out: &mut Buffer,
     used: usize,
-) -> Answer {
+) -> Option<usize> {
     let e = find(words, b' ');
     if e == words.len() {
-        return Answer::Bad;
+        return None;
     }
-    let Bytes::Are(n) = read_bytes(&words[..e], bytes) else {
-        return Answer::Bad;
+    let Some(n) = read_bytes(&words[..e], bytes) else {
+        return None;
     };
-    let Both::Are(mpdu, listing) = read_both(&words[e + 1..], &mut bytes[n..]) else {
-        return Answer::Bad;
+    let Some((mpdu, listing)) = read_both(&words[e + 1..], &mut bytes[n..]) else {
+        return None;
     };
     let asked = Asked {
         region,
@@ -74,13 +74,13 @@ fn judge_words(
         mpdu,
         listing,
     };
-    Answer::Put(judge(bytes, asked, out, used))
+    Some(judge(bytes, asked, out, used))
 }
 
 // `listing REGION SPEED TEXT MPDU LISTING`
-pub fn listing(words: &[u8], bytes: &mut [u8], out: &mut Buffer, used: usize) -> Answer {
+pub fn listing(words: &[u8], bytes: &mut [u8], out: &mut Buffer, used: usize) -> Option<usize> {
     let Two::Are(region, speed, at) = read_two(words) else {
-        return Answer::Bad;
+        return None;
     };
     judge_words(&words[at..], region, speed, bytes, out, used)
 }

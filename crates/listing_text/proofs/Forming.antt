@@ -15,12 +15,11 @@ use Rattle.text.specs.declared.Place.{Place}
 use Rattle.text.proofs.Laws.{split-last, split-more}
 use Rattle.text.proofs.Judging.{split_some}
 use Rattle.numerals.specs.Numbers.{most, value_of}
-use Rattle.numerals.specs.declared.numbers.Value.{Value}
-use Rattle.numerals.specs.declared.numbers.Value.TheVariants.{Is, Not}
 use Rattle.numerals.proofs.Decimals.{value_is, value_not}
 use Rattle.listing_text.specs.Listing.{row_width, numbers_in, at_end, last_of, form_of}
 use Rattle.listing_text.specs.declared.form.Form.{Form}
 use Rattle.listing_text.specs.declared.form.Form.TheVariants.{Names, Wrong}
+use Rattle.std.specs.Prelude.{Option, Some, None}
 
 -- ---- the numbers of a line, field by field
 pub record Counting (s : List ℕ) (at more : ℕ) : Type 0 where
@@ -65,8 +64,8 @@ module _ (s : List ℕ) (at more : ℕ) (w : Counting s at more) (some : 0 < mor
   further-field l h =
       split-more 9 rest (omega (arith, is_cut)) ∙ ap (λ (k : ℕ). take k rest ∷ fields (drop (k + 1) rest)) (sym is_cut)
 
-  module _ (r : Value) (reads : r ≡ value_of (take e rest)) where
-    pub counting_wrong : e ≤ length rest → r ≡ Not → false ≡ numbers_in row_width (fields s)
+  module _ (r : Option ℕ) (reads : r ≡ value_of (take e rest)) where
+    pub counting_wrong : e ≤ length rest → r ≡ None → false ≡ numbers_in row_width (fields s)
     counting_wrong l q = go (eqb e (length rest)) refl
       where
         wrong : up_to most (take e rest) ≡ false
@@ -76,7 +75,7 @@ module _ (s : List ℕ) (at more : ℕ) (w : Counting s at more) (some : 0 < mor
         go true t = sym (counts [] (last-field (eqb-true e (length rest) t)) ∙ rw wrong refl)
         go false t = sym (counts (fields (drop (e + 1) rest)) (further-field l (eqb-false e (length rest) t)) ∙ rw wrong refl)
 
-    module _ (v : ℕ) (q : r ≡ Is v) where
+    module _ (v : ℕ) (q : r ≡ Some v) where
       number : up_to most (take e rest) ≡ true
       number = (value_is (take e rest) r reads v q).0
 
@@ -100,11 +99,11 @@ module _ (s : List ℕ) (at more : ℕ) (w : Counting s at more) (some : 0 < mor
           }
 
 -- ---- the last line
-module _ (s : List ℕ) (line : ℕ) (r : Value) (reads : r ≡ value_of s) where
-  pub last-names : (v : ℕ) → r ≡ Is v → Names v line ≡ last_of line s
+module _ (s : List ℕ) (line : ℕ) (r : Option ℕ) (reads : r ≡ value_of s) where
+  pub last-names : (v : ℕ) → r ≡ Some v → Names v line ≡ last_of line s
   last-names v q = let i = value_is s r reads v q in rw (i.0, i.1) refl
 
-  pub last_wrong : r ≡ Not → Wrong line ≡ last_of line s
+  pub last_wrong : r ≡ None → Wrong line ≡ last_of line s
   last_wrong q = rw (value_not s r reads q) refl
 
 -- ---- line by line

@@ -4,7 +4,7 @@ ghost use Rattle.text.specs.Text.{lines, fields};
 ghost use Rattle.listing_text.specs.Listing.{row_width, numbers_in, last_of, form_of};
 
 use crate::lines::ROW_WIDTH;
-use numerals::numbers::{Value, read_value};
+use numerals::numbers::read_value;
 use text::{Place, find};
 
 // What a listing says by its form.
@@ -25,7 +25,7 @@ fn is_row(s: &[u8]) -> bool
     while 0 < more {
         let rest = &s[at..];
         let e = find(rest, 9);
-        let Value::Is(_) = read_value(&rest[..e]) else {
+        let Some(_) = read_value(&rest[..e]) else {
             return false;
         };
         more -= 1;
@@ -42,8 +42,8 @@ fn read_last(s: &[u8], line: usize) -> Form
     ensures { result ≡ last_of line s.now }
 {
     match read_value(s) {
-        Value::Is(number) => Form::Names { number, line },
-        Value::Not => Form::Wrong(line),
+        Some(number) => Form::Names { number, line },
+        None => Form::Wrong(line),
     }
 }
 

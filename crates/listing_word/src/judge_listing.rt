@@ -1,5 +1,5 @@
 // The word `judge`: is a listing of a frame's header ours? If not, what ours has at the line that differs.
-use header::{Decoded, DecodedHeader, MOST_NUMBERS, decode_header};
+use header::{DecodedHeader, MOST_NUMBERS, decode_header};
 use listing::{Judgement, judge_listing};
 use output::outcome::{refuse, succeed};
 use output::refusals::put_mpdu_reason;
@@ -120,14 +120,14 @@ fn say_differs(
 fn say_beside(text: &[u8], mpdu: &[u8], listing: &[u8], frame: Frame, line: usize) {
     let mut rows = [0u64; MOST_NUMBERS];
     match decode_header(text, mpdu, frame.region, frame.rate, &mut rows) {
-        Decoded::Header(header) => {
+        Ok(header) => {
             if line == 0 {
                 say_yes(text, header, frame.number);
                 return;
             }
             say_differs(text, mpdu, listing, header, &rows, frame.number, line);
         }
-        Decoded::Refused(refusal) => say_refused(frame.number, refusal),
+        Err(refusal) => say_refused(frame.number, refusal),
     }
 }
 

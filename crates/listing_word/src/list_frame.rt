@@ -1,5 +1,4 @@
 // The word `list`: our own listing of a frame's header. The listing is all of the output but its last line, which bin/tap takes off.
-use buffer::Written;
 use listing::write_listing;
 use output::outcome::{fail, refuse, succeed};
 use writer::STDOUT_FILENO;
@@ -14,8 +13,8 @@ fn write_text(listing: &[u8]) {
 
 fn list_into(text: &[u8], mpdu: &[u8], region: u64, rate: u64, buffer: &mut [u8]) {
     match write_listing(text, mpdu, region, rate, buffer) {
-        Written::Length(n) => write_text(&buffer[..n]),
-        Written::Refused(refusal) => refuse(refusal),
+        Ok(n) => write_text(&buffer[..n]),
+        Err(refusal) => refuse(refusal),
     }
 }
 

@@ -1,12 +1,11 @@
 // The arguments of `list` and `judge`: a frame of a capture, and for `judge` the file of a listing.
 use crate::judge_listing::{Frame, judge_mpdu};
 use crate::list_frame::list_mpdu;
-use files::folder::{Loaded, load};
+use files::folder::load;
 use files::input::{File, Got, Reader};
-use files::options::{Asked, Options};
+use files::options::Options;
 use frame_search::{Aim, Search, fail_number, read_number, search_capture};
 use output::outcome::{fail, fail_capture, fail_file};
-use readers::numeral::Numeral;
 use readers::region::frame_code;
 use screen::FrameRecord;
 use std::num::wrapping_sub_u64;
@@ -89,7 +88,7 @@ fn answer_heard(
         return;
     }
     let mut text = io::large_buffer();
-    let Loaded::Bytes(n) = load(rt, options.folder, b"frames.txt", &mut text) else {
+    let Some(n) = load(rt, options.folder, b"frames.txt", &mut text) else {
         fail(b"");
         return;
     };
@@ -125,7 +124,7 @@ fn answer_file<R: Env + Files + Input>(
 }
 
 fn open_and_answer(rt: &(impl Env + Files + Input), listing: usize, options: Options) {
-    let Numeral::Is(number) = read_number(rt, options.second) else {
+    let Some(number) = read_number(rt, options.second) else {
         fail(b"tap: the number of a frame is a decimal number from 1\n");
         return;
     };
@@ -139,7 +138,7 @@ fn open_and_answer(rt: &(impl Env + Files + Input), listing: usize, options: Opt
 
 // `tap list FILE N`.
 pub fn list_frame(rt: &(impl Env + Files + Input)) {
-    let Asked::Options(options) = files::options::read(
+    let Some(options) = files::options::read(
         rt,
         2,
         b"--definitions\t--firmware\t--beams",
@@ -152,7 +151,7 @@ pub fn list_frame(rt: &(impl Env + Files + Input)) {
 
 // `tap judge FILE N LISTING`.
 pub fn judge_frame(rt: &(impl Env + Files + Input)) {
-    let Asked::Options(options) = files::options::read(
+    let Some(options) = files::options::read(
         rt,
         3,
         b"--definitions\t--firmware\t--beams",

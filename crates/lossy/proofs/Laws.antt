@@ -12,12 +12,12 @@ use mir.Syntax.{w64}
 use Rattle.laws.proofs.Lists.{done, tail}
 use Rattle.refusal.specs.declared.Refusal.TheVariants.{MoreBytes}
 use Rattle.buffer.specs.Buffer.{Writes}
-use Rattle.buffer.specs.declared.Written.TheVariants.{Length, Refused}
 use Rattle.buffer.proofs.Laws.{sets-append, writes_room, writes_short}
 use Rattle.utf8.specs.declared.Piece.{Piece}
 use Rattle.utf8.specs.Table.{cut}
 use Rattle.lossy.specs.Lossy.{mark, first, replaced, trim, shown}
 use Rattle.lossy.proofs.Text.{piece, first-length, three_times, trim-zeros, trim-behind, trim-first}
+use Rattle.std.specs.Prelude.{Ok, Err}
 
 -- as long as it says: the part of a slice up to e
 pub front : (s : List ℕ) (e : ℕ) → e ≤ length s → e ≡ length (take e s)
@@ -177,10 +177,10 @@ module _ (s : List ℕ) (e : ℕ) (ends : take e s ≡ trim s) where
   whole_room n to q h = omega arith
 
   pub whole-written : (n : ℕ) (to to' : List ℕ) → n ≡ length (replaced (take e s)) → n ≤ length to → to' ≡ sets to 0 (replaced (take e s))
-      → Writes (shown s) to (Length n) to'
+      → Writes (shown s) to (Ok n) to'
   whole-written n to to' q h f = writes_room (shown s) to n (counted n q) to' (f ∙ ap (sets to 0) is_shown) h
 
-  pub whole-longer : (n : ℕ) (to : List ℕ) → n ≡ length (replaced (take e s)) → length to < n → Writes (shown s) to (Refused (MoreBytes n)) to
+  pub whole-longer : (n : ℕ) (to : List ℕ) → n ≡ length (replaced (take e s)) → length to < n → Writes (shown s) to (Err (MoreBytes n)) to
   whole-longer n to q h = writes_short (shown s) to n (counted n q) h
 
 pub ruleset whole_laws = (trimmed_in, whole_room, whole-written, whole-longer)

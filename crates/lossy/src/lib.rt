@@ -8,7 +8,7 @@ ghost use Rattle.utf8.specs.Table.{cut};
 ghost use Rattle.buffer.specs.Buffer.{Writes};
 ghost use Rattle.lossy.specs.Lossy.{first, replaced, trim, shown};
 
-use buffer::{Written, put};
+use buffer::put;
 use refusal::Refusal;
 use utf8::Piece;
 
@@ -85,15 +85,15 @@ fn put_all(to: &mut [u8], s: &[u8])
 }
 
 // Writes bytes at the front of a buffer as they are shown, if it has room.
-pub fn write_lossy(bytes: &[u8], buffer: &mut [u8]) -> Written
+pub fn write_lossy(bytes: &[u8], buffer: &mut [u8]) -> Result<usize, Refusal>
     requires { 3 * length bytes.now < 2 ^ 64 }
     ensures { Writes (shown bytes.now) buffer.old result buffer.new }
 {
     let e = end_of(bytes);
     let needed = count(&bytes[..e]);
     if buffer.len() < needed {
-        return Written::Refused(Refusal::MoreBytes(needed));
+        return Err(Refusal::MoreBytes(needed));
     }
     put_all(buffer, &bytes[..e]);
-    Written::Length(needed)
+    Ok(needed)
 }

@@ -15,11 +15,11 @@ use lib.Seq.{drop-cons, drop-length, take_all, sets, length-sets, sets-eq}
 use borrow.Author.Tests.{lt-ltb, le-ltb}
 use Rattle.refusal.specs.declared.Refusal.TheVariants.{TooLong, MoreRows}
 use Rattle.node_mask.specs.Nodes.{nodes_from, nodes_of, Lists}
-use Rattle.node_mask.specs.declared.Listed.TheVariants.{Nodes, Refused}
 use Rattle.node_mask.specs.Words.{little, nodes_in}
 use Rattle.node_mask.proofs.Bits.{bits_from, bits_count, bits_none, cleared_less, Next, next}
 use Rattle.node_mask.proofs.Words.{word_lt, word_nodes, part-lt}
 use Rattle.node_mask.proofs.NodeLaws.{nodes_append, nodes_most, nodes_address}
+use Rattle.std.specs.Prelude.{Ok, Err}
 
 -- ---- half_word, word_of
 module _ (l : List ℕ) (at a b c d : ℕ) (first : a ≡ get_or l at 0 % 256) (second : b ≡ get_or l (at + 1) 0 % 256) (third : c ≡ get_or l (at + 2) 0 % 256)
@@ -243,7 +243,7 @@ module _ (m t₀ t : List ℕ) (at i : ℕ) (g : Laying m t₀ t at i) where
 -- ---- mask_nodes
 pub put_all : (m t : List ℕ) (n : ℕ) (t' : List ℕ) → t' ≡ sets t 0 (nodes_of m) → n ≡ length (nodes_of m) → length m ≤ 8191
     → n ≤ length t
-    → Lists m t (Nodes n) t'
+    → Lists m t (Ok n) t'
 put_all m t n t' is e short room =
     let z : 0 + length (nodes_of m) ≡ length (nodes_of m) = omega arith in
     record {
@@ -253,7 +253,7 @@ put_all m t n t' is e short room =
       most = most m;
     }
 
-pub too_short : (m t : List ℕ) (n : ℕ) → n ≡ length (nodes_of m) → length m ≤ 8191 → length t < n → Lists m t (Refused (MoreRows n)) t
+pub too_short : (m t : List ℕ) (n : ℕ) → n ≡ length (nodes_of m) → length m ≤ 8191 → length t < n → Lists m t (Err (MoreRows n)) t
 too_short m t n e short h =
     record {
       answer = rw (le-ltb 8191 (length m) short, lt-ltb (length t) (length (nodes_of m)) (omega arith), e);
@@ -262,7 +262,7 @@ too_short m t n e short h =
       most = most m;
     }
 
-pub too_long : (m t : List ℕ) → 8191 < length m → Lists m t (Refused (TooLong (length m))) t
+pub too_long : (m t : List ℕ) → 8191 < length m → Lists m t (Err (TooLong (length m))) t
 too_long m t h = record { answer = rw (lt-ltb 8191 (length m) h); leaves = refl; lists = nodes_address m; most = most m }
 
 pub ruleset laws = (

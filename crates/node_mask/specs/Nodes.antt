@@ -1,8 +1,7 @@
 -- BM1 (docs/RULES.md): the nodes that a bit mask addresses, bit by bit; and what listing them answers.
-use Rattle.std.specs.Prelude.{◌≡◌, Bool, false, cond, ◌||◌, List, [], ◌∷◌, ◌++◌, ℕ, zero, suc, ◌+◌, ◌*◌, ◌/◌, ◌%◌, ◌^◌, ◌≤◌, ◌<◌, eqb, ltb, length, get_or, drop}
+use Rattle.std.specs.Prelude.{◌≡◌, Bool, false, cond, ◌||◌, List, [], ◌∷◌, ◌++◌, ℕ, zero, suc, ◌+◌, ◌*◌, ◌/◌, ◌%◌, ◌^◌, ◌≤◌, ◌<◌, eqb, ltb, length, get_or, drop, Result, Ok, Err}
 use Rattle.refusal.specs.declared.Refusal.TheVariants.{TooLong, MoreRows}
-use Rattle.node_mask.specs.declared.Listed.{Listed}
-use Rattle.node_mask.specs.declared.Listed.TheVariants.{Nodes, Refused}
+use Rattle.refusal.specs.declared.Refusal.{Refusal}
 
 -- the bit i of the bytes m, 0 or 1: the bit 0 is the lowest of the first byte, and past the end each is 0
 abbrev pub bit_at : List ℕ → ℕ → ℕ
@@ -46,17 +45,17 @@ pub record Addresses (m l : List ℕ) : Type 0 where
 -- ---- the answer
 
 -- R4, R8: a mask that is too long for 16 bits, a table of `room` nodes that is too short; else how many nodes there are
-abbrev pub listed : List ℕ → ℕ → Listed
+abbrev pub listed : List ℕ → ℕ → Result ℕ Refusal
 listed m room =
-    cond (ltb 8191 (length m)) (Refused (TooLong (length m)))
-    (cond (ltb room (length (nodes_of m))) (Refused (MoreRows (length (nodes_of m)))) (Nodes (length (nodes_of m))))
+    cond (ltb 8191 (length m)) (Err (TooLong (length m)))
+    (cond (ltb room (length (nodes_of m))) (Err (MoreRows (length (nodes_of m)))) (Ok (length (nodes_of m))))
 
 -- R12: the nodes stand first in the table, and what is past them is as it was; a refusal leaves all of it as it was
-abbrev pub nodes_after : List ℕ → List ℕ → Listed → List ℕ
-nodes_after m table (Nodes n) = nodes_of m ++ drop n table
-nodes_after m table (Refused x) = table
+abbrev pub nodes_after : List ℕ → List ℕ → Result ℕ Refusal → List ℕ
+nodes_after m table (Ok n) = nodes_of m ++ drop n table
+nodes_after m table (Err x) = table
 
-pub record Lists (m table : List ℕ) (r : Listed) (table' : List ℕ) : Type 0 where
+pub record Lists (m table : List ℕ) (r : Result ℕ Refusal) (table' : List ℕ) : Type 0 where
   pub answer : r ≡ listed m (length table)
   pub leaves : table' ≡ nodes_after m table r
   pub lists : Addresses m (nodes_of m)

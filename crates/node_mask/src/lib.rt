@@ -12,13 +12,6 @@ use refusal::Refusal;
 // The longest mask whose nodes are all numbers of 16 bits.
 pub const MOST_BYTES: usize = 8191;
 
-// What listing the nodes of a mask answers: how many it wrote, or why none.
-#[derive(Clone, Copy)]
-pub enum Listed {
-    Nodes(usize),
-    Refused(Refusal),
-}
-
 fn wide(byte: u8) -> u64
     ensures { result ≡ byte % 256 }
 {
@@ -126,16 +119,16 @@ fn put_nodes(mask: &[u8], nodes: &mut [u16])
 }
 
 // Lists the nodes that the mask addresses, rising, each once; or refusal 4 or 8, and writes nothing.
-pub fn mask_nodes(mask: &[u8], nodes: &mut [u16]) -> Listed
+pub fn mask_nodes(mask: &[u8], nodes: &mut [u16]) -> Result<usize, Refusal>
     ensures { Lists mask.now nodes.old result nodes.new }
 {
     if MOST_BYTES < mask.len() {
-        return Listed::Refused(Refusal::TooLong(mask.len()));
+        return Err(Refusal::TooLong(mask.len()));
     }
     let count = count_nodes(mask);
     if nodes.len() < count {
-        return Listed::Refused(Refusal::MoreRows(count));
+        return Err(Refusal::MoreRows(count));
     }
     put_nodes(mask, nodes);
-    Listed::Nodes(count)
+    Ok(count)
 }

@@ -5,12 +5,10 @@ ghost use Rattle.std.specs.Prelude.{◌≤◌, length};
 ghost use Rattle.libtap.specs.Answers.{Stands};
 
 use answer::table::{MOST_ROWS, SHORT, put_touched_short};
-use answer::{Answer, put_named, put_refusal, put_value};
+use answer::{put_named, put_refusal, put_value};
 use libtap::TapAnswer;
 use libtap::nodes::{tap_command_nodes, tap_header_nodes};
-use request::row::{
-    CommandAsked, CommandRow, HeaderAsked, HeaderRow, read_command_row, read_header_row,
-};
+use request::row::{CommandRow, HeaderRow, read_command_row, read_header_row};
 use writer::Buffer;
 
 fn wide(node: u16) -> u64 {
@@ -66,13 +64,13 @@ fn list_header(
 }
 
 // `headernodes CAP ROW REGION SPEED TEXT MPDU`
-pub fn headernodes(words: &[u8], bytes: &mut [u8], out: &mut Buffer, used: usize) -> Answer {
-    let HeaderAsked::Is(asked) = read_header_row(words, MOST_ROWS, bytes) else {
-        return Answer::Bad;
+pub fn headernodes(words: &[u8], bytes: &mut [u8], out: &mut Buffer, used: usize) -> Option<usize> {
+    let Some(asked) = read_header_row(words, MOST_ROWS, bytes) else {
+        return None;
     };
     let room = asked.cap;
     let mut nodes = [SHORT; 16384];
-    Answer::Put(list_header(bytes, asked, &mut nodes[..room], out, used))
+    Some(list_header(bytes, asked, &mut nodes[..room], out, used))
 }
 
 // The first bytes are the text, those behind them up to the end the payload.
@@ -98,11 +96,16 @@ fn list_command(
 }
 
 // `commandnodes MODE CAP ROW TEXT PAYLOAD`
-pub fn commandnodes(words: &[u8], bytes: &mut [u8], out: &mut Buffer, used: usize) -> Answer {
-    let CommandAsked::Is(asked) = read_command_row(words, MOST_ROWS, bytes) else {
-        return Answer::Bad;
+pub fn commandnodes(
+    words: &[u8],
+    bytes: &mut [u8],
+    out: &mut Buffer,
+    used: usize,
+) -> Option<usize> {
+    let Some(asked) = read_command_row(words, MOST_ROWS, bytes) else {
+        return None;
     };
     let room = asked.cap;
     let mut nodes = [SHORT; 16384];
-    Answer::Put(list_command(bytes, asked, &mut nodes[..room], out, used))
+    Some(list_command(bytes, asked, &mut nodes[..room], out, used))
 }

@@ -14,9 +14,9 @@ use borrow.Author.Tests.{eq-eqb, ne_eqb, lt-ltb, le-ltb}
 use Rattle.laws.proofs.Lists.{next, done, tail}
 use Rattle.refusal.specs.declared.Refusal.TheVariants.{MoreBytes}
 use Rattle.buffer.specs.Buffer.{Writes}
-use Rattle.buffer.specs.declared.Written.TheVariants.{Length, Refused}
 use Rattle.buffer.proofs.Laws.{sets-append, writes_room, writes_short}
 use Rattle.numerals.specs.Numerals.{room, capital, glyph, spelled, decimal, signed, hex, pairs, Spells}
+use Rattle.std.specs.Prelude.{Ok, Err}
 
 -- ---- a digit
 pub glyph-low : (ten d : ℕ) → d < 10 → 48 + d ≡ glyph ten d
@@ -192,7 +192,7 @@ module _ (mark bytes b : List ℕ) where
   counted = rw length-append (omega (arith, length_pairs bytes))
 
   pub pairs-longer : length b < length mark + 2 * length bytes
-      → Writes (mark ++ pairs bytes) b (Refused (MoreBytes (length mark + 2 * length bytes))) b
+      → Writes (mark ++ pairs bytes) b (Err (MoreBytes (length mark + 2 * length bytes))) b
   pairs-longer h = writes_short (mark ++ pairs bytes) b (length mark + 2 * length bytes) counted h
 
   pub pairs-room : (b₁ : List ℕ) → b₁ ≡ sets b 0 mark → length mark + 2 * length bytes ≤ length b
@@ -201,7 +201,7 @@ module _ (mark bytes b : List ℕ) where
 
   pub pairs-written : (b₁ b₂ : List ℕ) → b₁ ≡ sets b 0 mark → b₂ ≡ sets b₁ (length mark) (pairs bytes)
       → length mark + 2 * length bytes ≤ length b
-      → Writes (mark ++ pairs bytes) b (Length (length mark + 2 * length bytes)) b₂
+      → Writes (mark ++ pairs bytes) b (Ok (length mark + 2 * length bytes)) b₂
   pairs-written b₁ b₂ e f h =
       let z : 0 + length mark ≡ length mark = omega arith in
       let w : sets b 0 (mark ++ pairs bytes) ≡ sets (sets b 0 mark) (length mark) (pairs bytes) = rw z at (sets-append b 0 mark (pairs bytes)) in

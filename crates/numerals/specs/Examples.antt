@@ -1,6 +1,5 @@
 -- Numbers as text, and read.
-use Rattle.std.specs.Prelude.{◌≡◌, refl, [], ◌∷◌}
-use Rattle.numerals.specs.declared.numbers.Value.TheVariants.{Is, Not}
+use Rattle.std.specs.Prelude.{◌≡◌, refl, [], ◌∷◌, Some, None}
 use Rattle.numerals.specs.Numbers.{value_of}
 use Rattle.numerals.specs.Numerals.{spelled, decimal, signed, hex, pairs}
 
@@ -47,26 +46,26 @@ both_bytes : pairs (0 ∷ 255 ∷ []) ≡ 0x30 ∷ 0x30 ∷ 0x46 ∷ 0x46 ∷ []
 both_bytes = refl
 
 -- 0, 12, 01, nothing, -1
-read_zero : value_of (48 ∷ []) ≡ Is 0
+read_zero : value_of (48 ∷ []) ≡ Some 0
 read_zero = refl
 
-read_twelve : value_of (49 ∷ 50 ∷ []) ≡ Is 12
+read_twelve : value_of (49 ∷ 50 ∷ []) ≡ Some 12
 read_twelve = refl
 
-leading_zero : value_of (48 ∷ 49 ∷ []) ≡ Not
+leading_zero : value_of (48 ∷ 49 ∷ []) ≡ None
 leading_zero = refl
 
-no_digit : value_of [] ≡ Not
+no_digit : value_of [] ≡ None
 no_digit = refl
 
-read_minus : value_of (45 ∷ 49 ∷ []) ≡ Not
+read_minus : value_of (45 ∷ 49 ∷ []) ≡ None
 read_minus = refl
 
 -- 18446744073709551615 and the next
 largest : value_of (49 ∷ 56 ∷ 52 ∷ 52 ∷ 54 ∷ 55 ∷ 52 ∷ 52 ∷ 48 ∷ 55 ∷ 51 ∷ 55 ∷ 48 ∷ 57 ∷ 53 ∷ 53 ∷ 49 ∷ 54 ∷ 49 ∷ 53
-    ∷ []) ≡ Is 18446744073709551615
+    ∷ []) ≡ Some 18446744073709551615
 largest = refl
 
 too_large : value_of (49 ∷ 56 ∷ 52 ∷ 52 ∷ 54 ∷ 55 ∷ 52 ∷ 52 ∷ 48 ∷ 55 ∷ 51 ∷ 55 ∷ 48 ∷ 57 ∷ 53 ∷ 53 ∷ 49 ∷ 54 ∷ 49 ∷ 54
-    ∷ []) ≡ Not
+    ∷ []) ≡ None
 too_large = refl

@@ -8,7 +8,7 @@ ghost use Rattle.std.proofs.lemmas.List.Edits.{sets};
 ghost use Rattle.buffer.specs.Buffer.{Writes};
 ghost use Rattle.numerals.specs.Numerals.{room, glyph as glyphOf, spelled, decimal as decimalOf, signed as signed_of, hex as hexOf, pairs, Spells};
 
-use buffer::{Written, put};
+use buffer::put;
 use refusal::Refusal;
 
 // The room in which a number is spelled, up to its end: 20 digits are enough for 64 bits, and before them is room for a mark of two bytes.
@@ -118,15 +118,15 @@ fn put_pairs(buffer: &mut [u8], at: usize, bytes: &[u8])
 }
 
 // Writes a mark and the two digits of each byte at the front of a buffer, if it has room.
-pub fn write_pairs(mark: &[u8], bytes: &[u8], buffer: &mut [u8]) -> Written
+pub fn write_pairs(mark: &[u8], bytes: &[u8], buffer: &mut [u8]) -> Result<usize, Refusal>
     requires { length mark.now + 2 * length bytes.now < 2 ^ 64 }
     ensures { Writes (mark.now ++ pairs bytes.now) buffer.old result buffer.new }
 {
     let size = mark.len() + 2 * bytes.len();
     if buffer.len() < size {
-        return Written::Refused(Refusal::MoreBytes(size));
+        return Err(Refusal::MoreBytes(size));
     }
     put(buffer, 0, mark);
     put_pairs(buffer, mark.len(), bytes);
-    Written::Length(size)
+    Ok(size)
 }

@@ -1,18 +1,16 @@
 // The word `overlaps`: which headers of one base cannot be told apart, and whether the order of the H blocks matters.
-ghost use Rattle.std.specs.Prelude.{◌≡◌};
-ghost use Rattle.text.specs.declared.Verdict.TheVariants.{Accepted};
+ghost use Rattle.std.specs.Prelude.{◌≡◌, Ok};
 ghost use Rattle.frame_text.specs.Rules.{verdict};
 
 use files::arguments::argument_count;
 use files::input::{File, Got, Reader, open_argument};
 use frame_text::check_frame_text;
 use output::outcome::{fail, fail_file, refuse_text, succeed};
-use overlaps::{NextHeader, all_apart, find_header, tell_numbers};
+use overlaps::{all_apart, find_header, tell_numbers};
 use readers::line_fields::field_of;
 use readers::lines::find_line;
 use std::num::wrapping_add_u64;
 use std::rt::{Env, Files};
-use text::Verdict;
 use writer::{Buffer, STDOUT_FILENO, flush, put, put_left, put_marked, put_number};
 
 // Wide enough for most names; a longer one moves what stands behind it.
@@ -47,11 +45,11 @@ fn say_pair(text: &[u8], a: usize, b: usize, told: u64) {
 
 // How many headers there are.
 fn count_headers(text: &[u8]) -> usize
-    requires { verdict text.now ≡ Accepted }
+    requires { verdict text.now ≡ Ok tt }
 {
     let mut n: usize = 0;
     while n < HEADERS {
-        let NextHeader::At(_) = find_header(text, n) else {
+        let Some(_) = find_header(text, n) else {
             return n;
         };
         n += 1;
@@ -68,7 +66,7 @@ struct Pairs {
 
 // One pair more, and its line if it cannot be told.
 fn take_pair(text: &[u8], a: usize, b: usize, pairs: Pairs) -> Pairs
-    requires { verdict text.now ≡ Accepted }
+    requires { verdict text.now ≡ Ok tt }
 {
     let told = tell_numbers(text, a, b);
     if 3 < told {
@@ -89,7 +87,7 @@ fn take_pair(text: &[u8], a: usize, b: usize, pairs: Pairs) -> Pairs
 
 // The pairs of a header and each behind it.
 fn take_pairs(text: &[u8], a: usize, n: usize, before: Pairs) -> Pairs
-    requires { verdict text.now ≡ Accepted }
+    requires { verdict text.now ≡ Ok tt }
 {
     let mut pairs = before;
     let mut b: usize = a;
@@ -103,7 +101,7 @@ fn take_pairs(text: &[u8], a: usize, n: usize, before: Pairs) -> Pairs
 }
 
 fn take_all(text: &[u8], n: usize) -> Pairs
-    requires { verdict text.now ≡ Accepted }
+    requires { verdict text.now ≡ Ok tt }
 {
     let mut pairs = Pairs { apart: 0, open: 0 };
     let mut a: usize = 0;
@@ -136,7 +134,7 @@ fn end_open(n: u64) {
 
 // What is told of an accepted text.
 fn show_overlaps(text: &[u8])
-    requires { verdict text.now ≡ Accepted }
+    requires { verdict text.now ≡ Ok tt }
 {
     let pairs = take_all(text, count_headers(text));
     say_count(pairs);
@@ -153,8 +151,8 @@ fn show_overlaps(text: &[u8])
 
 fn judge_text(name: &[u8], text: &[u8]) {
     match check_frame_text(text) {
-        Verdict::Accepted => show_overlaps(text),
-        Verdict::Refused(refusal) => refuse_text(name, b"frame", refusal),
+        Ok(()) => show_overlaps(text),
+        Err(refusal) => refuse_text(name, b"frame", refusal),
     }
 }
 

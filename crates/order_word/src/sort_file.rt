@@ -1,6 +1,5 @@
 // The word `sort`: a frame text with its H blocks sorted by name. The text is all of the output but its last line, which bin/tap takes off.
 use crate::moved::say_moved;
-use buffer::Written;
 use files::arguments::argument_count;
 use files::input::{File, Got, Reader, open_argument};
 use output::outcome::{fail, fail_file, refuse_text, succeed};
@@ -19,8 +18,8 @@ fn write_text(text: &[u8], sorted: &[u8]) {
 
 fn sort_text(name: &[u8], text: &[u8], buffer: &mut [u8]) {
     match sort_headers(text, buffer) {
-        Written::Length(n) => write_text(text, &buffer[..n]),
-        Written::Refused(refusal) => refuse_text(name, b"frame", refusal),
+        Ok(n) => write_text(text, &buffer[..n]),
+        Err(refusal) => refuse_text(name, b"frame", refusal),
     }
 }
 

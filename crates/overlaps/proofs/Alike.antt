@@ -2,7 +2,6 @@
 use mathlib.Core.Path.{◌≡◌, refl, sym, ap, ◌∙◌}
 use mathlib.Core.Bool.{Bool, true, false≢true}
 use mathlib.Core.List.{[], ◌∷◌}
-use mathlib.Core.Option.{Option, none, some}
 use lib.Dec.{eqb}
 use borrow.Author.Tests.{eqb-true}
 use Rattle.laws.proofs.Bools.{and_left, and_right}
@@ -13,6 +12,7 @@ use Rattle.frame_text.specs.declared.ParamType.{ParamType}
 use Rattle.frame_text.specs.declared.ParamType.TheVariants.{Hex, Number, NumberSigned, NodeNumber, Boolean, Bitmask}
 use Rattle.header_fields.specs.Fields.{type_number, type_by}
 use Rattle.overlaps.specs.Overlaps.{same_option, same_path, same_numbers, same_names, same_paths, alike}
+use Rattle.std.specs.Prelude.{Option, Some, None}
 
 pub path_is : (a b : Path) → same_path a b ≡ true → a ≡ b
 path_is [] [] e = refl
@@ -25,10 +25,10 @@ path_is (x ∷ xs) (y ∷ ys) e =
 
 option_is : {A : Type 0} (test : A → A → Bool) → ((x y : A) → test x y ≡ true → x ≡ y) → (a b : Option A) → same_option test a b ≡ true
     → a ≡ b
-option_is test is none none e = refl
-option_is test is none (some y) e = absurd (false≢true e)
-option_is test is (some x) none e = absurd (false≢true e)
-option_is {A} test is (some x) (some y) e = ap {B = Option A} some (is x y e)
+option_is test is None None e = refl
+option_is test is None (Some y) e = absurd (false≢true e)
+option_is test is (Some x) None e = absurd (false≢true e)
+option_is {A} test is (Some x) (Some y) e = ap {B = Option A} Some (is x y e)
 
 type_by_lem : (k : ParamType) → type_by (type_number k) ≡ k
 type_by_lem Hex = refl

@@ -2,7 +2,6 @@
 use mathlib.Core.Path.{◌≡◌, refl, sym, ap, ◌∙◌, subst}
 use mathlib.Core.Bool.{Bool, true, false, cond, ◌&&◌, true≢false, false≢true}
 use mathlib.Core.List.{List, [], ◌∷◌, ◌++◌, map, head-eq_of_cons-eq, tail-eq_of_cons-eq, append_assoc}
-use mathlib.Core.Option.{Option, none, some}
 use Prim.Native.Nat.{ℕ, ◌≤◌}
 use native.Mathlib.Omega.{arith}
 use lib.Dec.{eqb, leb}
@@ -25,11 +24,12 @@ use Rattle.overlaps.specs.Overlaps.{same_path, greater, head_of, of_one_base, to
 use Rattle.overlaps.specs.Overlaps.{said_by, apart_from_all, all_apart}
 use Rattle.overlaps.proofs.Alike.{path_is}
 use Rattle.overlaps.proofs.Values.{agree}
+use Rattle.std.specs.Prelude.{Option, Some, None}
 
 -- ---- two headers
 -- each V finds its value
 meets_every : (n : ℕ) (d : List ℕ) (fs : List (Field n)) (vs : List Validation) → Meets n d fs vs
-    → Every (λ (v : Validation). value_at n d v.path fs ≡ some v.value) vs
+    → Every (λ (v : Validation). value_at n d v.path fs ≡ Some v.value) vs
 meets_every n d fs [] m = tt
 meets_every n d fs (v ∷ vs) m =
     (m [] v vs refl, meets_every n d fs vs (λ xs w ys e. m (v ∷ xs) w ys (ap (λ (z : List Validation). v ∷ z) e)))
@@ -43,7 +43,7 @@ pick a b h na nb = go (leb a b) h
 
 module _ (d : List ℕ) (base : List (P 7)) (fs gs : List Numbered) where
   abbrev Finds : List Numbered → Validation → Type 0
-  Finds ps v = value_at 7 d v.path (reading 7 d base (trees ps)) ≡ some v.value
+  Finds ps v = value_at 7 d v.path (reading 7 d base (trees ps)) ≡ Some v.value
 
   one_no : (v w : Validation) → Finds fs v → Finds gs w → 3 ≤ tell_one (said_by fs) (said_by gs) v w → ⊥
   one_no v w a b h =
@@ -55,7 +55,7 @@ module _ (d : List ℕ) (base : List (P 7)) (fs gs : List Numbered) where
       go true e true f r g l = omega arith
       go true e false f false g l = omega arith
       go true e false f true g l =
-          let b' : value_at 7 d v.path (reading 7 d base (trees gs)) ≡ some w.value =
+          let b' : value_at 7 d v.path (reading 7 d base (trees gs)) ≡ Some w.value =
           ap (λ (x : Path). value_at 7 d x (reading 7 d base (trees gs))) (path_is v.path w.path e) ∙ b in
           let z : v.value ≡ w.value = agree d base fs gs v.path g v.value w.value a b' in
           true≢false (sym (eq-eqb v.value w.value z) ∙ f)
@@ -79,8 +79,8 @@ abbrev Keyed : ℕ → Frame → Type 0
 Keyed key f = (is_key key f.says.base && some? f.validations) ≡ true
 
 one_base : (key : ℕ) (a b : Option ℕ) → is_key key a ≡ true → is_key key b ≡ true → of_one_base a b ≡ true
-one_base key none b e f = absurd (false≢true e)
-one_base key (some k) b e f = subst (λ (x : ℕ). is_key x b ≡ true) (sym (eqb-true k key e)) f
+one_base key None b e f = absurd (false≢true e)
+one_base key (Some k) b e f = subst (λ (x : ℕ). is_key x b ≡ true) (sym (eqb-true k key e)) f
 
 module _ (key : ℕ) (f g : Frame) (kf : Keyed key f) (kg : Keyed key g) where
   both-together : together (head_of f) (head_of g) ≡ true
@@ -113,7 +113,7 @@ module _ (key : ℕ) (d : List ℕ) (base : List (P 7)) where
   abbrev standing : List Frame → List (Candidate 7)
   standing fs = map candidate_of (candidates key fs)
 
-  -- where one holds, none that it is apart from holds
+  -- where one holds, None that it is apart from holds
   fails_behind : (f : Frame) → Keyed key f → (fs : List (Field 7)) → Holds 7 d base (candidate_of f) fs → (gs : List Frame)
       → apart_from_all (head_of f) (map head_of gs) ≡ true → Every Fails (standing gs)
   fails_behind f kf fs h [] e = tt
@@ -128,7 +128,7 @@ module _ (key : ℕ) (d : List ℕ) (base : List (P 7)) where
       go true kg a ih = (λ zs k. apart-no key f g kf kg a d base fs zs h k, ih)
       go false kg a ih = ih
 
-  -- OV5: of candidates that are all apart, none holds behind one that holds
+  -- OV5: of candidates that are all apart, None holds behind one that holds
   none-behind : (fs : List Frame) → all_apart (map head_of fs) ≡ true → (xs : List (Candidate 7)) (c : Candidate 7) (ys : List (Candidate 7))
       → standing fs ≡ xs ++ c ∷ ys → (zs : List (Field 7)) → Holds 7 d base c zs → Every Fails ys
   none-behind [] a xs c ys e zs h = absurd (none-split xs c ys e)

@@ -2,7 +2,6 @@
 use mathlib.Core.Path.{◌≡◌, refl, sym, ap, ◌∙◌, subst}
 use mathlib.Core.Bool.{Bool, true, false, cond, not, ◌&&◌, ◌||◌, true≢false, false≢true}
 use mathlib.Core.List.{List, [], ◌∷◌, map}
-use mathlib.Core.Option.{Option, none, some}
 use Prim.Native.Nat.{ℕ, zero, suc, ◌+◌, ◌-◌, ◌≤◌, ◌<◌, ◌^◌}
 use native.Mathlib.Omega.{arith}
 use mir.Syntax.{w64}
@@ -26,8 +25,6 @@ use Rattle.text.specs.declared.Optional.{Optional}
 use Rattle.text.specs.declared.Optional.TheVariants.{Given, Missing, Wrong}
 use Rattle.text.specs.declared.Part.{Part}
 use Rattle.text.specs.declared.Place.{Place}
-use Rattle.text.specs.declared.Verdict.{Verdict}
-use Rattle.text.specs.declared.Verdict.TheVariants.{Accepted, Refused as NotAccepted}
 use Rattle.text.proofs.Laws.{front_count, split-last, split-more}
 use Rattle.text.proofs.Printing.{same_is, joined-split}
 use Rattle.text.specs.Print.{joined}
@@ -37,8 +34,6 @@ use Rattle.frame_text.specs.Rules.{letter, rules, verdict}
 use Rattle.frame_definition.specs.Definition.{Validation, below, params, validations, frames, is_key, some?}
 use Rattle.frame_definition.specs.Find.{from, Good, heard, meant, IsParam, FindsParam, IsValidation, FindsValidation}
 use Rattle.frame_definition.specs.declared.Field.{Field}
-use Rattle.frame_definition.specs.declared.NextParam.{NextParam}
-use Rattle.frame_definition.specs.declared.NextParam.TheVariants as nextParam
 use Rattle.frame_definition.specs.declared.NextValidation.{NextValidation}
 use Rattle.frame_definition.specs.declared.NextValidation.TheVariants as nextValidation
 use Rattle.frame_definition.proofs.Candidates.{header-has}
@@ -51,14 +46,10 @@ use Rattle.overlaps.specs.Overlaps.{all_apart, heads_of, harmless, head_of_numbe
 use Rattle.overlaps.specs.Read.{said_at, valids_at, base_of, head_at, heads_in, heads_at, IsHead, FindsHead, IsNumbered, FindsNumbered, IsMet, Meets}
 use Rattle.overlaps.specs.Calls.{overlap_of, TellsApart, TellsHarmless}
 use Rattle.overlaps.specs.declared.headers.Head as declared
-use Rattle.overlaps.specs.declared.headers.NextHeader.{NextHeader}
-use Rattle.overlaps.specs.declared.headers.NextHeader.TheVariants as nextHeader
-use Rattle.overlaps.specs.declared.fields.Met.{Met}
-use Rattle.overlaps.specs.declared.fields.Met.TheVariants as met
 use Rattle.overlaps.specs.declared.Overlap.{Overlap}
 use Rattle.overlaps.specs.declared.Overlap.TheVariants as overlap
-use Rattle.overlaps.specs.declared.Harmless.TheVariants as harmlessly
 use Rattle.overlaps.proofs.Alike.{path_is}
+use Rattle.std.specs.Prelude.{Option, Some, None, Result, Ok, Err}
 
 cut-within : (l : List ℕ) → cut 46 l ≤ length l
 cut-within [] = omega arith
@@ -110,7 +101,7 @@ module _ (t : List ℕ) (a b : Part) where
   pub given-none : a.len ≡ 0 → Given' (eqb b.len 0)
   given-none e = rw (eq-eqb a.len 0 e) (go (eqb b.len 0))
     where
-      go : (m : Bool) → m ≡ same_option same none (cond m none (some (part_of t b)))
+      go : (m : Bool) → m ≡ same_option same None (cond m None (Some (part_of t b)))
       go true = refl
       go false = refl
 
@@ -125,8 +116,8 @@ given_paths : (t : List ℕ) (a b : Part) → same_option same_path (heard names
     ≡ same_option same (heard (λ l. l) t a) (heard (λ l. l) t b)
 given_paths t a b = go (eqb a.len 0) (eqb b.len 0)
   where
-    go : (m n : Bool) → same_option same_path (cond m none (some (names (part_of t a)))) (cond n none (some (names (part_of t b))))
-        ≡ same_option same (cond m none (some (part_of t a))) (cond n none (some (part_of t b)))
+    go : (m n : Bool) → same_option same_path (cond m None (Some (names (part_of t a)))) (cond n None (Some (names (part_of t b))))
+        ≡ same_option same (cond m None (Some (part_of t a))) (cond n None (Some (part_of t b)))
     go true true = refl
     go true false = refl
     go false true = refl
@@ -213,12 +204,12 @@ said_any n m (validation path value ∷ rs) = said_any n m rs
 said_any n m (set name ∷ rs) = said_any n m rs
 said_any n m (entry key text ∷ rs) = said_any n m rs
 
-module _ (t : List ℕ) (p : Place) (r : NextParam) (found : FindsParam t p 0 r) where
-  pub said-none : r ≡ nextParam.Nothing → said_at t p ≡ []
+module _ (t : List ℕ) (p : Place) (r : Option (Field × Place)) (found : FindsParam t p 0 r) where
+  pub said-none : r ≡ None → said_at t p ≡ []
   unfolding said_at
   said-none e = ap said_by (rw e at found)
 
-  module _ (f : Field) (q : Place) (e : r ≡ nextParam.At f q) where
+  module _ (f : Field) (q : Place) (e : r ≡ Some (f, q)) where
     is_param : IsParam t p q 0 f
     is_param = rw e at found
 
@@ -240,11 +231,11 @@ pub record Left (test : List Param → Bool) (t : List ℕ) (start place : Place
 pub left_starts : (test : List Param → Bool) (t : List ℕ) (start : Place) → Readable rules t start → Left test t start start
 left_starts test t start h = record { left = refl; readable = h }
 
-module _ (x : List ℕ) (t : List ℕ) (start p : Place) (w : Left (has_outer x) t start p) (r : NextParam) (found : FindsParam t p 0 r) where
-  pub outer-none : r ≡ nextParam.Nothing → false ≡ has_outer x (said_at t start)
+module _ (x : List ℕ) (t : List ℕ) (start p : Place) (w : Left (has_outer x) t start p) (r : Option (Field × Place)) (found : FindsParam t p 0 r) where
+  pub outer-none : r ≡ None → false ≡ has_outer x (said_at t start)
   outer-none e = sym (w.left ∙ ap (has_outer x) (said-none t p r found e))
 
-  module _ (f : Field) (q : Place) (e : r ≡ nextParam.At f q) where
+  module _ (f : Field) (q : Place) (e : r ≡ Some (f, q)) where
     one : has_outer x (said_at t start) ≡ ((eqb f.level 0 && same (part_of t f.name) x) || has_outer x (said_at t q))
     one = w.left ∙ ap (has_outer x) (said_next t p r found f q e)
 
@@ -263,12 +254,12 @@ module _ (x : List ℕ) (t : List ℕ) (start p : Place) (w : Left (has_outer x)
 
 pub ruleset outer_laws = (left_starts, said_less, outer-none, outer_inner, outer_hit, outer-other)
 
-module _ (level order : ℕ) (name : List ℕ) (t : List ℕ) (start p : Place) (w : Left (clear_of level order name) t start p) (r : NextParam)
+module _ (level order : ℕ) (name : List ℕ) (t : List ℕ) (start p : Place) (w : Left (clear_of level order name) t start p) (r : Option (Field × Place))
     (found : FindsParam t p 0 r) where
-  pub clear_none : r ≡ nextParam.Nothing → true ≡ clear_of level order name (said_at t start)
+  pub clear_none : r ≡ None → true ≡ clear_of level order name (said_at t start)
   clear_none e = sym (w.left ∙ ap (clear_of level order name) (said-none t p r found e))
 
-  module _ (f : Field) (q : Place) (e : r ≡ nextParam.At f q) where
+  module _ (f : Field) (q : Place) (e : r ≡ Some (f, q)) where
     next : clear_of level order name (said_at t start)
         ≡ cond (ltb f.level level) true
         (cond (eqb f.level level) ((leb order f.order && not (same (part_of t f.name) name)) && clear_of level order name (said_at t q))
@@ -303,11 +294,11 @@ module _ (level order : ℕ) (name : List ℕ) (t : List ℕ) (start p : Place) 
 
 pub ruleset clear_laws = (clear_none, clear_lower, clear_deeper, clear_order, clear_name, clear_more)
 
-module _ (t : List ℕ) (start p : Place) (w : Left straight t start p) (r : NextParam) (found : FindsParam t p 0 r) where
-  pub straight_none : r ≡ nextParam.Nothing → true ≡ straight (said_at t start)
+module _ (t : List ℕ) (start p : Place) (w : Left straight t start p) (r : Option (Field × Place)) (found : FindsParam t p 0 r) where
+  pub straight_none : r ≡ None → true ≡ straight (said_at t start)
   straight_none e = sym (w.left ∙ ap straight (said-none t p r found e))
 
-  module _ (f : Field) (q : Place) (e : r ≡ nextParam.At f q) (b : Bool) (says : b
+  module _ (f : Field) (q : Place) (e : r ≡ Some (f, q)) (b : Bool) (says : b
       ≡ clear_of f.level f.order (part_of t f.name) (said_at t q)) where
     one_more : straight (said_at t start) ≡ (b && straight (said_at t q))
     one_more = w.left ∙ ap straight (said_next t p r found f q e) ∙ ap (λ (x : Bool). x && straight (said_at t q)) (sym says)
@@ -344,9 +335,9 @@ leads-none : (level : ℕ) (x : List ℕ) (path : Path) (ps : List Param) → le
 leads-none level x path [] = refl
 leads-none level x path (p ∷ ps) = refl
 
-module _ (t : List ℕ) (one other : Place) (level : ℕ) (x : List ℕ) (a b : Place) (w : Meeting t one other level x a b) (r s : NextParam)
+module _ (t : List ℕ) (one other : Place) (level : ℕ) (x : List ℕ) (a b : Place) (w : Meeting t one other level x a b) (r s : Option (Field × Place))
     (found : FindsParam t a 0 r) (beside : FindsParam t b 0 s) where
-  module _ (f : Field) (p : Place) (e : r ≡ nextParam.At f p) (g : Field) (q : Place) (h : s ≡ nextParam.At g q) (c : Bool)
+  module _ (f : Field) (p : Place) (e : r ≡ Some (f, p)) (g : Field) (q : Place) (h : s ≡ Some (g, q)) (c : Bool)
       (says : c ≡ alike (meant t f) (meant t g)) where
     step : (path : Path) → leads level (x ∷ path) (said_at t one) (said_at t other)
         ≡ (c && cond (ltb f.level level) false
@@ -359,14 +350,14 @@ module _ (t : List ℕ) (one other : Place) (level : ℕ) (x : List ℕ) (a b : 
         (cond (eqb f.level level && same (part_of t f.name) x) (leads (suc level) path (said_at t p) (said_at t q))
         (leads level (x ∷ path) (said_at t p) (said_at t q)))) (sym says)
 
-    pub meet_other : c ≡ false → Meets t one other level x met.Nothing
+    pub meet_other : c ≡ false → Meets t one other level x None
     meet_other y = λ path. step path ∙ rw y refl
 
-    pub meet_lower : c ≡ true → f.level < level → Meets t one other level x met.Nothing
+    pub meet_lower : c ≡ true → f.level < level → Meets t one other level x None
     meet_lower y l = λ path. step path ∙ rw (y, lt-ltb f.level level l) refl
 
     module _ (y : c ≡ true) (l : level ≤ f.level) (d : Bool) (names-it : d ≡ (eqb f.level level && same (part_of t f.name) x)) where
-      pub meet_hit : d ≡ true → Meets t one other level x (met.At p q)
+      pub meet_hit : d ≡ true → Meets t one other level x (Some (p, q))
       meet_hit z =
           record {
             led = λ path. step path ∙ rw (y, le-ltb f.level level l, sym names-it ∙ z) refl;
@@ -382,13 +373,13 @@ module _ (t : List ℕ) (one other : Place) (level : ℕ) (x : List ℕ) (a b : 
             second = said-readable t b s beside g q h;
           }
 
-pub meet_none : (t : List ℕ) (one other : Place) (level : ℕ) (x : List ℕ) (a b : Place) → Meeting t one other level x a b → (r : NextParam)
-    → FindsParam t a 0 r → r ≡ nextParam.Nothing → Meets t one other level x met.Nothing
+pub meet_none : (t : List ℕ) (one other : Place) (level : ℕ) (x : List ℕ) (a b : Place) → Meeting t one other level x a b → (r : Option (Field × Place))
+    → FindsParam t a 0 r → r ≡ None → Meets t one other level x None
 meet_none t one other level x a b w r found e =
     λ path. w.led path ∙ ap (λ (ps : List Param). leads level (x ∷ path) ps (said_at t b)) (said-none t a r found e)
 
-pub meet_short : (t : List ℕ) (one other : Place) (level : ℕ) (x : List ℕ) (a b : Place) → Meeting t one other level x a b → (s : NextParam)
-    → FindsParam t b 0 s → s ≡ nextParam.Nothing → Meets t one other level x met.Nothing
+pub meet_short : (t : List ℕ) (one other : Place) (level : ℕ) (x : List ℕ) (a b : Place) → Meeting t one other level x a b → (s : Option (Field × Place))
+    → FindsParam t b 0 s → s ≡ None → Meets t one other level x None
 meet_short t one other level x a b w s beside e =
     λ path. w.led path ∙ ap (leads level (x ∷ path) (said_at t a)) (said-none t b s beside e) ∙ leads-none level x path (said_at t a)
 
@@ -407,7 +398,7 @@ pub leading_starts : (t : List ℕ) (one other : Place) (path : List ℕ) → Re
 leading_starts t one other path h k = record { led = refl; first = h; second = k; within = omega arith; few = omega arith }
 
 module _ (t : List ℕ) (one other : Place) (path : List ℕ) (a b : Place) (level at e : ℕ) (w : Leading t one other path a b level at)
-    (cuts : e ≡ cut 46 (take (length path - at) (drop at path))) (r : Met)
+    (cuts : e ≡ cut 46 (take (length path - at) (drop at path))) (r : Option (Place × Place))
     (met_is : Meets t a b level (take e (take (length path - at) (drop at path))) r) where
   abbrev rest : List ℕ
   rest = drop at path
@@ -437,14 +428,14 @@ module _ (t : List ℕ) (one other : Place) (path : List ℕ) (a b : Place) (lev
           let same-long : e ≡ length rest = omega (arith, long, ltb-false e (length rest) q) in
           ([], last (same-long ∙ ap length (sym (tail path at))))
 
-  pub led-none : e ≤ length (take (length path - at) (drop at path)) → r ≡ met.Nothing
+  pub led-none : e ≤ length (take (length path - at) (drop at path)) → r ≡ None
       → false ≡ leads 0 (names path) (said_at t one) (said_at t other)
   led-none l q =
       let m = some_names l in
       let none-met : (ps : Path) → leads level (take e rest ∷ ps) (said_at t a) (said_at t b) ≡ false = rw q at met-rest in
       sym (w.led ∙ ap (λ (ps : Path). leads level ps (said_at t a) (said_at t b)) m.1 ∙ none-met m.0)
 
-  module _ (p q : Place) (is : r ≡ met.At p q) where
+  module _ (p q : Place) (is : r ≡ Some (p, q)) where
     is_met : IsMet t a b level (take e rest) p q
     is_met = rw is at met-rest
 
@@ -555,7 +546,7 @@ base_is : (l : List ℕ) → optional_up_to 255 l ≡ true → base_of (optional
 base_is l e = go (missing l) (text.decimal l) (leb (worth 0 l) 255) e
   where
     go : (m d u : Bool) → (m || (d && u)) ≡ true
-        → base_of (cond m Missing (text.given (cond d (cond u (Is (worth 0 l)) TooHigh) Not))) ≡ cond m none (some (worth 0 l))
+        → base_of (cond m Missing (text.given (cond d (cond u (Is (worth 0 l)) TooHigh) Not))) ≡ cond m None (Some (worth 0 l))
     go true d u q = refl
     go false true true q = refl
     go false true false q = absurd (false≢true q)
@@ -570,7 +561,7 @@ pub looking_starts : (t : List ℕ) (start : Place) → Readable rules t start �
 looking_starts t start h = record { same-heads = refl; readable = h; after = omega arith }
 
 module _ (t : List ℕ) (start q : Place) (w : Looking t start q) where
-  pub looking_end : length t ≤ q.at → FindsHead t start nextHeader.Nothing
+  pub looking_end : length t ≤ q.at → FindsHead t start None
   unfolding heads_at
   looking_end l = w.same-heads ∙ ap heads_in (rest_end rules t q l)
 
@@ -596,16 +587,16 @@ module _ (t : List ℕ) (start q : Place) (w : Looking t start q) where
       pub looking_has : Has t l 2
       looking_has = header-has t l good kind_is 2 (omega arith)
 
-      says-header : (header_form (cells t l) ≡ true) × (form (cells t l) ≡ some (header (header_of (cells t l))))
+      says-header : (header_form (cells t l) ≡ true) × (form (cells t l) ≡ Some (header (header_of (cells t l))))
       says-header = said_good (cells t l) (header_form (cells t l)) _ (rw (sym good.kind_is ∙ kind_is)) good.allowed
 
       pub looking_hit : (r : Optional) → r ≡ optional 255 (field 2 (cells t l))
-          → FindsHead t start (nextHeader.At (record { base = r; place = l.next }))
+          → FindsHead t start (Some (record { base = r; place = l.next }))
       unfolding heads_at said_at valids_at
       looking_hit r e =
           let h : Lined t q l = lined t q l w.readable inside step in
           let said_is : h.said ≡ header (header_of (cells t l)) =
-          let z : some h.said ≡ some (header (header_of (cells t l))) = sym h.form_is ∙ says-header.1 in cc in
+          let z : Some h.said ≡ Some (header (header_of (cells t l))) = sym h.form_is ∙ says-header.1 in cc in
           let wide = and_right (eqb (length (cells t l)) 5) _ says-header.0 in
           let based : optional_up_to 255 (field 2 (cells t l)) ≡ true =
           and_left (optional_up_to 255 (field 2 (cells t l))) _ (and_right (text.up_to 255 (field 1 (cells t l))) _ wide) in
@@ -626,11 +617,11 @@ module _ (t : List ℕ) (start q : Place) (w : Looking t start q) where
 
 pub ruleset looking_laws = (looking_starts, looking_end, looking_over, looking_has, looking_hit, over_less)
 
-pub head_less : (t : List ℕ) (p : Place) (r : NextHeader) (h : declared.Head) → FindsHead t p r → r ≡ nextHeader.At h
+pub head_less : (t : List ℕ) (p : Place) (r : Option Head) (h : declared.Head) → FindsHead t p r → r ≡ Some h
     → length t - h.place.at < length t - p.at
 head_less t p r h found e = let is : IsHead t p h = rw e at found in omega (arith, is.on, is.readable.inn.at_in)
 
-pub head-readable : (t : List ℕ) (p : Place) (r : NextHeader) (h : declared.Head) → FindsHead t p r → r ≡ nextHeader.At h
+pub head-readable : (t : List ℕ) (p : Place) (r : Option Head) (h : declared.Head) → FindsHead t p r → r ≡ Some h
     → Readable rules t h.place
 head-readable t p r h found e = let is : IsHead t p h = rw e at found in is.readable
 
@@ -638,26 +629,26 @@ pub record Counting (t : List ℕ) (number left : ℕ) (place : Place) : Type 0 
   pub counted : head_of_number number (heads_of t) ≡ head_of_number left (heads_at t place)
   pub readable : Readable rules t place
 
-pub counting_starts : (t : List ℕ) (number : ℕ) (p : Place) → verdict t ≡ Accepted → p ≡ record { at = 0; line = 1 }
+pub counting_starts : (t : List ℕ) (number : ℕ) (p : Place) → verdict t ≡ Ok tt → p ≡ record { at = 0; line = 1 }
     → Counting t number number p
 counting_starts t number p v e =
     record { counted = ap (head_of_number number) (sym (ap (heads_at t) e ∙ heads-start t)); readable = readable-start rules t p v e }
 
-module _ (t : List ℕ) (number left : ℕ) (p : Place) (w : Counting t number left p) (r : NextHeader) (found : FindsHead t p r) where
-  pub counting_none : r ≡ nextHeader.Nothing → FindsNumbered t number nextHeader.Nothing
+module _ (t : List ℕ) (number left : ℕ) (p : Place) (w : Counting t number left p) (r : Option Head) (found : FindsHead t p r) where
+  pub counting_none : r ≡ None → FindsNumbered t number None
   counting_none e =
       let z : heads_at t p ≡ [] = rw e at found in
       w.counted ∙ ap (head_of_number left) z ∙ nobody left
     where
-      nobody : (n : ℕ) → head_of_number n [] ≡ none
+      nobody : (n : ℕ) → head_of_number n [] ≡ None
       nobody zero = refl
       nobody (suc n) = refl
 
-  module _ (h : declared.Head) (e : r ≡ nextHeader.At h) where
+  module _ (h : declared.Head) (e : r ≡ Some h) where
     is_head : IsHead t p h
     is_head = rw e at found
 
-    pub counting_found : left ≡ 0 → FindsNumbered t number (nextHeader.At h)
+    pub counting_found : left ≡ 0 → FindsNumbered t number (Some h)
     counting_found q = record { is = w.counted ∙ ap (head_of_number left) is_head.first ∙ rw q refl; readable = is_head.readable }
 
     pub counting_more : (left ≡ 0 → ⊥) → Counting t number (left - 1) h.place
@@ -871,11 +862,11 @@ pub record Apart (t : List ℕ) (f : declared.Head) (place : Place) : Type 0 whe
 pub apart_starts : (t : List ℕ) (f : declared.Head) → Readable rules t f.place → Apart t f f.place
 apart_starts t f h = record { left = refl; readable = h }
 
-module _ (t : List ℕ) (f : declared.Head) (p : Place) (w : Apart t f p) (r : NextHeader) (found : FindsHead t p r) where
-  pub apart_done : r ≡ nextHeader.Nothing → true ≡ apart_from_all (head_at t f) (heads_at t f.place)
+module _ (t : List ℕ) (f : declared.Head) (p : Place) (w : Apart t f p) (r : Option Head) (found : FindsHead t p r) where
+  pub apart_done : r ≡ None → true ≡ apart_from_all (head_at t f) (heads_at t f.place)
   apart_done e = let z : heads_at t p ≡ [] = rw e at found in sym (w.left ∙ ap (apart_from_all (head_at t f)) z)
 
-  module _ (g : declared.Head) (e : r ≡ nextHeader.At g) (k : ℕ) (is : k ≡ tell (head_at t f) (head_at t g)) where
+  module _ (g : declared.Head) (e : r ≡ Some g) (k : ℕ) (is : k ≡ tell (head_at t f) (head_at t g)) where
     is_next : IsHead t p g
     is_next = rw e at found
 
@@ -894,16 +885,16 @@ pub record AllApart (t : List ℕ) (place : Place) : Type 0 where
   pub left : harmless t ≡ all_apart (heads_at t place)
   pub readable : Readable rules t place
 
-pub all-apart_starts : (t : List ℕ) (p : Place) → verdict t ≡ Accepted → p ≡ record { at = 0; line = 1 } → AllApart t p
+pub all-apart_starts : (t : List ℕ) (p : Place) → verdict t ≡ Ok tt → p ≡ record { at = 0; line = 1 } → AllApart t p
 unfolding harmless
 all-apart_starts t p v e =
     record { left = ap all_apart (sym (ap (heads_at t) e ∙ heads-start t)); readable = readable-start rules t p v e }
 
-module _ (t : List ℕ) (p : Place) (w : AllApart t p) (r : NextHeader) (found : FindsHead t p r) where
-  pub all-apart_done : r ≡ nextHeader.Nothing → true ≡ harmless t
+module _ (t : List ℕ) (p : Place) (w : AllApart t p) (r : Option Head) (found : FindsHead t p r) where
+  pub all-apart_done : r ≡ None → true ≡ harmless t
   all-apart_done e = let z : heads_at t p ≡ [] = rw e at found in sym (w.left ∙ ap all_apart z)
 
-  module _ (f : declared.Head) (e : r ≡ nextHeader.At f) (b : Bool) (is : b ≡ apart_from_all (head_at t f) (heads_at t f.place)) where
+  module _ (f : declared.Head) (e : r ≡ Some f) (b : Bool) (is : b ≡ apart_from_all (head_at t f) (heads_at t f.place)) where
     is_first : IsHead t p f
     is_first = rw e at found
 
@@ -919,24 +910,24 @@ module _ (t : List ℕ) (p : Place) (w : AllApart t p) (r : NextHeader) (found :
 pub ruleset apart_laws = (apart_starts, apart_done, apart-not, apart_more, all-apart_starts, all-apart_done, all-apart-not, all-apart-more)
 
 -- ---- the calls
-module _ (t : List ℕ) (a b : ℕ) (r : NextHeader) (found : FindsNumbered t a r) where
-  pub both_first : r ≡ nextHeader.Nothing → 4 ≡ tell_numbers t a b
+module _ (t : List ℕ) (a b : ℕ) (r : Option Head) (found : FindsNumbered t a r) where
+  pub both_first : r ≡ None → 4 ≡ tell_numbers t a b
   unfolding tell_numbers
-  both_first e = let z : head_of_number a (heads_of t) ≡ none = rw e at found in rw z refl
+  both_first e = let z : head_of_number a (heads_of t) ≡ None = rw e at found in rw z refl
 
-  module _ (f : declared.Head) (e : r ≡ nextHeader.At f) (s : NextHeader) (beside : FindsNumbered t b s) where
+  module _ (f : declared.Head) (e : r ≡ Some f) (s : Option Head) (beside : FindsNumbered t b s) where
     first_is : IsNumbered t a f
     first_is = rw e at found
 
-    pub both-second : s ≡ nextHeader.Nothing → 4 ≡ tell_numbers t a b
+    pub both-second : s ≡ None → 4 ≡ tell_numbers t a b
     unfolding tell_numbers
-    both-second q = let z : head_of_number b (heads_of t) ≡ none = rw q at beside in rw (first_is.is, z) refl
+    both-second q = let z : head_of_number b (heads_of t) ≡ None = rw q at beside in rw (first_is.is, z) refl
 
-    pub both_told : (g : declared.Head) → s ≡ nextHeader.At g → (k : ℕ) → k ≡ tell (head_at t f) (head_at t g) → k ≡ tell_numbers t a b
+    pub both_told : (g : declared.Head) → s ≡ Some g → (k : ℕ) → k ≡ tell (head_at t f) (head_at t g) → k ≡ tell_numbers t a b
     unfolding tell_numbers
     both_told g q k is = let z : IsNumbered t b g = rw q at beside in rw (first_is.is, z.is) is
 
-pub numbered-readable : (t : List ℕ) (n : ℕ) (r : NextHeader) (f : declared.Head) → FindsNumbered t n r → r ≡ nextHeader.At f
+pub numbered-readable : (t : List ℕ) (n : ℕ) (r : Option Head) (f : declared.Head) → FindsNumbered t n r → r ≡ Some f
     → Readable rules t f.place
 numbered-readable t n r f found e = let z : IsNumbered t n f = rw e at found in z.readable
 
@@ -956,23 +947,23 @@ module _ (k : ℕ) where
   pub word_4 : (k ≡ 0 → ⊥) → (k ≡ 1 → ⊥) → (k ≡ 2 → ⊥) → (k ≡ 3 → ⊥) → overlap.OtherBase ≡ overlap_of k
   word_4 a b c d = rw (ne_eqb k 0 a, ne_eqb k 1 b, ne_eqb k 2 c, ne_eqb k 3 d) refl
 
-module _ (t : List ℕ) (v : Verdict) (is : Checks rules t v) where
-  pub checked : v ≡ Accepted → verdict t ≡ Accepted
+module _ (t : List ℕ) (v : Result (Unit {0}) Refusal) (is : Checks rules t v) where
+  pub checked : v ≡ Ok tt → verdict t ≡ Ok tt
   checked e = sym is.is ∙ e
 
-  pub pair_accepted : (a b k : ℕ) (r : Overlap) → v ≡ Accepted → k ≡ tell_numbers t a b → r ≡ overlap_of k → TellsApart t a b r
+  pub pair_accepted : (a b k : ℕ) (r : Overlap) → v ≡ Ok tt → k ≡ tell_numbers t a b → r ≡ overlap_of k → TellsApart t a b r
   pair_accepted a b k r e f g = record { answer = g ∙ ap overlap_of f ∙ rw (← is.is, e) refl }
 
-  pub pair_refused : (a b : ℕ) (x : Refusal) → v ≡ NotAccepted x → TellsApart t a b (overlap.Refused x)
+  pub pair_refused : (a b : ℕ) (x : Refusal) → v ≡ Err x → TellsApart t a b (overlap.Refused x)
   pair_refused a b x e = record { answer = rw (← is.is, e) refl }
 
-  pub text-yes : (b : Bool) → v ≡ Accepted → b ≡ harmless t → b ≡ true → TellsHarmless t harmlessly.Yes
+  pub text-yes : (b : Bool) → v ≡ Ok tt → b ≡ harmless t → b ≡ true → TellsHarmless t (Ok true)
   text-yes b e f q = record { answer = rw (← is.is, e, ← f, q) refl }
 
-  pub text-no : (b : Bool) → v ≡ Accepted → b ≡ harmless t → b ≡ false → TellsHarmless t harmlessly.No
+  pub text-no : (b : Bool) → v ≡ Ok tt → b ≡ harmless t → b ≡ false → TellsHarmless t (Ok false)
   text-no b e f q = record { answer = rw (← is.is, e, ← f, q) refl }
 
-  pub text-refused : (x : Refusal) → v ≡ NotAccepted x → TellsHarmless t (harmlessly.Refused x)
+  pub text-refused : (x : Refusal) → v ≡ Err x → TellsHarmless t (Err x)
   text-refused x e = record { answer = rw (← is.is, e) refl }
 
 pub ruleset call_laws = (

@@ -2,12 +2,10 @@
 use mathlib.Core.Path.{◌≡◌, refl, sym, ap, ◌∙◌}
 use mathlib.Core.Bool.{Bool, true, false, cond}
 use mathlib.Core.List.{List, ◌∷◌, ◌++◌, map}
-use mathlib.Core.Option.{Option, none, some}
 use Prim.Native.Nat.{ℕ, ◌/◌}
 use lib.Dec.{ltb}
 use lib.ListN.{length, length-map}
 use Rattle.refusal.specs.declared.Refusal.TheVariants.{TooLong, TooShort}
-use Rattle.text.specs.declared.Verdict.TheVariants.{Accepted}
 use Rattle.frame_text.specs.Rules.{verdict}
 use Rattle.frame_definition.specs.Definition.{Base, definition, first_base}
 use Rattle.frame_definition.specs.Names.{header_name}
@@ -19,8 +17,6 @@ use Rattle.header_rules.specs.Table.{row_width}
 use Rattle.header_rules.specs.Told.{Told, no_base, no_candidate, more_rows, header, candidates_of, of_answer, told}
 use Rattle.header_rules.specs.Trees.{trees}
 use Rattle.header_rules.proofs.Answer.{answer-says, answer-only}
-use Rattle.header.specs.declared.Decoded.{Decoded}
-use Rattle.header.specs.declared.Decoded.TheVariants.{Header, Refused}
 use Rattle.header.specs.Decode.{of_told, sized, key_of, told_of, decoded, rows_of, table_after, Decodes}
 use Rattle.reorder.specs.Moved.{Moved}
 use Rattle.reorder.specs.Reorder.{Reordered, new_header, new_param, renumbered, Only}
@@ -31,6 +27,9 @@ use Rattle.reorder.proofs.Texts.{follows}
 use Rattle.overlaps.specs.Overlaps.{harmless}
 use Rattle.overlaps.specs.Answers.{with_numbers, table_of, SameBut}
 use Rattle.overlaps.proofs.Apart.{only_one}
+use Rattle.std.specs.Prelude.{Option, Some, None, Result, Ok, Err}
+use Rattle.header.specs.declared.DecodedHeader.{DecodedHeader}
+use Rattle.refusal.specs.declared.Refusal.{Refusal}
 
 -- ---- at most one holds
 -- whichever candidate holds is the only one
@@ -74,10 +73,10 @@ module _ (t t' : List ℕ) (e : harmless t ≡ true) (w : Reordered t t') (regio
     where
       go : (o : Option Base) → first_base k (definition t).bases ≡ o
           → told (definition t') d most k ≡ retold h g d (definition t).sets (told (definition t) d most k)
-      go none q =
+      go None q =
           told_none t t' w h g (follows t t' w) region speed d most q
           ∙ ap (retold h g d (definition t).sets) (sym (none-told-before t t' w h g (follows t t' w) region speed d most q))
-      go (some b) q =
+      go (Some b) q =
           told-after t t' w h g (follows t t' w) region speed d most b q
           ∙ ap (λ (a : Answer 7). retold h g d (definition t).sets (of_answer (definition t).sets d most a))
           (answer-moved d (trees b.params) (candidates_of k (definition t)) (stands t t' w h g (follows t t' w) region speed)
@@ -85,7 +84,7 @@ module _ (t t' : List ℕ) (e : harmless t ≡ true) (w : Reordered t t') (regio
           ∙ ap (retold h g d (definition t).sets) (sym (told-before t t' w h g (follows t t' w) region speed d most b q))
 
   -- ---- two calls
-  module _ (v : verdict t ≡ Accepted) (d table : List ℕ) where
+  module _ (v : verdict t ≡ Ok tt) (d table : List ℕ) where
     abbrev tells : Told
     tells = told_of t d region speed (length table)
 
@@ -105,7 +104,7 @@ module _ (t t' : List ℕ) (e : harmless t ≡ true) (w : Reordered t t') (regio
     of_told_lem no_candidate = refl
     of_told_lem (more_rows n) = refl
     of_told_lem (header x) =
-        λ i. Header (record {
+        λ i. Ok (record {
           number = h x.number;
           key = x.key;
           flags = record { ack = x.ack; routed = x.routed; multicast = x.multicast; error = x.error };
@@ -115,11 +114,11 @@ module _ (t t' : List ℕ) (e : harmless t ≡ true) (w : Reordered t t') (regio
           rows = length-map x.rows (renumbered g) i;
         })
 
-    sizes : (a b : Decoded) → a ≡ with_numbers h t' b → sized d a ≡ with_numbers h t' (sized d b)
+    sizes : (a b : Result DecodedHeader Refusal) → a ≡ with_numbers h t' b → sized d a ≡ with_numbers h t' (sized d b)
     sizes a b q = go (ltb 2048 (length d)) (ltb (length d) 2)
       where
-        go : (m n : Bool) → cond m (Refused (TooLong (length d))) (cond n (Refused (TooShort (length d))) a)
-            ≡ with_numbers h t' (cond m (Refused (TooLong (length d))) (cond n (Refused (TooShort (length d))) b))
+        go : (m n : Bool) → cond m (Err (TooLong (length d))) (cond n (Err (TooShort (length d))) a)
+            ≡ with_numbers h t' (cond m (Err (TooLong (length d))) (cond n (Err (TooShort (length d))) b))
         go true n = refl
         go false true = refl
         go false false = q
@@ -130,13 +129,13 @@ module _ (t t' : List ℕ) (e : harmless t ≡ true) (w : Reordered t t') (regio
         (sizes (of_told t' (right d speed) (told_of t' d region speed (length table))) (of_told t (right d speed) tells)
         (ap (of_told t' (right d speed)) tells-after ∙ of_told_lem tells))
 
-    left_is : (x : Told) (r : Decoded) → table_after table x r ≡ table_of table (rows_of x) r
-    left_is x (Header a) = refl
-    left_is x (Refused y) = refl
+    left_is : (x : Told) (r : Result DecodedHeader Refusal) → table_after table x r ≡ table_of table (rows_of x) r
+    left_is x (Ok a) = refl
+    left_is x (Err y) = refl
 
     -- OV6: by a rearrangement of a harmless text, every MPDU gets the same answer and rows, but for the numbers of H and P lines
-    pub same_answers : (r : Decoded) (table₁ : List ℕ) → Decodes t d region speed table r table₁
-        → (r' : Decoded) (table₂ : List ℕ) → Decodes t' d region speed table r' table₂ → SameBut t' table h g r table₁ r' table₂
+    pub same_answers : (r : Result DecodedHeader Refusal) (table₁ : List ℕ) → Decodes t d region speed table r table₁
+        → (r' : Result DecodedHeader Refusal) (table₂ : List ℕ) → Decodes t' d region speed table r' table₂ → SameBut t' table h g r table₁ r' table₂
     same_answers r table₁ c₁ r' table₂ c₂ =
         record {
           answer = c₂.answer ∙ after_is ∙ ap (with_numbers h t') (sym c₁.answer);

@@ -2,7 +2,6 @@
 use mathlib.Core.Path.{◌≡◌, refl, sym, ap, ◌∙◌}
 use mathlib.Core.Bool.{Bool, true, false, cond, not, ◌&&◌, ◌||◌}
 use mathlib.Core.List.{List, [], ◌∷◌, ◌++◌, map}
-use mathlib.Core.Option.{Option, none, some}
 use Prim.Native.Nat.{ℕ, zero, suc, ◌+◌, ◌-◌}
 use native.Mathlib.Omega.{arith}
 use lib.Dec.{leb}
@@ -21,6 +20,7 @@ use Rattle.header_rules.proofs.Renumber.{renode, value_same, reading-same}
 use Rattle.header_rules.proofs.Trees.{trees_renumber, renumber}
 use Rattle.overlaps.specs.Overlaps.{has_outer, straight, leads, said_by, decides}
 use Rattle.overlaps.proofs.Forks.{plainly, zeroed, Other, Fork, Deeper, of_lines, outer, no_outer}
+use Rattle.std.specs.Prelude.{Option, Some, None}
 
 -- those that rise are in order
 rising_ordered : {K : Type 0} (ps : List (Node K)) → Rising ps → ordered ps ≡ ps
@@ -29,8 +29,8 @@ rising_ordered ps r = sym (ordered-only ps ps (record { rising = r; ties = λ o.
 -- ---- among fields
 module _ {A G : Type 0} (x : Name) where
   abbrev or_else : Option (Seen (Node A) G) → Option (Seen (Node A) G) → Option (Seen (Node A) G)
-  or_else none o = o
-  or_else (some f) o = some f
+  or_else None o = o
+  or_else (Some f) o = Some f
 
   first-append : (fs gs : List (Seen (Node A) G)) → first_named x (fs ++ gs) ≡ or_else (first_named x fs) (first_named x gs)
   unfolding first_named
@@ -38,26 +38,26 @@ module _ {A G : Type 0} (x : Name) where
   first-append (f ∷ fs) gs = go (same f.param.name x) (first-append fs gs)
     where
       go : (b : Bool) → first_named x (fs ++ gs) ≡ or_else (first_named x fs) (first_named x gs)
-          → cond b (some f) (first_named x (fs ++ gs)) ≡ or_else (cond b (some f) (first_named x fs)) (first_named x gs)
+          → cond b (Some f) (first_named x (fs ++ gs)) ≡ or_else (cond b (Some f) (first_named x fs)) (first_named x gs)
       go true ih = refl
       go false ih = ih
 
 module _ (n : ℕ) (d : List ℕ) (x : Name) where
   -- no field has a name that no P has
-  none-listed : (ps : List (P n)) → Every (Other x) ps → (s : ℕ) (before : List (Field n)) → first_named x (listed n d ps s before) ≡ none
+  none-listed : (ps : List (P n)) → Every (Other x) ps → (s : ℕ) (before : List (Field n)) → first_named x (listed n d ps s before) ≡ None
   unfolding first_named listed
   none-listed [] a s before = refl
   none-listed (p ∷ ps) a s before =
       go (exists n d p s before) (none-listed ps a.1 (s + width_of n d p before) (before ++ (field_at n d p s before ∷ [])))
     where
-      go : (b : Bool) → first_named x (listed n d ps (s + width_of n d p before) (before ++ (field_at n d p s before ∷ []))) ≡ none
+      go : (b : Bool) → first_named x (listed n d ps (s + width_of n d p before) (before ++ (field_at n d p s before ∷ []))) ≡ None
           → first_named x (cond b (field_at n d p s before ∷ listed n d ps (s + width_of n d p before) (before ++ (field_at n d p s before ∷ []))) [])
-          ≡ none
+          ≡ None
       go true ih = rw a.0 ih
       go false ih = refl
 
   none-packed : (ps : List (P n)) → Every (Other x) ps → (end room : ℕ) (before : List (Field n))
-      → first_named x (packed n d (field_at n d) ps end room before) ≡ none
+      → first_named x (packed n d (field_at n d) ps end room before) ≡ None
   unfolding first_named packed
   none-packed [] a end room before = refl
   none-packed (p ∷ ps) a end room before =
@@ -70,8 +70,8 @@ module _ (n : ℕ) (d : List ℕ) (x : Name) where
       rest : List (Field n) → List (Field n)
       rest known = packed n d (field_at n d) ps (end - p.bits) (room - p.bits) known
 
-      go : (t u : Bool) → first_named x (rest (before ++ (f ∷ []))) ≡ none → first_named x (rest before) ≡ none
-          → first_named x (cond t (cond u (f ∷ rest (before ++ (f ∷ []))) (rest before)) []) ≡ none
+      go : (t u : Bool) → first_named x (rest (before ++ (f ∷ []))) ≡ None → first_named x (rest before) ≡ None
+          → first_named x (cond t (cond u (f ∷ rest (before ++ (f ∷ []))) (rest before)) []) ≡ None
       go false u i j = refl
       go true true i j = rw a.0 i
       go true false i j = j
@@ -79,8 +79,8 @@ module _ (n : ℕ) (d : List ℕ) (x : Name) where
   -- two lists that fork at the name x: what the path finds from there on is the same
   module _ (path : Path) (deeper : Path → List (Inner n)
       → Option ℕ) (line : Numbered) (ia ib : List (Kid n)) (named : same line.says.name x ≡ true)
-      (alike : (s : ℕ) (before : List (Field n)) → through d deeper path (some (field_at n d (node line ia) s before))
-      ≡ through d deeper path (some (field_at n d (node line ib) s before))) where
+      (alike : (s : ℕ) (before : List (Field n)) → through d deeper path (Some (field_at n d (node line ia) s before))
+      ≡ through d deeper path (Some (field_at n d (node line ib) s before))) where
     abbrev Found : List (Field n) → List (Field n) → Type 0
     Found fs gs = through d deeper path (first_named x fs) ≡ through d deeper path (first_named x gs)
 
@@ -134,7 +134,7 @@ module _ (n : ℕ) (d : List ℕ) (x : Name) where
         rest : List (P n) → List (Field n) → List (Field n)
         rest ps known = packed n d (field_at n d) ps (end - w) (room - w) known
 
-        go : (t u : Bool) → first_named x (rest ks before) ≡ none → first_named x (rest ls before) ≡ none
+        go : (t u : Bool) → first_named x (rest ks before) ≡ None → first_named x (rest ls before) ≡ None
             → Found (cond t (cond u (fa ∷ rest ks (before ++ (fa ∷ []))) (rest ks before)) [])
             (cond t (cond u (fb ∷ rest ls (before ++ (fb ∷ []))) (rest ls before)) [])
         go false u i j = refl
@@ -163,7 +163,7 @@ module _ (n : ℕ) (d : List ℕ) (x : Name) where
 
 -- ---- inside a field
 abbrev pub deeper_at : (n : ℕ) → List ℕ → Path → List (Inner n) → Option ℕ
-deeper_at zero d rest inner = none
+deeper_at zero d rest inner = None
 deeper_at (suc n) d rest inner = value_at n d rest inner
 
 value_is : (n : ℕ) (d : List ℕ) (x : Name) (path : Path) (fs : List (Field n))
@@ -172,7 +172,7 @@ unfolding value_at in_first
 value_is zero d x path fs = refl
 value_is (suc n) d x path fs = refl
 
-no-path : (n : ℕ) (d : List ℕ) (fs : List (Field n)) → value_at n d [] fs ≡ none
+no-path : (n : ℕ) (d : List ℕ) (fs : List (Field n)) → value_at n d [] fs ≡ None
 unfolding value_at in_first
 no-path zero d fs = refl
 no-path (suc n) d fs = refl
@@ -180,8 +180,8 @@ no-path (suc n) d fs = refl
 -- the P lines inside a P that both have: the path finds the same in them
 abbrev Alike : (n : ℕ) → List ℕ → Path → Numbered → List (Kid n) → List (Kid n) → Type 0
 Alike n d path line k l = (s : ℕ) (before : List (Field n))
-    → through d (deeper_at n d) path (some (field_at n d (node line k) s before))
-    ≡ through d (deeper_at n d) path (some (field_at n d (node line l) s before))
+    → through d (deeper_at n d) path (Some (field_at n d (node line k) s before))
+    ≡ through d (deeper_at n d) path (Some (field_at n d (node line l) s before))
 
 packed-same : (n : ℕ) (d : List ℕ) (y : Name) (path : Path) (ks ls : List (P n)) (h : Fork n (Deeper n) y path ks ls)
     → Alike n d path h.line h.inside_a h.inside-b → (end wide : ℕ)
@@ -240,8 +240,8 @@ module _ (n : ℕ) (d : List ℕ) (base : List (P n)) where
       go : (o : Option (Field n))
           → through d (deeper_at n d) path (first_named x (own ks)) ≡ through d (deeper_at n d) path (first_named x (own ls))
           → through d (deeper_at n d) path (or_else x o (first_named x (own ks))) ≡ through d (deeper_at n d) path (or_else x o (first_named x (own ls)))
-      go none e = e
-      go (some f) e = refl
+      go None e = e
+      go (Some f) e = refl
 
   -- by a header that has no field of its own of that name, the path finds what it finds in the base
   module _ (x : Name) (path : Path) where
@@ -254,11 +254,11 @@ module _ (n : ℕ) (d : List ℕ) (base : List (P n)) where
         ∙ left (first_named x B))
         ∙ sym (value_is n d x path B)
       where
-        left : (o : Option (Field n)) → or_else x o none ≡ o
-        left none = refl
-        left (some f) = refl
+        left : (o : Option (Field n)) → or_else x o None ≡ o
+        left None = refl
+        left (Some f) = refl
 
-    base_first : (ls : List (P n)) (u : ℕ) → value_at n d (x ∷ path) B ≡ some u → value_at n d (x ∷ path) (reading n d base ls) ≡ some u
+    base_first : (ls : List (P n)) (u : ℕ) → value_at n d (x ∷ path) B ≡ Some u → value_at n d (x ∷ path) (reading n d base ls) ≡ Some u
     unfolding through
     base_first ls u e =
         value_is n d x path (reading n d base ls)
@@ -266,15 +266,15 @@ module _ (n : ℕ) (d : List ℕ) (base : List (P n)) where
         ∙ ap (through d (deeper_at n d) path) (first-append x B (own ls))
         ∙ go (first_named x B) (sym (value_is n d x path B) ∙ e)
       where
-        go : (o : Option (Field n)) → through d (deeper_at n d) path o ≡ some u
-            → through d (deeper_at n d) path (or_else x o (first_named x (own ls))) ≡ some u
-        go none q = absurd (let z : ◌≡◌ {A = ℕ} 0 1 = cc in omega arith)
-        go (some f) q = q
+        go : (o : Option (Field n)) → through d (deeper_at n d) path o ≡ Some u
+            → through d (deeper_at n d) path (or_else x o (first_named x (own ls))) ≡ Some u
+        go None q = absurd (let z : ◌≡◌ {A = ℕ} 0 1 = cc in omega arith)
+        go (Some f) q = q
 
-    one_without : (ks ls : List (P n)) → Every (Other x) ks → (u v : ℕ) → value_at n d (x ∷ path) (reading n d base ks) ≡ some u
-        → value_at n d (x ∷ path) (reading n d base ls) ≡ some v → u ≡ v
+    one_without : (ks ls : List (P n)) → Every (Other x) ks → (u v : ℕ) → value_at n d (x ∷ path) (reading n d base ks) ≡ Some u
+        → value_at n d (x ∷ path) (reading n d base ls) ≡ Some v → u ≡ v
     one_without ks ls o u v e f =
-        let z : some u ≡ some v = sym (base_first ls u (sym (base_only ks o) ∙ e)) ∙ f in
+        let z : Some u ≡ Some v = sym (base_first ls u (sym (base_only ks o) ∙ e)) ∙ f in
         cc
 
 -- ---- by what the P lines say
@@ -302,9 +302,9 @@ module _ (d : List ℕ) (base : List (P 7)) where
 
   -- OV2, OV3: where the path decides, both find the same value
   pub agree : (fs gs : List Numbered) (path : Path) → decides (said_by fs) (said_by gs) path ≡ true → (u v : ℕ)
-      → value_at 7 d path (reading 7 d base (trees fs)) ≡ some u → value_at 7 d path (reading 7 d base (trees gs)) ≡ some v → u ≡ v
+      → value_at 7 d path (reading 7 d base (trees fs)) ≡ Some u → value_at 7 d path (reading 7 d base (trees gs)) ≡ Some v → u ≡ v
   agree fs gs [] e u v a b =
-      let z : none ≡ some u = sym (no-path 7 d (reading 7 d base (trees fs))) ∙ a in
+      let z : None ≡ Some u = sym (no-path 7 d (reading 7 d base (trees fs))) ∙ a in
       absurd (let w : ◌≡◌ {A = ℕ} 0 1 = cc in omega arith)
   agree fs gs (x ∷ path) e u v a b =
       go (has_outer x ps) refl (has_outer x qs) refl e (sym (without-numbers (x ∷ path) fs) ∙ a) (sym (without-numbers (x ∷ path) gs) ∙ b)
@@ -325,8 +325,8 @@ module _ (d : List ℕ) (base : List (P 7)) where
 
       go : (m : Bool) → has_outer x ps ≡ m → (k : Bool) → has_outer x qs ≡ k
           → (not (m && k) || (leads 0 (x ∷ path) ps qs && (straight ps && straight qs))) ≡ true
-          → value_at 7 d (x ∷ path) (reading 7 d bare (of_lines 7 0 ps)) ≡ some u
-          → value_at 7 d (x ∷ path) (reading 7 d bare (of_lines 7 0 qs)) ≡ some v → u ≡ v
+          → value_at 7 d (x ∷ path) (reading 7 d bare (of_lines 7 0 ps)) ≡ Some u
+          → value_at 7 d (x ∷ path) (reading 7 d bare (of_lines 7 0 qs)) ≡ Some v → u ≡ v
       go false p k q h i j = one_without 7 d bare x path (of_lines 7 0 ps) (of_lines 7 0 qs) (no_outer 7 x ps p) u v i j
       go true p false q h i j = sym (one_without 7 d bare x path (of_lines 7 0 qs) (of_lines 7 0 ps) (no_outer 7 x qs q) v u j i)
-      go true p true q h i j = let z : some u ≡ some v = sym i ∙ forked h ∙ j in cc
+      go true p true q h i j = let z : Some u ≡ Some v = sym i ∙ forked h ∙ j in cc

@@ -1,6 +1,5 @@
 -- OV1 to OV5 (docs/RULES.md): may two headers of a frame text hold together?
-use Rattle.std.specs.Prelude.{ℕ, zero, suc, Bool, true, false, cond, not, ◌&&◌, ◌||◌, List, [], ◌∷◌, map, eqb, leb, ltb}
-use Rattle.std.proofs.Math.Option.{Option, none, some}
+use Rattle.std.specs.Prelude.{ℕ, zero, suc, Bool, true, false, cond, not, ◌&&◌, ◌||◌, List, [], ◌∷◌, map, eqb, leb, ltb, Option, Some, None}
 use Rattle.text.specs.Text.{same}
 use Rattle.frame_text.specs.Form.{Path, Param}
 use Rattle.frame_definition.specs.Definition.{Numbered, Validation, Frame, definition, is_key, some?}
@@ -9,10 +8,10 @@ use Rattle.header_fields.specs.Fields.{type_number}
 -- ---- tests
 
 abbrev pub same_option : {A : Type 0} → (A → A → Bool) → Option A → Option A → Bool
-same_option test none none = true
-same_option test none (some y) = false
-same_option test (some x) none = false
-same_option test (some x) (some y) = test x y
+same_option test None None = true
+same_option test None (Some y) = false
+same_option test (Some x) None = false
+same_option test (Some x) (Some y) = test x y
 
 abbrev pub same_path : Path → Path → Bool
 same_path [] [] = true
@@ -48,7 +47,7 @@ abbrev pub has_outer : List ℕ → List Param → Bool
 has_outer x [] = false
 has_outer x (p ∷ ps) = (eqb p.level 0 && same p.name x) || has_outer x ps
 
--- OV3: behind a P of this level, order and name, up to the next P of a lower level: none of its level has a lower order or its name
+-- OV3: behind a P of this level, order and name, up to the next P of a lower level: None of its level has a lower order or its name
 abbrev pub clear_of : ℕ → ℕ → List ℕ → List Param → Bool
 clear_of level order name [] = true
 clear_of level order name (q ∷ qs) =
@@ -87,8 +86,8 @@ head_of f = record { base = f.says.base; params = said_by f.params; validations 
 
 -- OV1: two headers of one base: both are candidates for one base key
 abbrev pub of_one_base : Option ℕ → Option ℕ → Bool
-of_one_base none b = false
-of_one_base (some k) b = is_key k b
+of_one_base None b = false
+of_one_base (Some k) b = is_key k b
 
 abbrev pub together : Head → Head → Bool
 together f g = of_one_base f.base g.base && (some? f.validations && some? g.validations)
@@ -144,15 +143,15 @@ harmless t = all_apart (heads_of t)
 -- ---- by number
 
 abbrev pub head_of_number : ℕ → List Head → Option Head
-head_of_number n [] = none
-head_of_number zero (f ∷ fs) = some f
+head_of_number n [] = None
+head_of_number zero (f ∷ fs) = Some f
 head_of_number (suc n) (f ∷ fs) = head_of_number n fs
 
 abbrev pub tell_both : Option Head → Option Head → ℕ
-tell_both none g = 4
-tell_both (some f) none = 4
-tell_both (some f) (some g) = tell f g
+tell_both None g = 4
+tell_both (Some f) None = 4
+tell_both (Some f) (Some g) = tell f g
 
--- OV4: what is told of the headers of two numbers: 4 too where there is none of a number
+-- OV4: what is told of the headers of two numbers: 4 too where there is None of a number
 unfoldable pub tell_numbers : List ℕ → ℕ → ℕ → ℕ
 tell_numbers t a b = tell_both (head_of_number a (heads_of t)) (head_of_number b (heads_of t))

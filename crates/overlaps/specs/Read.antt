@@ -1,6 +1,5 @@
 -- How the answers of the code that reads the headers of an accepted frame text are read.
-use Rattle.std.specs.Prelude.{ℕ, suc, ◌<◌, false, ◌≡◌, List, [], ◌∷◌}
-use Rattle.std.proofs.Math.Option.{Option, none, some}
+use Rattle.std.specs.Prelude.{ℕ, suc, ◌<◌, false, ◌≡◌, List, [], ◌∷◌, Option, Some, None}
 use Rattle.text.specs.Records.{Readable}
 use Rattle.text.specs.declared.Place.{Place}
 use Rattle.text.specs.declared.Optional.{Optional}
@@ -11,10 +10,6 @@ use Rattle.frame_definition.specs.Definition.{Validation, below, params, validat
 use Rattle.frame_definition.specs.Find.{from}
 use Rattle.overlaps.specs.Overlaps.{Head, said_by, leads, heads_of, head_of_number}
 use Rattle.overlaps.specs.declared.headers.Head as declared
-use Rattle.overlaps.specs.declared.headers.NextHeader.{NextHeader}
-use Rattle.overlaps.specs.declared.headers.NextHeader.TheVariants.{At, Nothing}
-use Rattle.overlaps.specs.declared.fields.Met.{Met}
-use Rattle.overlaps.specs.declared.fields.Met.TheVariants as met
 
 -- what the P lines say under the owner of what follows a place, and the V lines
 unfoldable pub said_at : List ℕ → Place → List Param
@@ -24,9 +19,9 @@ unfoldable pub valids_at : List ℕ → Place → List Validation
 valids_at t p = validations (below (from t p))
 
 abbrev pub base_of : Optional → Option ℕ
-base_of (Given n) = some n
-base_of Missing = none
-base_of Wrong = none
+base_of (Given n) = Some n
+base_of Missing = None
+base_of Wrong = None
 
 -- the header that an answer tells
 abbrev pub head_at : List ℕ → declared.Head → Head
@@ -53,18 +48,18 @@ pub record IsHead (t : List ℕ) (p : Place) (h : declared.Head) : Type 0 where
   pub readable : Readable rules t h.place
   pub on : p.at < h.place.at
 
-abbrev pub FindsHead : List ℕ → Place → NextHeader → Type 0
-FindsHead t p (At h) = IsHead t p h
-FindsHead t p Nothing = heads_at t p ≡ []
+abbrev pub FindsHead : List ℕ → Place → Option Head → Type 0
+FindsHead t p (Some h) = IsHead t p h
+FindsHead t p None = heads_at t p ≡ []
 
 -- the header of a number
 pub record IsNumbered (t : List ℕ) (n : ℕ) (h : declared.Head) : Type 0 where
-  pub is : head_of_number n (heads_of t) ≡ some (head_at t h)
+  pub is : head_of_number n (heads_of t) ≡ Some (head_at t h)
   pub readable : Readable rules t h.place
 
-abbrev pub FindsNumbered : List ℕ → ℕ → NextHeader → Type 0
-FindsNumbered t n (At h) = IsNumbered t n h
-FindsNumbered t n Nothing = head_of_number n (heads_of t) ≡ none
+abbrev pub FindsNumbered : List ℕ → ℕ → Option Head → Type 0
+FindsNumbered t n (Some h) = IsNumbered t n h
+FindsNumbered t n None = head_of_number n (heads_of t) ≡ None
 
 -- the P lines behind p and q say the same up to the first of this level and name, behind which are p' and q'
 pub record IsMet (t : List ℕ) (p q : Place) (level : ℕ) (x : List ℕ) (p' q' : Place) : Type 0 where
@@ -72,6 +67,6 @@ pub record IsMet (t : List ℕ) (p q : Place) (level : ℕ) (x : List ℕ) (p' q
   pub one : Readable rules t p'
   pub other : Readable rules t q'
 
-abbrev pub Meets : List ℕ → Place → Place → ℕ → List ℕ → Met → Type 0
-Meets t p q level x (met.At p' q') = IsMet t p q level x p' q'
-Meets t p q level x met.Nothing = (path : Path) → leads level (x ∷ path) (said_at t p) (said_at t q) ≡ false
+abbrev pub Meets : List ℕ → Place → Place → ℕ → List ℕ → Option (Place × Place) → Type 0
+Meets t p q level x (Some (p', q')) = IsMet t p q level x p' q'
+Meets t p q level x None = (path : Path) → leads level (x ∷ path) (said_at t p) (said_at t q) ≡ false

@@ -9,16 +9,9 @@ ghost use Rattle.overlaps.specs.Overlaps.{leads, decides};
 ghost use Rattle.overlaps.specs.Read.{said_at, Meets};
 
 use crate::lines::{has_outer, is_alike, is_straight};
-use frame_definition::{Field, NextParam, next_param};
+use frame_definition::{Field, next_param};
 use header_paths::part_of;
 use text::{Place, find, is_same};
-
-// The places behind a P line that both headers have.
-#[derive(Clone, Copy)]
-pub enum Met {
-    At { one: Place, other: Place },
-    Nothing,
-}
 
 // Has a P line this level and name?
 fn is_named(text: &[u8], field: Field, level: usize, name: &[u8]) -> bool
@@ -32,34 +25,27 @@ fn is_named(text: &[u8], field: Field, level: usize, name: &[u8]) -> bool
 }
 
 // Goes on by P lines that say the same in both headers, up to the first of this level and name.
-fn meet(text: &[u8], one: Place, other: Place, level: usize, name: &[u8]) -> Met
+fn meet(text: &[u8], one: Place, other: Place, level: usize, name: &[u8]) -> Option<(Place, Place)>
     requires { (Readable rules text.now one) × (Readable rules text.now other) }
     ensures { Meets text.now one other level name.now result }
 {
     let mut a = one;
     let mut b = other;
     loop {
-        let NextParam::At { field, place } = next_param(text, a, 0) else {
-            return Met::Nothing;
+        let Some((field, place)) = next_param(text, a, 0) else {
+            return None;
         };
-        let NextParam::At {
-            field: beside,
-            place: beyond,
-        } = next_param(text, b, 0)
-        else {
-            return Met::Nothing;
+        let Some((beside, beyond)) = next_param(text, b, 0) else {
+            return None;
         };
         if !is_alike(text, field, beside) {
-            return Met::Nothing;
+            return None;
         }
         if (field.level as usize) < level {
-            return Met::Nothing;
+            return None;
         }
         if is_named(text, field, level, name) {
-            return Met::At {
-                one: place,
-                other: beyond,
-            };
+            return Some((place, beyond));
         }
         a = place;
         b = beyond;
@@ -78,11 +64,7 @@ fn is_led(text: &[u8], one: Place, other: Place, path: &[u8]) -> bool
     loop {
         let rest = &path[at..];
         let e = find(rest, b'.');
-        let Met::At {
-            one: next,
-            other: beyond,
-        } = meet(text, a, b, level, &rest[..e])
-        else {
+        let Some((next, beyond)) = meet(text, a, b, level, &rest[..e]) else {
             return false;
         };
         if e == rest.len() {

@@ -1,8 +1,7 @@
 // The headers of an accepted frame text, and what their V lines tell of two of them.
-ghost use Rattle.std.specs.Prelude.{◌≡◌};
+ghost use Rattle.std.specs.Prelude.{◌≡◌, Ok};
 ghost use Rattle.text.specs.Place.{part_of};
 ghost use Rattle.text.specs.Records.{Readable};
-ghost use Rattle.text.specs.declared.Verdict.TheVariants.{Accepted};
 ghost use Rattle.frame_text.specs.Form.{names};
 ghost use Rattle.frame_text.specs.Rules.{rules, verdict};
 ghost use Rattle.frame_definition.specs.Definition.{is_key, some?};
@@ -22,15 +21,8 @@ pub struct Head {
     pub place: Place,
 }
 
-// The next header.
-#[derive(Clone, Copy)]
-pub enum NextHeader {
-    At(Head),
-    Nothing,
-}
-
 // The next H line from a place on.
-fn next_header(text: &[u8], start: Place) -> NextHeader
+fn next_header(text: &[u8], start: Place) -> Option<Head>
     requires { Readable rules text.now start }
     ensures { FindsHead text.now start result }
 {
@@ -43,27 +35,27 @@ fn next_header(text: &[u8], start: Place) -> NextHeader
         }
         let line = place.step(text);
         let next = line.next;
-        return NextHeader::At(Head {
+        return Some(Head {
             base: line.optional(text, 2, 255),
             place: next,
         });
     }
-    NextHeader::Nothing
+    None
 }
 
 // The header of a number.
-pub fn find_header(text: &[u8], number: usize) -> NextHeader
-    requires { verdict text.now ≡ Accepted }
+pub fn find_header(text: &[u8], number: usize) -> Option<Head>
+    requires { verdict text.now ≡ Ok tt }
     ensures { FindsNumbered text.now number result }
 {
     let mut place = Place::start();
     let mut left = number;
     loop {
-        let NextHeader::At(head) = next_header(text, place) else {
-            return NextHeader::Nothing;
+        let Some(head) = next_header(text, place) else {
+            return None;
         };
         if left == 0 {
-            return NextHeader::At(head);
+            return Some(head);
         }
         left -= 1;
         place = head.place;
@@ -227,7 +219,7 @@ fn is_apart(text: &[u8], one: Head) -> bool
 {
     let mut place = one.place;
     loop {
-        let NextHeader::At(other) = next_header(text, place) else {
+        let Some(other) = next_header(text, place) else {
             return true;
         };
         if tell_heads(text, one, other) < 3 {
@@ -239,12 +231,12 @@ fn is_apart(text: &[u8], one: Head) -> bool
 
 // Are every two headers of an accepted text apart?
 pub fn all_apart(text: &[u8]) -> bool
-    requires { verdict text.now ≡ Accepted }
+    requires { verdict text.now ≡ Ok tt }
     ensures { result ≡ harmless text.now }
 {
     let mut place = Place::start();
     loop {
-        let NextHeader::At(one) = next_header(text, place) else {
+        let Some(one) = next_header(text, place) else {
             return true;
         };
         if !is_apart(text, one) {

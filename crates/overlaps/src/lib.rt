@@ -5,8 +5,7 @@ mod fields;
 mod headers;
 mod lines;
 
-ghost use Rattle.std.specs.Prelude.{◌≡◌};
-ghost use Rattle.text.specs.declared.Verdict.TheVariants.{Accepted};
+ghost use Rattle.std.specs.Prelude.{◌≡◌, Ok};
 ghost use Rattle.frame_text.specs.Rules.{verdict};
 ghost use Rattle.overlaps.specs.Overlaps.{tell_numbers};
 ghost use Rattle.overlaps.specs.Calls.{overlap_of, TellsApart, TellsHarmless};
@@ -15,7 +14,6 @@ use frame_text::check_frame_text;
 use headers::tell_heads;
 pub use headers::{Head, NextHeader, all_apart, find_header};
 use refusal::Refusal;
-use text::Verdict;
 
 // What is told of two headers.
 #[derive(Clone, Copy)]
@@ -33,19 +31,9 @@ pub enum Overlap {
     Refused(Refusal),
 }
 
-// What is told of a text.
-#[derive(Clone, Copy)]
-pub enum Harmless {
-    // Every two headers of one base are apart: no order of its H blocks matters.
-    Yes,
-    // It cannot be told.
-    No,
-    Refused(Refusal),
-}
-
 // What is told of the headers of two numbers, by an accepted text: 4 where there is none of a number.
 pub fn tell_numbers(text: &[u8], a: usize, b: usize) -> u64
-    requires { verdict text.now ≡ Accepted }
+    requires { verdict text.now ≡ Ok tt }
     ensures { result ≡ tell_numbers text.now a b }
 {
     let NextHeader::At(one) = find_header(text, a) else {
@@ -75,23 +63,17 @@ pub fn tell_apart(text: &[u8], a: usize, b: usize) -> Overlap
     ensures { TellsApart text.now a b result }
 {
     match check_frame_text(text) {
-        Verdict::Accepted => overlap_of(tell_numbers(text, a, b)),
-        Verdict::Refused(refusal) => Overlap::Refused(refusal),
+        Ok(()) => overlap_of(tell_numbers(text, a, b)),
+        Err(refusal) => Overlap::Refused(refusal),
     }
 }
 
 // Whether no order of the H blocks matters.
-pub fn is_harmless(text: &[u8]) -> Harmless
+pub fn is_harmless(text: &[u8]) -> Result<bool, Refusal>
     ensures { TellsHarmless text.now result }
 {
     match check_frame_text(text) {
-        Verdict::Accepted => {
-            if all_apart(text) {
-                Harmless::Yes
-            } else {
-                Harmless::No
-            }
-        }
-        Verdict::Refused(refusal) => Harmless::Refused(refusal),
+        Ok(()) => { if all_apart(text) { Ok(true) } else { Ok(false) } }
+        Err(refusal) => Err(refusal),
     }
 }

@@ -8,7 +8,7 @@ ghost use Rattle.frame_definition.specs.Find.{heard, meant};
 ghost use Rattle.overlaps.specs.Overlaps.{same_option, same_numbers, same_names, same_paths, alike, has_outer, clear_of, straight};
 ghost use Rattle.overlaps.specs.Read.{said_at};
 
-use frame_definition::{Field, NextParam, next_param};
+use frame_definition::{Field, next_param};
 use header_fields::type_number;
 use header_paths::part_of;
 use text::{Part, Place, is_same};
@@ -93,11 +93,7 @@ pub fn has_outer(text: &[u8], start: Place, name: &[u8]) -> bool
 {
     let mut place = start;
     loop {
-        let NextParam::At {
-            field,
-            place: after,
-        } = next_param(text, place, 0)
-        else {
+        let Some((field, after)) = next_param(text, place, 0) else {
             return false;
         };
         place = after;
@@ -118,11 +114,7 @@ fn is_clear(text: &[u8], start: Place, level: u16, order: u16, name: Part) -> bo
 {
     let mut place = start;
     loop {
-        let NextParam::At {
-            field,
-            place: after,
-        } = next_param(text, place, 0)
-        else {
+        let Some((field, after)) = next_param(text, place, 0) else {
             return true;
         };
         place = after;
@@ -148,11 +140,7 @@ pub fn is_straight(text: &[u8], start: Place) -> bool
 {
     let mut place = start;
     loop {
-        let NextParam::At {
-            field,
-            place: after,
-        } = next_param(text, place, 0)
-        else {
+        let Some((field, after)) = next_param(text, place, 0) else {
             return true;
         };
         place = after;

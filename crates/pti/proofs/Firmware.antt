@@ -8,9 +8,10 @@ use Rattle.records.specs.Records.{bodies, bytes_of}
 use Rattle.frame.specs.declared.Reading.{Reading}
 use Rattle.frame.specs.Frame.{rules_of}
 use Rattle.frame.proofs.Firmware.{is_agree, frame_agree}
-use Rattle.pti.specs.declared.payload.Frames.{Frames}
 use Rattle.pti.specs.Payload.{row_of, rows_in, rows_of, FourBitsIn, Parses}
 use Rattle.pti.proofs.Same.{frames-same, said_same, table_same, located_same}
+use Rattle.std.specs.Prelude.{Result}
+use Rattle.refusal.specs.declared.Refusal.{Refusal}
 
 rows_agree : (reading : Reading) (s : List ℕ) (k : ℕ) (bs : List (ℕ × ℕ)) → FourBitsIn s bs
     → rows_in (rules_of 2 reading) s k bs ≡ rows_in (rules_of 3 reading) s k bs
@@ -22,7 +23,7 @@ rows_agree reading s k (b ∷ bs) four =
     let rest = rows_agree reading s (k + 1) bs four.1 in
     λ i. cond (is i) (row_of k b.0 (frame i) ∷ rest i) (rest i)
 
-module _ (reading : Reading) (s t : List ℕ) (four : FourBitsIn s (bodies s)) (r : Frames) (t' : List ℕ) where
+module _ (reading : Reading) (s t : List ℕ) (four : FourBitsIn s (bodies s)) (r : Result ℕ Refusal) (t' : List ℕ) where
   same : rows_of (rules_of 2 reading) s ≡ rows_of (rules_of 3 reading) s
   same = rows_agree reading s 0 (bodies s) four
 

@@ -19,16 +19,10 @@ use Rattle.rows.specs.Rows.{put, flat}
 use Rattle.rows.proofs.Laws.{sets-append, put-room, sets-laid}
 use Rattle.rows.proofs.Parts.{length-put}
 use Rattle.records.specs.declared.Span.{Span}
-use Rattle.records.specs.declared.Next.{Next}
-use Rattle.records.specs.declared.Next.TheVariants.{Body, NoMore}
 use Rattle.frame.specs.declared.Reading.{Reading}
 use Rattle.frame.specs.declared.Rules.{Rules}
 use Rattle.frame.specs.declared.Parts.{Parts}
 use Rattle.frame.specs.declared.PtiFrame.{PtiFrame}
-use Rattle.frame.specs.declared.Split.{Split}
-use Rattle.frame.specs.declared.Split.TheVariants.{Into, Nothing as NoSplit}
-use Rattle.pti.specs.declared.payload.Frames.{Frames}
-use Rattle.pti.specs.declared.payload.Frames.TheVariants.{Rows, Refused}
 use Rattle.records.specs.Records.{stands, up_to, bodies_from, bodies, bytes_of}
 use Rattle.records.specs.Steps.{Leads, Follows}
 use Rattle.frame.specs.Steps.{split_of, framed_by}
@@ -38,13 +32,14 @@ use Rattle.pti.specs.Payload.{row_width, row_of, rows_in, rows_of, Rises, Placed
 use Rattle.records.proofs.Laws.{stands-inside, stands-opened, stands-closed, led, body_nearer, body-ordered, body-inside, after-fits}
 use Rattle.frame.proofs.Ranges.{frame_long, mpdu_inside}
 use Rattle.frame.proofs.Laws.{split_frame, split-none, split-framed, parts_in}
+use Rattle.std.specs.Prelude.{Option, Some, None, Result, Ok, Err}
 
 -- ---- one body
-module _ (w : Rules) (b : List ℕ) (r : Split) (is-r : r ≡ split_of w b) where
-  pub holds_one : (p : Parts) → r ≡ Into p → ◌≡◌ {A = ℕ} 1 (cond (is_frame w b) 1 0)
+module _ (w : Rules) (b : List ℕ) (r : Option Parts) (is-r : r ≡ split_of w b) where
+  pub holds_one : (p : Parts) → r ≡ Some p → ◌≡◌ {A = ℕ} 1 (cond (is_frame w b) 1 0)
   holds_one p e = rw (split_frame w b r is-r p e) refl
 
-  pub holds-none : r ≡ NoSplit → ◌≡◌ {A = ℕ} 0 (cond (is_frame w b) 1 0)
+  pub holds-none : r ≡ None → ◌≡◌ {A = ℕ} 0 (cond (is_frame w b) 1 0)
   holds-none e = rw (split-none w b r is-r e) refl
 
 -- ---- the row of a frame
@@ -61,7 +56,7 @@ pub within_end : (s : List ℕ) (b : Span) → Within s b → b.end.0 ≤ length
 within_end s b within = omega (arith, within.before)
 
 -- a body's MPDU starts inside it
-pub low-start : (w : Rules) (s : List ℕ) (b : Span) (x : Split) (p : Parts) (f : PtiFrame) → x ≡ split_of w (bytes_in s b) → x ≡ Into p
+pub low-start : (w : Rules) (s : List ℕ) (b : Span) (x : Option Parts) (p : Parts) (f : PtiFrame) → x ≡ split_of w (bytes_in s b) → x ≡ Some p
     → f ≡ framed_by w.reading (bytes_in s b) p → Within s b → Low b.start.0 f.start.0
 low-start w s b x p f is_x e is_f within =
     let is-start : f.start.0 ≡ p.middle.0 = ap (λ (y : PtiFrame). y.start.0) is_f in
@@ -77,11 +72,11 @@ writes_short w s b k n t h = go (is_frame w (bytes_in s b)) refl
     go true e = absurd (omega (arith, frame_long w (bytes_in s b) e))
     go false e = record { next = rw e (omega arith); table = rw e refl }
 
-module _ (w : Rules) (s : List ℕ) (b : Span) (k n : ℕ) (t : List ℕ) (x : Split) (is_x : x ≡ split_of w (bytes_in s b)) where
-  pub writes_none : x ≡ NoSplit → Writes w s b k n t n t
+module _ (w : Rules) (s : List ℕ) (b : Span) (k n : ℕ) (t : List ℕ) (x : Option Parts) (is_x : x ≡ split_of w (bytes_in s b)) where
+  pub writes_none : x ≡ None → Writes w s b k n t n t
   writes_none e = let none = split-none w (bytes_in s b) x is_x e in record { next = rw none (omega arith); table = rw none refl }
 
-  pub writes_frame : (p : Parts) (f : PtiFrame) (r : ℕ) (t' : List ℕ) → x ≡ Into p → f ≡ framed_by w.reading (bytes_in s b) p
+  pub writes_frame : (p : Parts) (f : PtiFrame) (r : ℕ) (t' : List ℕ) → x ≡ Some p → f ≡ framed_by w.reading (bytes_in s b) p
       → WritesRow f k b.start.0 n t r t' → Writes w s b k n t r t'
   writes_frame p f r t' e is_f wrote =
       let some = split_frame w (bytes_in s b) x is_x p e in
@@ -124,15 +119,15 @@ pub record Tallying (w : Rules) (s : List ℕ) (count at : ℕ) : Type 0 where
 pub tallying_starts : (w : Rules) (s : List ℕ) → Tallying w s 0 1
 tallying_starts w s = record { sum = omega arith; low = omega arith }
 
-pub tallied : (w : Rules) (s : List ℕ) (count at : ℕ) (r : Next) → Tallying w s count at → Follows s at r → r ≡ NoMore
+pub tallied : (w : Rules) (s : List ℕ) (count at : ℕ) (r : Option Span) → Tallying w s count at → Follows s at r → r ≡ None
     → count ≡ length (rows_of w s)
 unfolding rows_in
 tallied w s count at r inv follows e =
     let none : bodies_from s at ≡ [] = rw e at follows in
     omega (arith, inv.sum, ap (λ (l : List (ℕ × ℕ)). length (rows_in w s 0 l)) none)
 
-module _ (w : Rules) (s : List ℕ) (count at : ℕ) (r : Next) (b : Span) (k : ℕ) (inv : Tallying w s count at) (follows : Follows s at r)
-    (is_b : r ≡ Body b) (is-k : k ≡ cond (is_frame w (take (b.end.0 - b.start.0) (drop b.start.0 s))) 1 0) (few : k ≤ 1) where
+module _ (w : Rules) (s : List ℕ) (count at : ℕ) (r : Option Span) (b : Span) (k : ℕ) (inv : Tallying w s count at) (follows : Follows s at r)
+    (is_b : r ≡ Some b) (is-k : k ≡ cond (is_frame w (take (b.end.0 - b.start.0) (drop b.start.0 s))) 1 0) (few : k ≤ 1) where
   pub tallying_more : Tallying w s (count + k) (b.end.0 + 2)
   tallying_more =
       let l = led s at r b follows is_b in
@@ -272,15 +267,15 @@ module _ (w : Rules) (s t₀ t : List ℕ) (n k : ℕ) (b : Span) (inv : Writing
               same = size ∙ inv.left.same;
             })
 
-    module _ (r : Next) (follows : Follows s (b.end.0 + 2) r) where
-      pub written : r ≡ NoMore → length (rows_of w s) * row_width ≤ length t₀ → Lays w s t₀ n' t'
+    module _ (r : Option Span) (follows : Follows s (b.end.0 + 2) r) where
+      pub written : r ≡ None → length (rows_of w s) * row_width ≤ length t₀ → Lays w s t₀ n' t'
       unfolding rows_in
       written e room =
           let none : bodies_from s (b.end.0 + 2) ≡ [] = rw e at follows in
           let l : Left w s t₀ t' n' (k + 1) [] = rw none at behind in
           record { count = omega (arith, l.sum); table = l.rest ∙ sets-laid t₀ (rows_of w s) (omega (arith, wide w s 0 (bodies s))) }
 
-      module _ (next : Span) (is_next : r ≡ Body next) where
+      module _ (next : Span) (is_next : r ≡ Some next) where
         leads : Leads s (b.end.0 + 2) next
         leads = led s (b.end.0 + 2) r next follows is_next
 
@@ -434,13 +429,13 @@ module _ (w : Rules) (s t : List ℕ) (needed : ℕ) (needs : Needs w s (length 
   within : leb (length s) 65535 ≡ true
   within = le-leb (length s) 65535 short
 
-  pub bodies-more : length t / row_width < needed → ParsesBy w s t (Refused (MoreRows needed)) t
+  pub bodies-more : length t / row_width < needed → ParsesBy w s t (Err (MoreRows needed)) t
   bodies-more few =
       let is-needed = needs.exact few in
       let over = lt-leb (length (rows_of w s)) (length t / row_width) (omega arith) in
       rw is-needed (record { answer = rw (within, over) refl; numbers = rw (within, over) refl; table = refl; located = tt })
 
-  pub bodies-all : (n : ℕ) (t' : List ℕ) → needed ≤ length t / row_width → Lays w s t n t' → ParsesBy w s t (Rows n) t'
+  pub bodies-all : (n : ℕ) (t' : List ℕ) → needed ≤ length t / row_width → Lays w s t n t' → ParsesBy w s t (Ok n) t'
   bodies-all n t' room lays =
       let fits = le-leb (length (rows_of w s)) (length t / row_width) (omega (arith, needs.enough)) in
       rw lays.count
@@ -450,7 +445,7 @@ module _ (firmware : ℕ) (reading : Reading) (w : Rules) (s t : List ℕ) (is-w
   is_width : w.width ≡ region_bits firmware
   is_width = ap (λ (x : Rules). x.width) is-w
 
-  pub parses_unknown : w.width ≡ 0 → Parses firmware reading s t (Refused (Firmware firmware)) t
+  pub parses_unknown : w.width ≡ 0 → Parses firmware reading s t (Err (Firmware firmware)) t
   parses_unknown none =
       let unknown = eq-eqb (region_bits firmware) 0 (sym is_width ∙ none) in
       record { answer = rw unknown refl; numbers = rw unknown refl; table = refl; located = tt }
@@ -459,13 +454,13 @@ module _ (firmware : ℕ) (reading : Reading) (w : Rules) (s t : List ℕ) (is-w
     known : eqb (region_bits firmware) 0 ≡ false
     known = ne_eqb (region_bits firmware) 0 (λ none. some (is_width ∙ none))
 
-    pub parses_long : 65535 < length s → Parses firmware reading s t (Refused (TooLong (length s))) t
+    pub parses_long : 65535 < length s → Parses firmware reading s t (Err (TooLong (length s))) t
     parses_long long =
         let over = lt-leb (length s) 65535 long in
         record { answer = rw (known, over) refl; numbers = rw (known, over) refl; table = refl; located = tt }
 
     -- a payload without a body: its rates are not laid out
-    pub parses_none : (r : Next) → length s ≤ 65535 → Follows s 1 r → r ≡ NoMore → Parses firmware reading s t (Rows 0) t
+    pub parses_none : (r : Option Span) → length s ≤ 65535 → Follows s 1 r → r ≡ None → Parses firmware reading s t (Ok 0) t
     unfolding rows_in
     parses_none r short follows e =
         let none : bodies s ≡ [] = rw e at follows in
@@ -478,7 +473,7 @@ module _ (firmware : ℕ) (reading : Reading) (w : Rules) (s t : List ℕ) (is-w
           located = located (rules_of firmware reading) s short;
         }
 
-    pub parses_bodies : (r : Frames) (t' : List ℕ) → ParsesBy w s t r t' → Parses firmware reading s t r t'
+    pub parses_bodies : (r : Result ℕ Refusal) (t' : List ℕ) → ParsesBy w s t r t' → Parses firmware reading s t r t'
     parses_bodies r t' p =
         let q : ParsesBy (rules_of firmware reading) s t r t' = rw is-w at p in
         record { answer = rw known q.answer; numbers = rw known q.numbers; table = q.table; located = q.located }
@@ -489,13 +484,13 @@ rows_fit w s t needed needs room = omega (arith, needs.enough)
 
 -- ---- as many rows as are answered stand in the table
 narrowed : (u a b : Bool) (n : ℕ) (l : List (List ℕ)) (room : ℕ) (x y z : Refusal) → (b ≡ true → length l ≤ room)
-    → Rows n ≡ cond u (Refused z) (cond a (cond b (Rows (length l)) (Refused x)) (Refused y)) → n ≤ room
+    → Ok n ≡ cond u (Err z) (cond a (cond b (Ok (length l)) (Err x)) (Err y)) → n ≤ room
 narrowed true a b n l room x y z f e = absurd (let h : ◌≡◌ {A = ℕ} 0 1 = cc in omega arith)
 narrowed false true true n l room x y z f e = let h : n ≡ length l = cc in rw h (f refl)
 narrowed false true false n l room x y z f e = absurd (let h : ◌≡◌ {A = ℕ} 0 1 = cc in omega arith)
 narrowed false false b n l room x y z f e = absurd (let h : ◌≡◌ {A = ℕ} 0 1 = cc in omega arith)
 
-pub rows-room : (firmware : ℕ) (reading : Reading) (s t t' : List ℕ) (r : Frames) (n : ℕ) → Parses firmware reading s t r t' → r ≡ Rows n
+pub rows-room : (firmware : ℕ) (reading : Reading) (s t t' : List ℕ) (r : Result ℕ Refusal) (n : ℕ) → Parses firmware reading s t r t' → r ≡ Ok n
     → length t' ≡ length t → n * row_width ≤ length t'
 rows-room firmware reading s t t' r n p e kept =
     let rows = rows_of (rules_of firmware reading) s in

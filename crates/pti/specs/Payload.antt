@@ -1,16 +1,15 @@
 -- F17, F18, FV1 to FV3, FP1 to FP4, BF2 and BF4 (docs/RULES.md): the frames of a payload as rows of a table. The rules are over w: how many bits of its byte
 -- say the region, and which records are beams.
-use Rattle.std.specs.Prelude.{◌≡◌, cond, List, [], ◌∷◌, ◌++◌, ℕ, suc, ◌+◌, ◌-◌, ◌/◌, ◌≤◌, eqb, leb, length, get_or}
+use Rattle.std.specs.Prelude.{◌≡◌, cond, List, [], ◌∷◌, ◌++◌, ℕ, suc, ◌+◌, ◌-◌, ◌/◌, ◌≤◌, eqb, leb, length, get_or, Result, Ok, Err}
 use Rattle.refusal.specs.declared.Refusal.TheVariants.{TooLong, MoreRows, Firmware}
 use Rattle.refusal.specs.Refusal.{most_payload, number_of, carried_by}
 use Rattle.rows.specs.Rows.{laid}
 use Rattle.frame.specs.declared.Reading.{Reading}
 use Rattle.frame.specs.declared.Rules.{Rules}
 use Rattle.frame.specs.declared.PtiFrame.{PtiFrame}
-use Rattle.pti.specs.declared.payload.Frames.{Frames}
-use Rattle.pti.specs.declared.payload.Frames.TheVariants.{Rows, Refused}
 use Rattle.records.specs.Records.{bodies, bytes_of, span_of}
 use Rattle.frame.specs.Frame.{region_bits, rules_of, FourBits, Unmarked, is_frame, frame_of, numbers_at, target_numbers}
+use Rattle.refusal.specs.declared.Refusal.{Refusal}
 
 -- F17, FP1, BF2: the numbers of a row
 abbrev pub row_width : ℕ
@@ -40,21 +39,21 @@ UnmarkedIn s [] = Unit
 UnmarkedIn s (b ∷ bs) = Unmarked (bytes_of s b) × UnmarkedIn s bs
 
 -- F18, R11: how many rows there are by these rules, or the refusal, for a table of `room` numbers
-abbrev pub frames_by : Rules → List ℕ → ℕ → Frames
+abbrev pub frames_by : Rules → List ℕ → ℕ → Result ℕ Refusal
 frames_by w s room =
     cond (leb (length s) most_payload)
-    (cond (leb (length (rows_of w s)) (room / row_width)) (Rows (length (rows_of w s))) (Refused (MoreRows (length (rows_of w s)))))
-    (Refused (TooLong (length s)))
+    (cond (leb (length (rows_of w s)) (room / row_width)) (Ok (length (rows_of w s))) (Err (MoreRows (length (rows_of w s)))))
+    (Err (TooLong (length s)))
 
 -- FV2: the firmware is judged first
-abbrev pub frames_of : ℕ → Reading → List ℕ → ℕ → Frames
+abbrev pub frames_of : ℕ → Reading → List ℕ → ℕ → Result ℕ Refusal
 frames_of firmware reading s room =
-    cond (eqb (region_bits firmware) 0) (Refused (Firmware firmware)) (frames_by (rules_of firmware reading) s room)
+    cond (eqb (region_bits firmware) 0) (Err (Firmware firmware)) (frames_by (rules_of firmware reading) s room)
 
 -- F18: an answer in numbers: 0 and the count of rows, or the number of the refusal and what it carries
-abbrev pub said : Frames → ℕ × ℕ
-said (Rows n) = (0, n)
-said (Refused x) = (number_of x, carried_by x)
+abbrev pub said : Result ℕ Refusal → ℕ × ℕ
+said (Ok n) = (0, n)
+said (Err x) = (number_of x, carried_by x)
 
 -- F18, R11: those numbers for a payload by these rules and a table of `room` numbers
 abbrev pub said_by : Rules → List ℕ → ℕ → ℕ × ℕ
@@ -66,9 +65,9 @@ abbrev pub said_of : ℕ → Reading → List ℕ → ℕ → ℕ × ℕ
 said_of firmware reading s room = cond (eqb (region_bits firmware) 0) (13, firmware) (said_by (rules_of firmware reading) s room)
 
 -- R12: the table after an answer or a refusal
-abbrev pub table_after : Rules → List ℕ → List ℕ → Frames → List ℕ
-table_after w s t (Rows n) = laid t (rows_of w s)
-table_after w s t (Refused x) = t
+abbrev pub table_after : Rules → List ℕ → List ℕ → Result ℕ Refusal → List ℕ
+table_after w s t (Ok n) = laid t (rows_of w s)
+table_after w s t (Err x) = t
 
 -- FP2: the numbers of a column rise strictly along rows, from `low` on
 abbrev pub Rises : ℕ → ℕ → List (List ℕ) → Type 0
@@ -94,12 +93,12 @@ pub record Located (s : List ℕ) (rows : List (List ℕ)) : Type 0 where
   pub places : Rises 9 0 rows
   pub placed : AllPlaced s rows
 
-abbrev pub LocatedIn : Rules → List ℕ → Frames → Type 0
-LocatedIn w s (Rows n) = Located s (rows_of w s)
-LocatedIn w s (Refused x) = Unit
+abbrev pub LocatedIn : Rules → List ℕ → Result ℕ Refusal → Type 0
+LocatedIn w s (Ok n) = Located s (rows_of w s)
+LocatedIn w s (Err x) = Unit
 
 -- F18: what a call of `parse_payload` answers, as a case and in numbers, and leaves, for a payload s and a table t
-pub record Parses (firmware : ℕ) (reading : Reading) (s t : List ℕ) (r : Frames) (t' : List ℕ) : Type 0 where
+pub record Parses (firmware : ℕ) (reading : Reading) (s t : List ℕ) (r : Result ℕ Refusal) (t' : List ℕ) : Type 0 where
   pub answer : r ≡ frames_of firmware reading s (length t)
   pub numbers : said r ≡ said_of firmware reading s (length t)
   pub table : t' ≡ table_after (rules_of firmware reading) s t r

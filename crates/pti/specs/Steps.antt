@@ -1,5 +1,5 @@
 -- What the steps below `parse_payload` answer, over the definitions of the rules.
-use Rattle.std.specs.Prelude.{◌≡◌, cond, List, ℕ, ◌+◌, ◌-◌, ◌*◌, ◌≤◌, ◌<◌, length}
+use Rattle.std.specs.Prelude.{◌≡◌, cond, List, ℕ, ◌+◌, ◌-◌, ◌*◌, ◌≤◌, ◌<◌, length, Result}
 use Rattle.refusal.specs.Refusal.{most_payload}
 use Rattle.rows.specs.Rows.{put, laid}
 use Rattle.records.specs.declared.Span.{Span}
@@ -7,8 +7,8 @@ use Rattle.records.specs.Records.{bytes_of}
 use Rattle.frame.specs.declared.Rules.{Rules}
 use Rattle.frame.specs.declared.PtiFrame.{PtiFrame}
 use Rattle.frame.specs.Frame.{is_frame, frame_of}
-use Rattle.pti.specs.declared.payload.Frames.{Frames}
 use Rattle.pti.specs.Payload.{row_width, row_of, rows_of, frames_by, said, said_by, table_after, LocatedIn}
+use Rattle.refusal.specs.declared.Refusal.{Refusal}
 
 -- rows enough for a payload, and no more than it has if that is past the room
 pub record Needs (w : Rules) (s : List ℕ) (room r : ℕ) : Type 0 where
@@ -47,7 +47,7 @@ pub record Lays (w : Rules) (s t : List ℕ) (r : ℕ) (t' : List ℕ) : Type 0 
   pub table : t' ≡ laid t (rows_of w s)
 
 -- what is answered and left by these rules, for a payload that is not too long
-pub record ParsesBy (w : Rules) (s t : List ℕ) (r : Frames) (t' : List ℕ) : Type 0 where
+pub record ParsesBy (w : Rules) (s t : List ℕ) (r : Result ℕ Refusal) (t' : List ℕ) : Type 0 where
   pub answer : r ≡ frames_by w s (length t)
   pub numbers : said r ≡ said_by w s (length t)
   pub table : t' ≡ table_after w s t r

@@ -7,10 +7,10 @@ ghost use Rattle.frame.specs.Frame.{is_frame, direction_number, beams_number};
 ghost use Rattle.pti.specs.Payload.{row_width, row_of, rows_of, Parses};
 ghost use Rattle.pti.specs.Steps.{Low, Within, Needs, WritesRow, Writes, Lays, ParsesBy};
 
-use frame::{Beams, Direction, PtiFrame, Reading, Rules, Split, frame_of, rules_of, split_body};
+use frame::{Direction, PtiFrame, Reading, Rules, frame_of, rules_of, split_body};
 use radio::rssi::byte_of;
 use radio::speed::RATES;
-use records::{Next, PayloadOffset, Span, next_body};
+use records::{PayloadOffset, Span, next_body};
 use refusal::{MOST_PAYLOAD, Refusal};
 use rows::put_short_row;
 
@@ -51,13 +51,6 @@ const SHORTEST_BODY: usize = 18;
 // The fewest bytes of its record: 4 stand around the body.
 const SHORTEST: usize = SHORTEST_BODY + 4;
 
-// How many rows a payload has, all of them written.
-#[derive(Clone, Copy)]
-pub enum Frames {
-    Rows(usize),
-    Refused(Refusal),
-}
-
 pub fn direction_number(direction: Direction) -> u16
     ensures { result ≡ direction_number direction }
 {
@@ -67,12 +60,12 @@ pub fn direction_number(direction: Direction) -> u16
     }
 }
 
-pub fn beams_number(beams: Beams) -> u16
+pub fn beams_number(beams: Option<u16>) -> u16
     ensures { result ≡ beams_number beams }
 {
     match beams {
-        Beams::Count(n) => n,
-        Beams::NoBeam => 0,
+        Some(n) => n,
+        None => 0,
     }
 }
 
@@ -108,7 +101,7 @@ fn frames_in(rates: &[u8; 512], body: &[u8], rules: Rules) -> usize
     ensures value { result ≡ cond (is_frame rules body.now) 1 0 }
     ensures upper_bound { result ≤ 1 }
 {
-    let Split::Into(_) = split_body(rates, body, rules) else {
+    let Some(_) = split_body(rates, body, rules) else {
         return 0;
     };
     1
@@ -122,7 +115,7 @@ fn count_frames(rates: &[u8; 512], payload: &[u8], rules: Rules) -> usize
     let mut count: usize = 0;
     let mut at: usize = 1;
     loop {
-        let Next::Body(span) = next_body(payload, at) else {
+        let Some(span) = next_body(payload, at) else {
             return count;
         };
         let start = span.start.0;
@@ -184,7 +177,7 @@ fn write_frame(
     if bytes.len() < SHORTEST_BODY {
         return n;
     }
-    let Split::Into(parts) = split_body(rates, bytes, rules) else {
+    let Some(parts) = split_body(rates, bytes, rules) else {
         return n;
     };
     let reading = rules.reading;
@@ -219,7 +212,7 @@ fn write_frames(
         n = write_frame(rates, payload, rules, body, number, table, n);
         number += 1;
         let end = body.end.0;
-        let Next::Body(next) = next_body(payload, end + 2) else {
+        let Some(next) = next_body(payload, end + 2) else {
             return n;
         };
         body = next;
@@ -233,7 +226,7 @@ fn parse_bodies(
     rules: Rules,
     first: Span,
     table: &mut [u16],
-) -> Frames
+) -> Result<usize, Refusal>
     requires rate_table { RateTable rates.now }
     requires width_bound { rules.width ≤ 5 }
     requires payload_len_bound { length payload.now ≤ most_payload }
@@ -243,13 +236,18 @@ fn parse_bodies(
     let room = table.len() / ROW_WIDTH;
     let needed = rows_needed(rates, payload, rules, room);
     if room < needed {
-        return Frames::Refused(Refusal::MoreRows(needed));
+        return Err(Refusal::MoreRows(needed));
     }
-    Frames::Rows(write_frames(rates, payload, rules, first, table))
+    Ok(write_frames(rates, payload, rules, first, table))
 }
 
 // The same, with the rates lent once for all frames. A function of its own, so that a payload without a body does not lay them out.
-fn parse_from(payload: &[u8], rules: Rules, first: Span, table: &mut [u16]) -> Frames
+fn parse_from(
+    payload: &[u8],
+    rules: Rules,
+    first: Span,
+    table: &mut [u16],
+) -> Result<usize, Refusal>
     requires width_bound { rules.width ≤ 5 }
     requires payload_len_bound { length payload.now ≤ most_payload }
     requires leads { Leads payload.now 1 first }
@@ -260,18 +258,23 @@ fn parse_from(payload: &[u8], rules: Rules, first: Span, table: &mut [u16]) -> F
 
 // Every frame of a payload, which that firmware wrote, by that reading of beams, into the table, or refusal 13, 4 or 8. A refusal writes nothing, an
 // answer nothing past its last row.
-pub fn parse_payload(payload: &[u8], firmware: usize, reading: Reading, table: &mut [u16]) -> Frames
+pub fn parse_payload(
+    payload: &[u8],
+    firmware: usize,
+    reading: Reading,
+    table: &mut [u16],
+) -> Result<usize, Refusal>
     ensures { Parses firmware reading payload.now table.old result table.new }
 {
     let rules = rules_of(firmware, reading);
     if rules.width == 0 {
-        return Frames::Refused(Refusal::Firmware(firmware));
+        return Err(Refusal::Firmware(firmware));
     }
     if MOST_PAYLOAD < payload.len() {
-        return Frames::Refused(Refusal::TooLong(payload.len()));
+        return Err(Refusal::TooLong(payload.len()));
     }
-    let Next::Body(first) = next_body(payload, 1) else {
-        return Frames::Rows(0);
+    let Some(first) = next_body(payload, 1) else {
+        return Ok(0);
     };
     parse_from(payload, rules, first, table)
 }

@@ -10,35 +10,31 @@ use lib.Dec.{eqb, ltb}
 use lib.ListN.{length, get_or, take, drop}
 use borrow.Author.Tests.{le-ltb, lt-ltb, le-leb, lt-leb, eq-eqb, ne_eqb, eqb-true, ltb-true}
 use Rattle.laws.proofs.Bools.{and_left, and_right}
-use Rattle.records.specs.declared.RecordAt.{RecordAt}
-use Rattle.records.specs.declared.RecordAt.TheVariants.{Record, Stop}
 use Rattle.records.specs.declared.Span.{Span}
-use Rattle.records.specs.declared.Next.{Next}
-use Rattle.records.specs.declared.Next.TheVariants.{Body, NoMore}
 use Rattle.records.specs.Records.{stands, record_at, body_of, up_to, bodies_from, bodies, Counts, span_of, PartOf}
-use Rattle.records.specs.declared.Counted.TheVariants.{Records, Refused}
 use Rattle.refusal.specs.declared.Refusal.TheVariants.{TooLong}
 use denote.Ref.{Bor}
 use Rattle.records.specs.Steps.{IsBody, Leads, Follows}
+use Rattle.std.specs.Prelude.{Option, Some, None, Ok, Err}
 
 -- ---- what stands at a place, test by test
 module _ (s : List ℕ) (at : ℕ) where
-  pub stop_few : length s ≤ 4 → Stop ≡ record_at s at
+  pub stop_few : length s ≤ 4 → None ≡ record_at s at
   stop_few few = rw (le-ltb 4 (length s) few)
 
-  pub stop_past : 4 < length s → length s ≤ at → Stop ≡ record_at s at
+  pub stop_past : 4 < length s → length s ≤ at → None ≡ record_at s at
   stop_past some past = rw (lt-ltb 4 (length s) some, le-ltb at (length s) past)
 
-  pub stop_end : 4 < length s → at < length s → length s ≤ at + get_or s at 0 → Stop ≡ record_at s at
+  pub stop_end : 4 < length s → at < length s → length s ≤ at + get_or s at 0 → None ≡ record_at s at
   stop_end some inside past = rw (lt-ltb 4 (length s) some, lt-ltb at (length s) inside, le-ltb (at + get_or s at 0) (length s) past)
 
   module _ (some : 4 < length s) (inside : at < length s) (end : at + get_or s at 0 < length s) where
-    pub stop_open : (get_or s (at - 1) 0 ≡ 0x5B → ⊥) → Stop ≡ record_at s at
+    pub stop_open : (get_or s (at - 1) 0 ≡ 0x5B → ⊥) → None ≡ record_at s at
     stop_open opened =
         rw (lt-ltb 4 (length s) some, lt-ltb at (length s) inside, lt-ltb (at + get_or s at 0) (length s) end, ne_eqb (get_or s (at - 1) 0) 0x5B opened)
 
     module _ (opened : get_or s (at - 1) 0 ≡ 0x5B) where
-      pub stop_close : (get_or s (at + get_or s at 0) 0 ≡ 0x5D → ⊥) → Stop ≡ record_at s at
+      pub stop_close : (get_or s (at + get_or s at 0) 0 ≡ 0x5D → ⊥) → None ≡ record_at s at
       stop_close closed = rw (
         lt-ltb 4 (length s) some,
         lt-ltb at (length s) inside,
@@ -48,7 +44,7 @@ module _ (s : List ℕ) (at : ℕ) where
         ne_eqb (get_or s (at + get_or s at 0) 0) 0x5D closed,
       )
 
-      pub goes_on : get_or s (at + get_or s at 0) 0 ≡ 0x5D → Record (get_or s at 0) ≡ record_at s at
+      pub goes_on : get_or s (at + get_or s at 0) 0 ≡ 0x5D → Some (get_or s at 0) ≡ record_at s at
       goes_on closed = rw (
         lt-ltb 4 (length s) some,
         lt-ltb at (length s) inside,
@@ -73,11 +69,11 @@ unfolding bodies_from
 step s at = enough (length s) (suc (length s)) s at (omega arith) (omega arith)
 
 -- what is known where a record of n stands
-taken : (b : Bool) (m n : ℕ) → cond b (Record m) Stop ≡ Record n → (b ≡ true) × (m ≡ n)
+taken : (b : Bool) (m n : ℕ) → cond b (Some m) None ≡ Some n → (b ≡ true) × (m ≡ n)
 taken true m n h = (refl, cc)
 taken false m n h = (cc, cc)
 
-not_taken : (b : Bool) (m : ℕ) → cond b (Record m) Stop ≡ Stop → b ≡ false
+not_taken : (b : Bool) (m : ℕ) → cond b (Some m) None ≡ None → b ≡ false
 not_taken true m h = cc
 not_taken false m h = refl
 
@@ -97,7 +93,7 @@ module _ (s : List ℕ) (p : ℕ) (here : stands s p ≡ true) where
   pub stands-closed : get_or s (p + get_or s p 0) 0 ≡ 0x5D
   stands-closed = eqb-true (get_or s (p + get_or s p 0) 0) 0x5D (and_right (eqb (get_or s (p - 1) 0) 0x5B) _ brackets)
 
-module _ (s : List ℕ) (p n : ℕ) (r : RecordAt) (at_p : r ≡ record_at s p) (here : r ≡ Record n) where
+module _ (s : List ℕ) (p n : ℕ) (r : Option ℕ) (at_p : r ≡ record_at s p) (here : r ≡ Some n) where
   known : (stands s p ≡ true) × (get_or s p 0 ≡ n)
   known = taken (stands s p) (get_or s p 0) n (sym at_p ∙ here)
 
@@ -130,10 +126,10 @@ pub record Passing (s : List ℕ) (at p : ℕ) : Type 0 where
 pub passing_starts : (s : List ℕ) (at : ℕ) → Passing s at at
 passing_starts s at = record { same = refl; after = omega arith }
 
-pub no_more : (s : List ℕ) (at p : ℕ) (r : RecordAt) → Passing s at p → r ≡ record_at s p → r ≡ Stop → Follows s at NoMore
+pub no_more : (s : List ℕ) (at p : ℕ) (r : Option ℕ) → Passing s at p → r ≡ record_at s p → r ≡ None → Follows s at None
 no_more s at p r w at_p e = sym w.same ∙ step s p ∙ rw (not_taken (stands s p) (get_or s p 0) (sym at_p ∙ e))
 
-module _ (s : List ℕ) (at p n : ℕ) (r : RecordAt) (w : Passing s at p) (at_p : r ≡ record_at s p) (here : r ≡ Record n) where
+module _ (s : List ℕ) (at p n : ℕ) (r : Option ℕ) (w : Passing s at p) (at_p : r ≡ record_at s p) (here : r ≡ Some n) where
   pub passing-more : n < 2 → Passing s at (p + n + 2)
   passing-more few =
       record {
@@ -141,7 +137,7 @@ module _ (s : List ℕ) (at p n : ℕ) (r : RecordAt) (w : Passing s at p) (at_p
         after = omega (arith, w.after);
       }
 
-  pub leads : 2 ≤ n → Follows s at (Body (record { start = record { 0 = p + 2 }; end = record { 0 = p + n } }))
+  pub leads : 2 ≤ n → Follows s at (Some (record { start = record { 0 = p + 2 }; end = record { 0 = p + n } }))
   leads some =
       let e : p + n - (p + 2) ≡ n - 2 = omega arith in
       let i : p + n < length s = record-inside s p n r at_p here in
@@ -153,7 +149,7 @@ module _ (s : List ℕ) (at p n : ℕ) (r : RecordAt) (w : Passing s at p) (at_p
       }
 
 -- ---- from body to body
-module _ (s : List ℕ) (at : ℕ) (r : Next) (b : Span) (follows : Follows s at r) (is_b : r ≡ Body b) where
+module _ (s : List ℕ) (at : ℕ) (r : Option Span) (b : Span) (follows : Follows s at r) (is_b : r ≡ Some b) where
   pub led : Leads s at b
   led = rw is_b at follows
 
@@ -177,18 +173,18 @@ pub record Counting (s : List ℕ) (count at : ℕ) : Type 0 where
 pub counting_starts : (s : List ℕ) → Counting s 0 1
 counting_starts s = record { sum = omega arith; low = omega arith }
 
-pub counted_none : (s : List ℕ) → 65535 < length s → Counts s (Refused (TooLong (length s)))
+pub counted_none : (s : List ℕ) → 65535 < length s → Counts s (Err (TooLong (length s)))
 counted_none s long = let e = lt-leb (length s) 65535 long in record { answer = rw e refl; numbers = rw e refl }
 
-pub counted-all : (s : List ℕ) (count at : ℕ) (r : Next) → Counting s count at → Follows s at r → r ≡ NoMore → length s ≤ 65535
-    → Counts s (Records count)
+pub counted-all : (s : List ℕ) (count at : ℕ) (r : Option Span) → Counting s count at → Follows s at r → r ≡ None → length s ≤ 65535
+    → Counts s (Ok count)
 counted-all s count at r w follows e short =
     let none : bodies_from s at ≡ [] = rw e at follows in
     let sum : count ≡ length (bodies s) = omega (arith, w.sum, ap length none) in
     let within = le-leb (length s) 65535 short in
-    record { answer = rw within (ap Records sum); numbers = rw within (ap (λ (n : ℕ). (0, n)) sum) }
+    record { answer = rw within (ap Ok sum); numbers = rw within (ap (λ (n : ℕ). (0, n)) sum) }
 
-module _ (s : List ℕ) (count at : ℕ) (r : Next) (b : Span) (w : Counting s count at) (follows : Follows s at r) (is_b : r ≡ Body b) where
+module _ (s : List ℕ) (count at : ℕ) (r : Option Span) (b : Span) (w : Counting s count at) (follows : Follows s at r) (is_b : r ≡ Some b) where
   pub counting_more : Counting s (count + 1) (b.end.0 + 2)
   counting_more =
       let l = led s at r b follows is_b in
@@ -215,18 +211,18 @@ nowhere = record { start = record { 0 = 0 }; end = record { 0 = 0 } }
 pub body-long : (s : List ℕ) (k : ℕ) → 65535 < length s → IsBody s k nowhere
 body-long s k long = record { is = rw (lt-leb (length s) 65535 long) refl; ordered = omega arith; inside = omega arith }
 
-module _ (s : List ℕ) (k left at : ℕ) (r : Next) (w : Seeking s k left at) (follows : Follows s at r) where
-  pub body-past : r ≡ NoMore → length s ≤ 65535 → IsBody s k nowhere
+module _ (s : List ℕ) (k left at : ℕ) (r : Option Span) (w : Seeking s k left at) (follows : Follows s at r) where
+  pub body-past : r ≡ None → length s ≤ 65535 → IsBody s k nowhere
   body-past e short =
       let none : bodies_from s at ≡ [] = rw e at follows in
       record { is = rw (le-leb (length s) 65535 short) (sym w.same ∙ rw none); ordered = omega arith; inside = omega arith }
 
-  pub body_here : (b : Span) → r ≡ Body b → left ≡ 0 → length s ≤ 65535 → IsBody s k b
+  pub body_here : (b : Span) → r ≡ Some b → left ≡ 0 → length s ≤ 65535 → IsBody s k b
   body_here b is_b e short =
       let l = led s at r b follows is_b in
       record { is = rw (le-leb (length s) 65535 short) (sym w.same ∙ rw (l.first, e)); ordered = l.ordered; inside = omega (arith, l.inside) }
 
-  pub seeking_more : (b : Span) → r ≡ Body b → (left ≡ 0 → ⊥) → Seeking s k (left - 1) (b.end.0 + 2)
+  pub seeking_more : (b : Span) → r ≡ Some b → (left ≡ 0 → ⊥) → Seeking s k (left - 1) (b.end.0 + 2)
   seeking_more b is_b some =
       let l = led s at r b follows is_b in
       record {

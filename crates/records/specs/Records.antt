@@ -1,12 +1,9 @@
 -- F1 to F6 (docs/RULES.md): the records of a payload and their bodies. A body is its start in the payload and its length.
-use Rattle.std.specs.Prelude.{◌≡◌, Bool, cond, ◌&&◌, List, [], ◌∷◌, ℕ, zero, suc, ◌+◌, ◌-◌, eqb, leb, ltb, length, get_or, take, drop}
+use Rattle.std.specs.Prelude.{◌≡◌, Bool, cond, ◌&&◌, List, [], ◌∷◌, ℕ, zero, suc, ◌+◌, ◌-◌, eqb, leb, ltb, length, get_or, take, drop, Option, Some, None, Result, Ok, Err}
 use Rattle.std.specs.Borrow.{Bor}
 use Rattle.refusal.specs.declared.Refusal.TheVariants.{TooLong}
 use Rattle.refusal.specs.Refusal.{most_payload, number_of, carried_by}
-use Rattle.records.specs.declared.RecordAt.{RecordAt}
-use Rattle.records.specs.declared.RecordAt.TheVariants.{Record, Stop}
-use Rattle.records.specs.declared.Counted.{Counted}
-use Rattle.records.specs.declared.Counted.TheVariants.{Records, Refused}
+use Rattle.refusal.specs.declared.Refusal.{Refusal}
 
 -- F1: does a record stand at this place
 abbrev pub stands : List ℕ → ℕ → Bool
@@ -17,8 +14,8 @@ stands s at =
     && (eqb (get_or s (at - 1) 0) 0x5B && eqb (get_or s (at + get_or s at 0) 0) 0x5D)))
 
 -- F1: the record at this place, if one stands there
-abbrev pub record_at : List ℕ → ℕ → RecordAt
-record_at s at = cond (stands s at) (Record (get_or s at 0)) Stop
+abbrev pub record_at : List ℕ → ℕ → Option ℕ
+record_at s at = cond (stands s at) (Some (get_or s at 0)) None
 
 -- F2: the body of a record at a place, if it has one, in front of others
 abbrev pub body_of : ℕ → ℕ → List (ℕ × ℕ) → List (ℕ × ℕ)
@@ -38,20 +35,20 @@ abbrev pub bodies : List ℕ → List (ℕ × ℕ)
 bodies s = bodies_from s 1
 
 -- F5: what `count_records` answers
-abbrev pub counted_of : List ℕ → Counted
-counted_of s = cond (leb (length s) most_payload) (Records (length (bodies s))) (Refused (TooLong (length s)))
+abbrev pub counted_of : List ℕ → Result ℕ Refusal
+counted_of s = cond (leb (length s) most_payload) (Ok (length (bodies s))) (Err (TooLong (length s)))
 
 -- F5: an answer in numbers: 0 and the count, or the number of the refusal and what it carries
-abbrev pub said : Counted → ℕ × ℕ
-said (Records n) = (0, n)
-said (Refused x) = (number_of x, carried_by x)
+abbrev pub said : Result ℕ Refusal → ℕ × ℕ
+said (Ok n) = (0, n)
+said (Err x) = (number_of x, carried_by x)
 
 -- F5: those numbers for a payload
 abbrev pub said_of : List ℕ → ℕ × ℕ
 said_of s = cond (leb (length s) most_payload) (0, length (bodies s)) (4, length s)
 
 -- F5: the answer of `count_records`, as a case and in numbers
-pub record Counts (s : List ℕ) (r : Counted) : Type 0 where
+pub record Counts (s : List ℕ) (r : Result ℕ Refusal) : Type 0 where
   pub answer : r ≡ counted_of s
   pub numbers : said r ≡ said_of s
 

@@ -25,13 +25,6 @@ impl BodyOffset {
     }
 }
 
-// What stands at a place: a record of n, or nothing that goes on.
-#[derive(Clone, Copy)]
-pub enum RecordAt {
-    Record(usize),
-    Stop,
-}
-
 // Where a body lies in the payload, end excluded.
 #[derive(Clone, Copy)]
 pub struct Span {
@@ -39,55 +32,41 @@ pub struct Span {
     pub end: PayloadOffset,
 }
 
-// The next body from a place on, if there is one.
-#[derive(Clone, Copy)]
-pub enum Next {
-    Body(Span),
-    NoMore,
-}
-
-// How many bodies a payload has.
-#[derive(Clone, Copy)]
-pub enum Counted {
-    Records(usize),
-    Refused(Refusal),
-}
-
-fn record_at(payload: &[u8], at: usize) -> RecordAt
+fn record_at(payload: &[u8], at: usize) -> Option<usize>
     requires { 0 < at }
     ensures { result ≡ record_at payload.now at }
 {
     if payload.len() <= 4 {
-        return RecordAt::Stop;
+        return None;
     }
     if payload.len() <= at {
-        return RecordAt::Stop;
+        return None;
     }
     let n = payload[at] as usize;
     if payload.len() <= at + n {
-        return RecordAt::Stop;
+        return None;
     }
     if payload[at - 1] != 0x5B {
-        return RecordAt::Stop;
+        return None;
     }
     if payload[at + n] != 0x5D {
-        return RecordAt::Stop;
+        return None;
     }
-    RecordAt::Record(n)
+    Some(n)
 }
 
 // The first body from a place on. The records after it start at its end and two bytes.
-pub fn next_body(payload: &[u8], at: usize) -> Next
+pub fn next_body(payload: &[u8], at: usize) -> Option<Span>
     requires { 0 < at }
     ensures { Follows payload.now at result }
 {
     let mut place = at;
     loop {
-        let RecordAt::Record(n) = record_at(payload, place) else {
-            return Next::NoMore;
+        let Some(n) = record_at(payload, place) else {
+            return None;
         };
         if 2 <= n {
-            return Next::Body(Span {
+            return Some(Span {
                 start: PayloadOffset(place + 2),
                 end: PayloadOffset(place + n),
             });
@@ -97,18 +76,18 @@ pub fn next_body(payload: &[u8], at: usize) -> Next
 }
 
 // The number of bodies of a payload, or refusal 4.
-pub fn count_records(payload: &[u8]) -> Counted
+pub fn count_records(payload: &[u8]) -> Result<usize, Refusal>
     ensures { Counts payload.now result }
 {
     let length = payload.len();
     if MOST_PAYLOAD < length {
-        return Counted::Refused(Refusal::TooLong(length));
+        return Err(Refusal::TooLong(length));
     }
     let mut count: usize = 0;
     let mut at: usize = 1;
     loop {
-        let Next::Body(span) = next_body(payload, at) else {
-            return Counted::Records(count);
+        let Some(span) = next_body(payload, at) else {
+            return Ok(count);
         };
         count += 1;
         at = span.end.0 + 2;
@@ -128,7 +107,7 @@ pub fn find_body(payload: &[u8], k: usize) -> Span
     let mut left: usize = k;
     let mut at: usize = 1;
     loop {
-        let Next::Body(span) = next_body(payload, at) else {
+        let Some(span) = next_body(payload, at) else {
             return Span {
                 start: PayloadOffset(0),
                 end: PayloadOffset(0),

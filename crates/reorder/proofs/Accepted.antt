@@ -2,7 +2,6 @@
 use mathlib.Core.Path.{◌≡◌, refl, sym, ap, ◌∙◌, subst}
 use mathlib.Core.Bool.{Bool, true, false, cond}
 use mathlib.Core.List.{List, [], ◌∷◌, ◌++◌}
-use mathlib.Core.Option.{Option, some}
 use Prim.Native.Nat.{ℕ, suc, ◌+◌, ◌≤◌}
 use native.Mathlib.Omega.{arith}
 use lib.Dec.{eqb}
@@ -15,8 +14,6 @@ use Rattle.text.specs.Print.{Every}
 use Rattle.text.specs.Judge.{sentence, judge}
 use Rattle.text.specs.Records.{onto, records}
 use Rattle.text.specs.Honest.{Keeps}
-use Rattle.text.specs.declared.Verdict.{Verdict}
-use Rattle.text.specs.declared.Verdict.TheVariants.{Accepted, Refused}
 use Rattle.text.proofs.Judging.{split_some, judge_line}
 use Rattle.text.proofs.Reading.{Allowed, accepted_line, accepted-short, accepted-lines}
 use Rattle.text.proofs.Honest.{accepted_keeps}
@@ -32,6 +29,8 @@ use Rattle.reorder.proofs.Places.{every_moved, lines-moved, sum_moved}
 use Rattle.reorder.proofs.Sections.{Proper, sections_proper}
 use Rattle.reorder.proofs.Whole.{whole}
 use Rattle.reorder.proofs.Kept.{Roomy, Local, locals, keeps_all, count_sections}
+use Rattle.std.specs.Prelude.{Option, Some, Result, Ok, Err}
+use Rattle.refusal.specs.declared.Refusal.{Refusal}
 
 -- ---- how long a text is
 abbrev size : Line → ℕ
@@ -71,20 +70,20 @@ has-length t ls e =
 
 -- ---- each line says a record
 abbrev Said : Line → Type 0
-Said l = (r : Record) × (says_of l ≡ some r)
+Said l = (r : Record) × (says_of l ≡ Some r)
 
 -- ---- the verdict
-not-accepted : (l : Line) (b : List Record) (n : ℕ) → judge rules b n (l ∷ []) ≡ Accepted → l ≡ []
+not-accepted : (l : Line) (b : List Record) (n : ℕ) → judge rules b n (l ∷ []) ≡ Ok tt → l ≡ []
 not-accepted [] b n e = refl
 not-accepted (x ∷ xs) b n e = absurd (let z : ◌≡◌ {A = ℕ} 0 1 = cc in omega arith)
 
-allowed : (b : List Record) (n : ℕ) (l m : Line) (ms : List Line) → judge rules b n (l ∷ m ∷ ms) ≡ Accepted
+allowed : (b : List Record) (n : ℕ) (l m : Line) (ms : List Line) → judge rules b n (l ∷ m ∷ ms) ≡ Ok tt
     → Allowed rules b (form (fields l)) (λ r. judge rules (r ∷ b) (suc n) (m ∷ ms))
 allowed b n l m ms e =
     accepted_line rules b n (form (fields l)) (λ r. judge rules (r ∷ b) (suc n) (m ∷ ms))
     (sym (judge_line rules b n l (m ∷ ms) (λ q. let z : ◌≡◌ {A = ℕ} 0 1 = cc in omega arith)) ∙ e)
 
-lines-closed : (b : List Record) (n : ℕ) (ls : List Line) → (ls ≡ [] → ⊥) → judge rules b n ls ≡ Accepted → ls ≡ ended ls ++ ([] ∷ [])
+lines-closed : (b : List Record) (n : ℕ) (ls : List Line) → (ls ≡ [] → ⊥) → judge rules b n ls ≡ Ok tt → ls ≡ ended ls ++ ([] ∷ [])
 lines-closed b n [] h e = absurd (h refl)
 lines-closed b n (l ∷ []) h e = ap (λ (z : Line). z ∷ []) (not-accepted l b n e)
 lines-closed b n (l ∷ m ∷ ms) h e =
@@ -92,7 +91,7 @@ lines-closed b n (l ∷ m ∷ ms) h e =
     ap (λ (z : List Line). l ∷ z) (lines-closed (a.said ∷ b) (suc n) (m ∷ ms) (λ q. let z : ◌≡◌ {A = ℕ} 0 1 = cc in omega arith) a.on)
 
 -- an accepted text has the lines of its sections
-pub accepted-has : (t : List ℕ) → verdict t ≡ Accepted → Has t (lines_of says_of (sections_of t))
+pub accepted-has : (t : List ℕ) → verdict t ≡ Ok tt → Has t (lines_of says_of (sections_of t))
 accepted-has t v =
     lines-closed [] 1 (lines t) (split_some 0x0a t) (accepted-lines rules t v)
     ∙ ap (λ (ls : List Line). ls ++ ([] ∷ [])) (whole t v)
@@ -102,10 +101,10 @@ moved_none [] = refl
 moved_none (x ∷ xs) = ([], xs, refl, moved_none xs)
 
 -- and is a rearrangement of itself
-pub unmoved : (t : List ℕ) → verdict t ≡ Accepted → Reordered t t
+pub unmoved : (t : List ℕ) → verdict t ≡ Ok tt → Reordered t t
 unmoved t v = record { order = sections_of t; others = refl; moved = moved_none (blocks says_of (sections_of t)); has = accepted-has t v }
 
-accepted-said : (b : List Record) (n : ℕ) (ls : List Line) → judge rules b n ls ≡ Accepted → Every Said (ended ls)
+accepted-said : (b : List Record) (n : ℕ) (ls : List Line) → judge rules b n ls ≡ Ok tt → Every Said (ended ls)
 unfolding says_of
 accepted-said b n [] e = tt
 accepted-said b n (l ∷ []) e = tt
@@ -116,7 +115,7 @@ more-lines [] q = let z : ◌≡◌ {A = ℕ} 0 1 = cc in omega arith
 more-lines (l ∷ ls) q = let z : ◌≡◌ {A = ℕ} 0 1 = cc in omega arith
 
 judge_accepts : (ls : List Line) → Every Said ls → (b : List Record) (n : ℕ) → Keeps rules b (records_of says_of ls)
-    → judge rules b n (ls ++ ([] ∷ [])) ≡ Accepted
+    → judge rules b n (ls ++ ([] ∷ [])) ≡ Ok tt
 unfolding says_of
 judge_accepts [] a b n k = refl
 judge_accepts (l ∷ ls) a b n k =
@@ -127,15 +126,15 @@ judge_accepts (l ∷ ls) a b n k =
     r : Record
     r = a.0.0
 
-    rest : Verdict
+    rest : Result (Unit {0}) Refusal
     rest = judge rules (r ∷ b) (suc n) (ls ++ ([] ∷ []))
 
-    go : Keeps rules b (r ∷ records_of says_of ls) → (Keeps rules (r ∷ b) (records_of says_of ls) → rest ≡ Accepted)
-        → cond (over b r) (Refused (Limit n)) (cond (lost b r) (Refused (Owner n)) rest) ≡ Accepted
-    go w ih = (λ i. cond (w.0 i) (Refused (Limit n)) (cond (w.1 i) (Refused (Owner n)) rest)) ∙ ih w.2
+    go : Keeps rules b (r ∷ records_of says_of ls) → (Keeps rules (r ∷ b) (records_of says_of ls) → rest ≡ Ok tt)
+        → cond (over b r) (Err (Limit n)) (cond (lost b r) (Err (Owner n)) rest) ≡ Ok tt
+    go w ih = (λ i. cond (w.0 i) (Err (Limit n)) (cond (w.1 i) (Err (Owner n)) rest)) ∙ ih w.2
 
 -- ---- after the move
-module _ (t t' : List ℕ) (w : Reordered t t') (v : verdict t ≡ Accepted) where
+module _ (t t' : List ℕ) (w : Reordered t t') (v : verdict t ≡ Ok tt) where
   abbrev X : List (Section Line)
   X = sections_of t
 
@@ -181,9 +180,9 @@ module _ (t t' : List ℕ) (w : Reordered t t') (v : verdict t ≡ Accepted) whe
       ∙ sym (has-length t (lines_of says_of X) (accepted-has t v))
 
   -- a rearrangement of an accepted text is accepted
-  pub accepted-after : verdict t' ≡ Accepted
+  pub accepted-after : verdict t' ≡ Ok tt
   accepted-after =
       let l : length t' ≤ 60000 = (let a = accepted-short rules t v in let b = same_length in omega (arith, a, b)) in
-      ap (λ (b : Bool). cond b (Refused (Limit 0)) (judge rules [] 1 (lines t'))) (le-ltb 60000 (length t') l)
+      ap (λ (b : Bool). cond b (Err (Limit 0)) (judge rules [] 1 (lines t'))) (le-ltb 60000 (length t') l)
       ∙ ap (judge rules [] 1) w.has
       ∙ judge_accepts (lines_of says_of Y) said [] 1 kept

@@ -2,7 +2,6 @@
 use mathlib.Core.Path.{◌≡◌, refl, sym, ap, ◌∙◌, subst}
 use mathlib.Core.Bool.{Bool, true, false, cond}
 use mathlib.Core.List.{List, [], ◌∷◌, ◌++◌, map, map-append}
-use mathlib.Core.Option.{Option, none, some}
 use Prim.Native.Nat.{ℕ, ◌/◌, ◌≤◌, ◌<◌}
 use lib.Dec.{eqb}
 use lib.ListN.{length, length-map}
@@ -10,7 +9,6 @@ use native.Mathlib.Omega.{arith}
 use borrow.Author.Tests.{lt-ltb, le-ltb, le-leb}
 use Rattle.refusal.specs.declared.Refusal.{Refusal}
 use Rattle.refusal.specs.declared.Refusal.TheVariants.{TooLong, TooShort, NoBase, NoCandidate}
-use Rattle.text.specs.declared.Verdict.TheVariants.{Accepted}
 use Rattle.text.specs.Place.{part_of}
 use Rattle.text.specs.Print.{Every}
 use Rattle.frame_text.specs.Rules.{verdict}
@@ -19,7 +17,7 @@ use Rattle.frame_definition.specs.Names.{header_name}
 use Rattle.crc.specs.Crc.{right}
 use Rattle.header_rules.specs.Data.{P, Field, Candidate}
 use Rattle.header_rules.specs.Answer.{answered, refused, answer}
-use Rattle.header_rules.specs.Demand.{None, First}
+use Rattle.header_rules.specs.Demand.{NoneHold, First}
 use Rattle.header_rules.specs.Table.{row_width, table_of}
 use Rattle.header_rules.specs.Trees.{trees}
 use Rattle.header_rules.proofs.Answer.{answer-only}
@@ -30,8 +28,6 @@ use Rattle.header_rules.proofs.Told.{told-says}
 use Rattle.header_rules.proofs.Run.{every_split}
 use Rattle.header_rules.proofs.Named.{Named, candidates-named}
 use Rattle.header.specs.declared.DecodedHeader.{DecodedHeader}
-use Rattle.header.specs.declared.Decoded.{Decoded}
-use Rattle.header.specs.declared.Decoded.TheVariants.{Header, Refused}
 use Rattle.header.specs.Decode.{header_of, of_told, key_of, told_of, table_after, Within, Decodes}
 use Rattle.reorder.specs.Moved.{Moved}
 use Rattle.reorder.specs.Blocks.{sections_of}
@@ -43,9 +39,10 @@ use Rattle.reorder.proofs.Answers.{candidates-moved, candidates-same}
 use Rattle.reorder.proofs.Foremost.{Rises, candidates_rise, foremost_first, foremost_some}
 use Rattle.reorder.proofs.Accepted.{accepted-after}
 use Rattle.reorder.proofs.Texts.{follows, frequencies-same, sets_same, bases-same, standing_frames, frames-moved, frames-same}
+use Rattle.std.specs.Prelude.{Option, Some, None, Result, Ok, Err}
 
 -- ---- one call
-module _ (t d : List ℕ) (region speed : ℕ) (table : List ℕ) (r : Decoded) (table₁ : List ℕ) (w : Within t d)
+module _ (t d : List ℕ) (region speed : ℕ) (table : List ℕ) (r : Result DecodedHeader Refusal) (table₁ : List ℕ) (w : Within t d)
     (c : Decodes t d region speed table r table₁) where
   abbrev tells : Told
   tells = told_of t d region speed (length table)
@@ -57,18 +54,18 @@ module _ (t d : List ℕ) (region speed : ℕ) (table : List ℕ) (r : Decoded) 
 
   gives : (k : Heading) → tells ≡ header k → Gives table (header_of t (right d speed) k) k.rows r table₁
   gives k e =
-      let a : r ≡ Header (header_of t (right d speed) k) = answer_is (header k) e in
+      let a : r ≡ Ok (header_of t (right d speed) k) = answer_is (header k) e in
       record { answer = a; laid_are = c.rows ∙ (λ i. table_after table (e i) (a i)) }
 
-  refuses : (x : Told) (y : Refusal) → tells ≡ x → of_told t (right d speed) x ≡ Refused y → Refuses table y r table₁
+  refuses : (x : Told) (y : Refusal) → tells ≡ x → of_told t (right d speed) x ≡ Err y → Refuses table y r table₁
   refuses x y e q =
-      let a : r ≡ Refused y = answer_is x e ∙ q in
+      let a : r ≡ Err y = answer_is x e ∙ q in
       record { answer = a; as_it_was = c.rows ∙ (λ i. table_after table (e i) (a i)) }
 
 -- an MPDU of fewer than 2 or of more than 2,048 bytes
-module _ (t d : List ℕ) (region speed : ℕ) (table : List ℕ) (r : Decoded) (table₁ : List ℕ) (v : verdict t ≡ Accepted)
+module _ (t d : List ℕ) (region speed : ℕ) (table : List ℕ) (r : Result DecodedHeader Refusal) (table₁ : List ℕ) (v : verdict t ≡ Ok tt)
     (c : Decodes t d region speed table r table₁) where
-  left : (y : Refusal) → r ≡ Refused y → Refuses table y r table₁
+  left : (y : Refusal) → r ≡ Err y → Refuses table y r table₁
   left y a = record { answer = a; as_it_was = c.rows ∙ ap (table_after table (told_of t d region speed (length table))) a }
 
   pub too_long : 2048 < length d → Refuses table (TooLong (length d)) r table₁
@@ -85,7 +82,7 @@ first-told sets d most base cs c fs f l =
     ap (of_answer sets d most) (sym (answer-only 7 d base cs (answered c fs) f))
     ∙ ap (λ (b : Bool). cond b (header (heading_of sets d c fs)) (more_rows (length (table_of 7 d sets fs)))) (le-leb (length (table_of 7 d sets fs)) most l)
 
-none_told : (sets : List Set) (d : List ℕ) (most : ℕ) (base : List (P 7)) (cs : List (Candidate 7)) → None 7 d base cs
+none_told : (sets : List Set) (d : List ℕ) (most : ℕ) (base : List (P 7)) (cs : List (Candidate 7)) → NoneHold 7 d base cs
     → of_answer sets d most (answer 7 d base cs) ≡ no_candidate
 none_told sets d most base cs n = ap (of_answer sets d most) (sym (answer-only 7 d base cs (refused 7) (refl, n)))
 
@@ -94,7 +91,7 @@ first_rebase h g key [] = refl
 first_rebase h g key (b ∷ bs) = go (eqb b.key key) (first_rebase h g key bs)
   where
     go : (c : Bool) → first_base key (map (rebase h g) bs) ≡ on_some (rebase h g) (first_base key bs)
-        → cond c (some (rebase h g b)) (first_base key (map (rebase h g) bs)) ≡ on_some (rebase h g) (cond c (some b) (first_base key bs))
+        → cond c (Some (rebase h g b)) (first_base key (map (rebase h g) bs)) ≡ on_some (rebase h g) (cond c (Some b) (first_base key bs))
     go true ih = refl
     go false ih = ih
 
@@ -147,15 +144,15 @@ module _ (t t' : List ℕ) (w : Reordered t t') (h g : ℕ → ℕ) (f : Follows
       numbers_of (c ∷ cs) = ap (λ (z : List ℕ). h c.number ∷ z) (numbers_of cs)
 
   module _ (d : List ℕ) (most : ℕ) where
-    pub none-told-before : first_base key (definition t).bases ≡ none → told (definition t) d most key ≡ no_base key
+    pub none-told-before : first_base key (definition t).bases ≡ None → told (definition t) d most key ≡ no_base key
     unfolding told
     none-told-before e = ap (of_base (definition t) d most key) e
 
-    pub told_none : first_base key (definition t).bases ≡ none → told (definition t') d most key ≡ no_base key
+    pub told_none : first_base key (definition t).bases ≡ None → told (definition t') d most key ≡ no_base key
     unfolding told
-    told_none e = ap (of_base (definition t') d most key) (base_is none e)
+    told_none e = ap (of_base (definition t') d most key) (base_is None e)
 
-    module _ (b : Base) (e : first_base key (definition t).bases ≡ some b) where
+    module _ (b : Base) (e : first_base key (definition t).bases ≡ Some b) where
       pub told-before : told (definition t) d most key
           ≡ of_answer (definition t).sets d most (answer 7 d (trees b.params) (candidates_of key (definition t)))
       unfolding told
@@ -165,14 +162,14 @@ module _ (t t' : List ℕ) (w : Reordered t t') (h g : ℕ → ℕ) (f : Follows
           (of_answer (definition t).sets d most (answer 7 d (trees b.params) stands))
       unfolding told
       told-after =
-          ap (of_base (definition t') d most key) (base_is (some b) e)
+          ap (of_base (definition t') d most key) (base_is (Some b) e)
           ∙ (λ i. of_answer (sets_same t t' w h g f i) d most (answer 7 d (trees_renumber g b.params i) (stands_same i)))
           ∙ ap (of_answer (definition t).sets d most) (answer-same h g 7 d (trees b.params) stands)
           ∙ told_same h g d (definition t).sets most (answer 7 d (trees b.params) stands)
 
   -- ---- two calls
   module _ (d : List ℕ) (table : List ℕ) (w₁ : Within t d) (w₂ : Within t' d)
-      (r : Decoded) (table₁ : List ℕ) (c₁ : Decodes t d region speed table r table₁) (r' : Decoded) (table₂ : List ℕ)
+      (r : Result DecodedHeader Refusal) (table₁ : List ℕ) (c₁ : Decodes t d region speed table r table₁) (r' : Result DecodedHeader Refusal) (table₂ : List ℕ)
       (c₂ : Decodes t' d region speed table r' table₂) where
     abbrev most : ℕ
     most = length table / row_width
@@ -194,7 +191,7 @@ module _ (t t' : List ℕ) (w : Reordered t t') (h g : ℕ → ℕ) (f : Follows
           rows = length-map k.rows (renumbered g) i;
         }
 
-    module _ (b : Base) (e : first_base key (definition t).bases ≡ some b) where
+    module _ (b : Base) (e : first_base key (definition t).bases ≡ Some b) where
       first-after : (c : Candidate 7) (fs : List (Field 7)) → First 7 d (trees b.params) stands c fs
           → length (table_of 7 d (definition t).sets fs) ≤ most
           → Gives table (with_number h t' (header_of t (right d speed) (heading_of (definition t).sets d c fs)))
@@ -213,14 +210,14 @@ module _ (t t' : List ℕ) (w : Reordered t t') (h g : ℕ → ℕ) (f : Follows
           gives t d region speed table r table₁ w₁ c₁ (heading_of (definition t).sets d c fs)
           (told-before d most b e ∙ first-told (definition t).sets d most (trees b.params) (candidates_of key (definition t)) c fs first l)
 
-      none_after : None 7 d (trees b.params) (candidates_of key (definition t)) → told (definition t') d most key ≡ no_candidate
+      none_after : NoneHold 7 d (trees b.params) (candidates_of key (definition t)) → told (definition t') d most key ≡ no_candidate
       none_after n =
           told-after d most b e
           ∙ ap (retold h g d (definition t).sets)
           (none_told (definition t).sets d most (trees b.params) stands
           (none-moved 7 d (trees b.params) (candidates_of key (definition t)) stands stands-moved n))
 
-      none_before : None 7 d (trees b.params) (candidates_of key (definition t)) → told (definition t) d most key ≡ no_candidate
+      none_before : NoneHold 7 d (trees b.params) (candidates_of key (definition t)) → told (definition t) d most key ≡ no_candidate
       none_before n = told-before d most b e ∙ none_told (definition t).sets d most (trees b.params) (candidates_of key (definition t)) n
 
     pub any_harmless : Harmless t t' d region speed table h g r table₁ r' table₂
@@ -252,8 +249,8 @@ module _ (t t' : List ℕ) (w : Reordered t t') (region speed : ℕ) (d table : 
   within-after : Within t' d
   within-after = record { accepted = accepted-after t t' w within.accepted; long = within.long; short = within.short }
 
-  pub harmless : (r : Decoded) (table₁ : List ℕ) → Decodes t d region speed table r table₁
-      → (r' : Decoded) (table₂ : List ℕ) → Decodes t' d region speed table r' table₂
+  pub harmless : (r : Result DecodedHeader Refusal) (table₁ : List ℕ) → Decodes t d region speed table r table₁
+      → (r' : Result DecodedHeader Refusal) (table₂ : List ℕ) → Decodes t' d region speed table r' table₂
       → Follows (new_header w.order) (new_param w.order) w.order (sections_of t')
       × Harmless t t' d region speed table (new_header w.order) (new_param w.order) r table₁ r' table₂
   harmless r table₁ c₁ r' table₂ c₂ = (

@@ -2,7 +2,6 @@
 use mathlib.Core.Path.{◌≡◌, refl, sym, ap, ◌∙◌, subst}
 use mathlib.Core.Bool.{Bool, true, false, cond, ◌&&◌, ◌||◌, true≢false}
 use mathlib.Core.List.{List, [], ◌∷◌, ◌++◌, map}
-use mathlib.Core.Option.{Option, none, some}
 use Prim.Native.Nat.{ℕ, suc, ◌<◌, ◌≤◌}
 use native.Mathlib.Omega.{arith}
 use lib.Dec.{eqb, ltb}
@@ -10,9 +9,7 @@ use lib.ListN.{length}
 use borrow.Author.Tests.{ltb-false, eqb-true, lt-ltb, le-ltb, eq-eqb}
 use Rattle.text.specs.Text.{same}
 use Rattle.text.specs.Print.{Every}
-use Rattle.text.specs.declared.Verdict.TheVariants.{Accepted}
 use Rattle.frame_text.specs.Rules.{verdict}
-use Rattle.header.specs.declared.Decoded.{Decoded}
 use Rattle.header.specs.Decode.{Within, Decodes}
 use Rattle.reorder.specs.Moved.{Moved}
 use Rattle.reorder.specs.Blocks.{only, Section, is_block, blocks, Line, says_of, sections_of}
@@ -21,6 +18,9 @@ use Rattle.reorder.specs.Sorted.{insert_by, sort_by, Sorted, placed, up_to, name
 use Rattle.reorder.proofs.Moved.{moved_every}
 use Rattle.reorder.proofs.Written.{Text, any_order}
 use Rattle.reorder.proofs.Reorder.{harmless}
+use Rattle.std.specs.Prelude.{Option, Some, None, Result, Ok}
+use Rattle.header.specs.declared.DecodedHeader.{DecodedHeader}
+use Rattle.refusal.specs.declared.Refusal.{Refusal}
 
 -- ---- sorting
 module _ {X : Type 0} (before : X → X → Bool) where
@@ -111,7 +111,7 @@ module _ {X : Type 0} (test : X → Bool) where
   Meets x = test x ≡ true
 
   abbrev hole : X → Option X
-  hole x = cond (test x) none (some x)
+  hole x = cond (test x) None (Some x)
 
   only-meets : (xs : List X) → Every Meets (only test xs)
   only-meets [] = tt
@@ -147,7 +147,7 @@ module _ {X : Type 0} (test : X → Bool) where
     where
       go : (b : Bool) → test x ≡ b → map hole xs ≡ map hole (placed test ys xs) → map hole xs ≡ map hole (placed test (y ∷ ys) xs)
           → hole x ∷ map hole xs ≡ map hole (cond b (y ∷ placed test ys xs) (x ∷ placed test (y ∷ ys) xs))
-      go true q on past = rw (q, a.0) (ap (λ (z : List (Option X)). none ∷ z) on)
+      go true q on past = rw (q, a.0) (ap (λ (z : List (Option X)). None ∷ z) on)
       go false q on past = ap (λ (z : List (Option X)). hole x ∷ z) past
 
 -- ---- names
@@ -207,7 +207,7 @@ module _ (ss : List (Section Line)) where
       ∙ sort_stays name_up_to (λ s. same (name_of s) name) (λ r s. up_to_same name (name_of r) (name_of s)) (blocks says_of ss)
 
 -- ---- the text
-module _ (t : List ℕ) (v : verdict t ≡ Accepted) where
+module _ (t : List ℕ) (v : verdict t ≡ Ok tt) where
   -- the sorted text is a rearrangement, accepted, and as long
   pub sorted-text : Text t (by_name (sections_of t)) (sorted_text t)
   sorted-text =
@@ -215,9 +215,9 @@ module _ (t : List ℕ) (v : verdict t ≡ Accepted) where
       (subst (Moved (blocks says_of (sections_of t))) (sym (blocks_are (sections_of t))) (sort_moved name_up_to (blocks says_of (sections_of t))))
 
 -- W-213 of the text sorted by name
-pub sorting_harmless : (t : List ℕ) (region speed : ℕ) (d table : List ℕ) → Within t d → (r : Decoded) (table₁ : List ℕ)
+pub sorting_harmless : (t : List ℕ) (region speed : ℕ) (d table : List ℕ) → Within t d → (r : Result DecodedHeader Refusal) (table₁ : List ℕ)
     → Decodes t d region speed table r table₁
-    → (r' : Decoded) (table₂ : List ℕ) → Decodes (sorted_text t) d region speed table r' table₂
+    → (r' : Result DecodedHeader Refusal) (table₂ : List ℕ) → Decodes (sorted_text t) d region speed table r' table₂
     → Follows (new_header (by_name (sections_of t))) (new_param (by_name (sections_of t))) (by_name (sections_of t)) (sections_of (sorted_text t))
     × Harmless t (sorted_text t) d region speed table (new_header (by_name (sections_of t))) (new_param (by_name (sections_of t))) r table₁ r' table₂
 sorting_harmless t region speed d table w r table₁ c₁ r' table₂ c₂ =

@@ -2,17 +2,16 @@
 use mathlib.Core.Path.{◌≡◌, refl, sym, ap, ◌∙◌}
 use mathlib.Core.Bool.{Bool, true, false, cond, true≢false}
 use mathlib.Core.List.{List, [], ◌∷◌, ◌++◌}
-use mathlib.Core.Option.{Option}
 use Prim.Native.Nat.{ℕ, suc}
 use native.Mathlib.Omega.{arith}
 use Rattle.text.specs.Text.{lines, fields}
 use Rattle.text.specs.Judge.{judge}
-use Rattle.text.specs.declared.Verdict.TheVariants.{Accepted}
 use Rattle.text.proofs.Judging.{judge_line}
 use Rattle.text.proofs.Reading.{Allowed, accepted_line, accepted-lines}
 use Rattle.frame_text.specs.Form.{Record, frequency, base, header, param, validation, set, entry, form}
 use Rattle.frame_text.specs.Rules.{owns, lost, rules, verdict}
 use Rattle.reorder.specs.Blocks.{Section, owns_more, more, until_next, sections, lines_of, ended, Line, Has, says_of, sections_of}
+use Rattle.std.specs.Prelude.{Option, Ok}
 
 module _ {L : Type 0} (says : L → Option Record) where
   -- the lines before the first owner, and the lines of the sections, are all lines
@@ -39,7 +38,7 @@ first-owns (validation path value) e = absurd (true≢false e)
 first-owns (set name) e = refl
 first-owns (entry key text) e = absurd (true≢false e)
 
-pub none_first : (ls : List Line) (n : ℕ) → judge rules [] n ls ≡ Accepted → until_next says_of (ended ls) ≡ []
+pub none_first : (ls : List Line) (n : ℕ) → judge rules [] n ls ≡ Ok tt → until_next says_of (ended ls) ≡ []
 unfolding says_of
 none_first [] n e = refl
 none_first (l ∷ []) n e = refl
@@ -50,7 +49,7 @@ none_first (l ∷ m ∷ ms) n e =
     ap (λ (b : Bool). cond b [] (l ∷ until_next says_of (ended (m ∷ ms))))
     (ap (λ (x : Option Record). owns_more x) a.is ∙ first-owns a.said a.owned)
 
-pub whole : (t : List ℕ) → verdict t ≡ Accepted → ended (lines t) ≡ lines_of says_of (sections_of t)
+pub whole : (t : List ℕ) → verdict t ≡ Ok tt → ended (lines t) ≡ lines_of says_of (sections_of t)
 whole t v =
     sym (lines-again says_of (ended (lines t)) 0 0)
     ∙ ap (λ (z : List Line). z ++ lines_of says_of (sections_of t)) (none_first (lines t) 1 (accepted-lines rules t v))

@@ -9,7 +9,6 @@ use lib.ListN.{length}
 use Rattle.text.specs.Text.{split, lines, without}
 use Rattle.text.specs.Text as text
 use Rattle.text.specs.Print.{Every}
-use Rattle.text.specs.declared.Verdict.TheVariants.{Accepted}
 use Rattle.text.proofs.Printing.{split-joined}
 use Rattle.frame_text.specs.Rules.{verdict}
 use Rattle.reorder.specs.Moved.{Moved}
@@ -18,6 +17,7 @@ use Rattle.reorder.specs.Reorder.{Reordered}
 use Rattle.reorder.proofs.Moved.{every_both}
 use Rattle.reorder.proofs.Places.{lines-moved}
 use Rattle.reorder.proofs.Accepted.{same_length, accepted-after}
+use Rattle.std.specs.Prelude.{Ok}
 
 -- ---- no line end stands in a line
 abbrev Clear : Line → Type 0
@@ -52,10 +52,10 @@ written_has ls a = split-joined 0x0a (ls ++ ([] ∷ [])) (some_line ls) (every_b
 pub record Text (t : List ℕ) (order : List (Section Line)) (t' : List ℕ) : Type 0 where
   pub reordered : Reordered t t'
   pub by_order : reordered.order ≡ order
-  pub accepted : verdict t' ≡ Accepted
+  pub accepted : verdict t' ≡ Ok tt
   pub long : length t' ≡ length t
 
-module _ (t : List ℕ) (v : verdict t ≡ Accepted) (order : List (Section Line)) (others : map (gap says_of) (sections_of t) ≡ map (gap says_of) order)
+module _ (t : List ℕ) (v : verdict t ≡ Ok tt) (order : List (Section Line)) (others : map (gap says_of) (sections_of t) ≡ map (gap says_of) order)
     (moved : Moved (blocks says_of (sections_of t)) (blocks says_of order)) where
   is_reordered : Reordered t (written (lines_of says_of order))
   is_reordered =

@@ -1,6 +1,5 @@
 -- O1 (docs/RULES.md): the lines of a frame text by their owners, an F, B, H or D line and all lines up to the next such line. Those of an H line are a block.
-use Rattle.std.specs.Prelude.{ℕ, zero, suc, ◌≡◌, Bool, false, cond, List, [], ◌∷◌, ◌++◌, map, eqb}
-use Rattle.std.proofs.Math.Option.{Option, none, some}
+use Rattle.std.specs.Prelude.{ℕ, zero, suc, ◌≡◌, Bool, false, cond, List, [], ◌∷◌, ◌++◌, map, eqb, Option, Some, None}
 use Rattle.text.specs.Text.{lines, fields}
 use Rattle.text.specs.Print.{joined}
 use Rattle.frame_text.specs.Form.{Record, form}
@@ -26,12 +25,12 @@ pub record Section (L : Type 0) : Type 0 where
 
 -- the letter of what a line says, or 0
 abbrev pub letter_of : Option Record → ℕ
-letter_of none = 0
-letter_of (some r) = letter r
+letter_of None = 0
+letter_of (Some r) = letter r
 
 abbrev pub owns_more : Option Record → Bool
-owns_more none = false
-owns_more (some r) = owns r
+owns_more None = false
+owns_more (Some r) = owns r
 
 -- n, and one more if a line has this letter
 abbrev pub more : ℕ → Option Record → ℕ → ℕ
@@ -66,7 +65,7 @@ module _ {L : Type 0} (says : L → Option Record) where
 
   -- the sections with a gap for each block
   abbrev pub gap : Section L → Option (Section L)
-  gap s = cond (is_block s) none (some s)
+  gap s = cond (is_block s) None (Some s)
 
   -- the lines of sections, one section after the other
   abbrev pub lines_of : List (Section L) → List L

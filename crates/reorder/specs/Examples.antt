@@ -1,6 +1,5 @@
 -- Two H blocks that change places, worked out. In the comments `|` is a tab and `/` a line end.
-use Rattle.std.specs.Prelude.{◌≡◌, refl, true, false, List, [], ◌∷◌, map, ℕ}
-use Rattle.text.specs.declared.Verdict.TheVariants.{Accepted}
+use Rattle.std.specs.Prelude.{◌≡◌, refl, true, false, List, [], ◌∷◌, map, ℕ, Ok}
 use Rattle.bits.specs.Bits.{bits_at}
 use Rattle.crc.specs.Crc.{right}
 use Rattle.crc.specs.Poly.{plus}
@@ -14,7 +13,6 @@ use Rattle.header_rules.specs.Trees.{of_level, kids, trees}
 use Rattle.header_rules.specs.Table.{numbers_of, inner_table, table_from, rows_each}
 use Rattle.header_rules.specs.Told.{told}
 use Rattle.header.specs.Decode.{decoded, told_of, rows_of}
-use Rattle.header.specs.declared.Decoded.TheVariants.{Header}
 use Rattle.reorder.specs.Blocks.{Section, Line, written, says_of, sections_of}
 use Rattle.reorder.specs.Reorder.{Reordered, new_header, new_param}
 use Rattle.reorder.specs.Sorted.{sorted_text}
@@ -62,7 +60,7 @@ before = written (B ∷ A ∷ HX ∷ PX ∷ VX ∷ D ∷ E ∷ HY ∷ PY ∷ PY2
 abbrev after : List ℕ
 after = written (B ∷ A ∷ HY ∷ PY ∷ PY2 ∷ VY ∷ D ∷ E ∷ HX ∷ PX ∷ VX ∷ [])
 
-both-accepted : (verdict before ≡ Accepted) × (verdict after ≡ Accepted)
+both-accepted : (verdict before ≡ Ok tt) × (verdict after ≡ Ok tt)
 both-accepted = (refl, refl)
 
 -- the sections of the first text: H lines and P lines before it, the owner, the lines under it
@@ -119,7 +117,7 @@ unfolding told answer reading base_read listed exists packed inner_at ordered in
 y-after = refl
 
 header-before : decoded before (0x02 ∷ 0xC3 ∷ []) 0 0 30
-    ≡ Header (record {
+    ≡ Ok (record {
       number = 1;
       key = 8;
       flags = record { ack = false; routed = false; multicast = false; error = true };
@@ -133,7 +131,7 @@ unfolding told answer reading base_read listed exists packed inner_at ordered in
 header-before = refl
 
 header-after : decoded after (0x02 ∷ 0xC3 ∷ []) 0 0 30
-    ≡ Header (record {
+    ≡ Ok (record {
       number = 0;
       key = 8;
       flags = record { ack = false; routed = false; multicast = false; error = true };

@@ -1,6 +1,5 @@
 -- O2 to O4 (docs/RULES.md): texts that differ in the order of their H blocks, and what is answered by them.
-use Rattle.std.specs.Prelude.{ℕ, suc, ◌/◌, ◌≤◌, ◌≡◌, cond, List, [], ◌∷◌, ◌++◌, map, eqb, length}
-use Rattle.std.proofs.Math.Option.{Option, none, some}
+use Rattle.std.specs.Prelude.{ℕ, suc, ◌/◌, ◌≤◌, ◌≡◌, cond, List, [], ◌∷◌, ◌++◌, map, eqb, length, Option, Some, None, Result, Ok, Err}
 use Rattle.refusal.specs.declared.Refusal.{Refusal}
 use Rattle.refusal.specs.declared.Refusal.TheVariants.{NoBase, NoCandidate}
 use Rattle.rows.specs.Rows.{laid}
@@ -9,21 +8,19 @@ use Rattle.frame_definition.specs.Definition.{Base, definition, first_base}
 use Rattle.frame_definition.specs.Names.{header_name}
 use Rattle.crc.specs.Crc.{right}
 use Rattle.header_rules.specs.Data.{P, Field, Candidate}
-use Rattle.header_rules.specs.Demand.{Holds, None, Some}
+use Rattle.header_rules.specs.Demand.{Holds, NoneHold, OneHolds}
 use Rattle.header_rules.specs.Table.{row_width, table_of}
 use Rattle.header_rules.specs.Trees.{trees}
 use Rattle.header_rules.specs.Told.{heading_of, candidates_of}
 use Rattle.header_rules.specs.Says.{NoneHolds}
 use Rattle.header.specs.declared.DecodedHeader.{DecodedHeader}
-use Rattle.header.specs.declared.Decoded.{Decoded}
-use Rattle.header.specs.declared.Decoded.TheVariants.{Header, Refused}
 use Rattle.header.specs.Decode.{header_of, key_of}
 use Rattle.reorder.specs.Moved.{Moved}
 use Rattle.reorder.specs.Blocks.{Section, gap, blocks, lines_of, header_numbers, param_numbers, Line, Has, says_of, sections_of}
 
 -- ---- the move
 
--- O2: t' is t with its H blocks in another order. (A line before the first section has no owner; an accepted text has none: `whole`.)
+-- O2: t' is t with its H blocks in another order. (A line before the first section has no owner; an accepted text has None: `whole`.)
 pub record Reordered (t t' : List ℕ) : Type 0 where
   -- the sections of t, with their numbers in t, as they stand in t'
   pub order : List (Section Line)
@@ -78,20 +75,20 @@ pub record Only (n : ℕ) (d : List ℕ) (base : List (P n)) (cs : List (Candida
   pub back : List (Candidate n)
   pub place : cs ≡ front ++ c ∷ back
   pub holds : Holds n d base c fs
-  pub none_before : None n d base front
-  pub none-behind : None n d base back
+  pub none_before : NoneHold n d base front
+  pub none-behind : NoneHold n d base back
 
 -- a call's answer r and the table that it leaves are those of this header and these rows
-pub record Gives (table : List ℕ) (x : DecodedHeader) (rows : List (List ℕ)) (r : Decoded) (table' : List ℕ) : Type 0 where
-  pub answer : r ≡ Header x
+pub record Gives (table : List ℕ) (x : DecodedHeader) (rows : List (List ℕ)) (r : Result DecodedHeader Refusal) (table' : List ℕ) : Type 0 where
+  pub answer : r ≡ Ok x
   pub laid_are : table' ≡ laid table rows
 
 -- a refusal leaves the table
-pub record Refuses (table : List ℕ) (y : Refusal) (r : Decoded) (table' : List ℕ) : Type 0 where
-  pub answer : r ≡ Refused y
+pub record Refuses (table : List ℕ) (y : Refusal) (r : Result DecodedHeader Refusal) (table' : List ℕ) : Type 0 where
+  pub answer : r ≡ Err y
   pub as_it_was : table' ≡ table
 
--- c holds, by the reading fs, and of the candidates of cs that hold none has a lower number after the move
+-- c holds, by the reading fs, and of the candidates of cs that hold None has a lower number after the move
 pub record Foremost (n : ℕ) (d : List ℕ) (base : List (P n)) (cs : List (Candidate n)) (h : ℕ → ℕ) (c : Candidate n)
     (fs : List (Field n)) : Type 0 where
   pub front : List (Candidate n)
@@ -116,7 +113,7 @@ module _ (t : List ℕ) where
   rows_by d fs = table_of 7 d (definition t).sets fs
 
 -- r and table₁ are what a call answers and leaves by t, r' and table₂ what it answers and leaves by t', for the same MPDU, region, speed and table
-pub record Harmless (t t' d : List ℕ) (region speed : ℕ) (table : List ℕ) (h g : ℕ → ℕ) (r : Decoded) (table₁ : List ℕ) (r' : Decoded)
+pub record Harmless (t t' d : List ℕ) (region speed : ℕ) (table : List ℕ) (h g : ℕ → ℕ) (r : Result DecodedHeader Refusal) (table₁ : List ℕ) (r' : Result DecodedHeader Refusal)
     (table₂ : List ℕ) : Type 0 where
   -- the base key is the same
   pub key_same : key_of t' region speed ≡ key_of t region speed
@@ -124,22 +121,22 @@ pub record Harmless (t t' d : List ℕ) (region speed : ℕ) (table : List ℕ) 
   pub name-same : (xs : List (Candidate 7)) (c : Candidate 7) (ys : List (Candidate 7)) → candidates_by t region speed ≡ xs ++ c ∷ ys
       → part_of t' (header_name t' (h c.number)) ≡ part_of t (header_name t c.number)
   -- no base header has it, before and after
-  pub no_base : base_by t region speed ≡ none → Refuses table (NoBase (key_of t region speed)) r table₁
+  pub no_base : base_by t region speed ≡ None → Refuses table (NoBase (key_of t region speed)) r table₁
       × Refuses table (NoBase (key_of t region speed)) r' table₂
-  -- where no candidate holds, none holds after the move, and both calls say so
-  pub none-holds : (b : Base) → base_by t region speed ≡ some b → None 7 d (trees b.params) (candidates_by t region speed)
+  -- where no candidate holds, None holds after the move, and both calls say so
+  pub none-holds : (b : Base) → base_by t region speed ≡ Some b → NoneHold 7 d (trees b.params) (candidates_by t region speed)
       → NoneHolds (definition t') d (key_of t' region speed) × Refuses table NoCandidate r table₁ × Refuses table NoCandidate r' table₂
   -- where exactly one holds, both calls answer it: key, flags, payload offset, checksum result and rows are the same but for the numbers of H and P lines
-  pub one_holds : (b : Base) → base_by t region speed ≡ some b → (c : Candidate 7) (fs : List (Field 7))
+  pub one_holds : (b : Base) → base_by t region speed ≡ Some b → (c : Candidate 7) (fs : List (Field 7))
       → Only 7 d (trees b.params) (candidates_by t region speed) c fs
       → length (rows_by t d fs) ≤ length table / row_width
       → Gives table (header_by t d speed c fs) (rows_by t d fs) r table₁
       × Gives table (with_number h t' (header_by t d speed c fs)) (map (renumbered g) (rows_by t d fs)) r' table₂
-  -- where some hold, one of them stands first after the move
-  pub some_hold : (b : Base) → base_by t region speed ≡ some b → Some 7 d (trees b.params) (candidates_by t region speed)
+  -- where Some hold, one of them stands first after the move
+  pub some_hold : (b : Base) → base_by t region speed ≡ Some b → OneHolds 7 d (trees b.params) (candidates_by t region speed)
       → (c : Candidate 7) × (fs : List (Field 7)) × Foremost 7 d (trees b.params) (candidates_by t region speed) h c fs
   -- and that one is the answer after it
-  pub more_hold : (b : Base) → base_by t region speed ≡ some b → (c : Candidate 7) (fs : List (Field 7))
+  pub more_hold : (b : Base) → base_by t region speed ≡ Some b → (c : Candidate 7) (fs : List (Field 7))
       → Foremost 7 d (trees b.params) (candidates_by t region speed) h c fs
       → length (rows_by t d fs) ≤ length table / row_width → Gives table (with_number h t' (header_by t d speed c fs))
       (map (renumbered g) (rows_by t d fs)) r' table₂

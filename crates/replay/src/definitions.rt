@@ -1,9 +1,9 @@
 // The requests on definition texts.
+use answer::put_refusal;
 use answer::table::{BYTE, MOST_BYTES, put_written};
-use answer::{Answer, put_refusal};
 use libtap::TapAnswer;
 use libtap::texts::{tap_check_command_text, tap_check_frame_text, tap_tidy_command_text};
-use request::{Bytes, Leading, read_bytes, read_leading};
+use request::{read_bytes, read_leading};
 use writer::{Buffer, put};
 
 fn put_verdict(out: &mut Buffer, used: usize, verdict: TapAnswer) -> usize {
@@ -14,21 +14,21 @@ fn put_verdict(out: &mut Buffer, used: usize, verdict: TapAnswer) -> usize {
 }
 
 // `frametext TEXT`
-pub fn frametext(words: &[u8], bytes: &mut [u8], out: &mut Buffer, used: usize) -> Answer {
-    let Bytes::Are(n) = read_bytes(words, bytes) else {
-        return Answer::Bad;
+pub fn frametext(words: &[u8], bytes: &mut [u8], out: &mut Buffer, used: usize) -> Option<usize> {
+    let Some(n) = read_bytes(words, bytes) else {
+        return None;
     };
     let verdict = tap_check_frame_text(&bytes[..n]);
-    Answer::Put(put_verdict(out, used, verdict))
+    Some(put_verdict(out, used, verdict))
 }
 
 // `commandtext TEXT`
-pub fn commandtext(words: &[u8], bytes: &mut [u8], out: &mut Buffer, used: usize) -> Answer {
-    let Bytes::Are(n) = read_bytes(words, bytes) else {
-        return Answer::Bad;
+pub fn commandtext(words: &[u8], bytes: &mut [u8], out: &mut Buffer, used: usize) -> Option<usize> {
+    let Some(n) = read_bytes(words, bytes) else {
+        return None;
     };
     let verdict = tap_check_command_text(&bytes[..n]);
-    Answer::Put(put_verdict(out, used, verdict))
+    Some(put_verdict(out, used, verdict))
 }
 
 // The tidied text, or a refusal, after which nothing may have been written to the buffer.
@@ -38,17 +38,17 @@ fn answer_tidy(text: &[u8], buffer: &mut [u8], out: &mut Buffer, used: usize) ->
 }
 
 // `tidy CAP TEXT`
-pub fn tidy(words: &[u8], bytes: &mut [u8], out: &mut Buffer, used: usize) -> Answer {
-    let Leading::Is(cap, at) = read_leading(words) else {
-        return Answer::Bad;
+pub fn tidy(words: &[u8], bytes: &mut [u8], out: &mut Buffer, used: usize) -> Option<usize> {
+    let Some((cap, at)) = read_leading(words) else {
+        return None;
     };
     if MOST_BYTES < cap {
-        return Answer::Bad;
+        return None;
     }
-    let Bytes::Are(n) = read_bytes(&words[at..], bytes) else {
-        return Answer::Bad;
+    let Some(n) = read_bytes(&words[at..], bytes) else {
+        return None;
     };
     let room = cap as usize;
     let mut buffer = [BYTE; 196608];
-    Answer::Put(answer_tidy(&bytes[..n], &mut buffer[..room], out, used))
+    Some(answer_tidy(&bytes[..n], &mut buffer[..room], out, used))
 }

@@ -1,7 +1,7 @@
 // The requests on single bits and on the checksum of an MPDU.
-use answer::{Answer, put_named};
+use answer::put_named;
 use libtap::headers::{TapBits, tap_check_crc, tap_read_bits};
-use request::{Bytes, Leading, Two, read_bytes, read_leading, read_two};
+use request::{Two, read_bytes, read_leading, read_two};
 use writer::{Buffer, put};
 
 fn put_bits(out: &mut Buffer, used: usize, answer: TapBits) -> usize {
@@ -12,25 +12,25 @@ fn put_bits(out: &mut Buffer, used: usize, answer: TapBits) -> usize {
 }
 
 // `bits PLACE WIDTH BYTES`
-pub fn bits(words: &[u8], bytes: &mut [u8], out: &mut Buffer, used: usize) -> Answer {
+pub fn bits(words: &[u8], bytes: &mut [u8], out: &mut Buffer, used: usize) -> Option<usize> {
     let Two::Are(place, width, at) = read_two(words) else {
-        return Answer::Bad;
+        return None;
     };
-    let Bytes::Are(n) = read_bytes(&words[at..], bytes) else {
-        return Answer::Bad;
+    let Some(n) = read_bytes(&words[at..], bytes) else {
+        return None;
     };
     let answer = tap_read_bits(&bytes[..n], place, width);
-    Answer::Put(put_bits(out, used, answer))
+    Some(put_bits(out, used, answer))
 }
 
 // `checksum SPEED MPDU`
-pub fn checksum(words: &[u8], bytes: &mut [u8], out: &mut Buffer, used: usize) -> Answer {
-    let Leading::Is(speed, at) = read_leading(words) else {
-        return Answer::Bad;
+pub fn checksum(words: &[u8], bytes: &mut [u8], out: &mut Buffer, used: usize) -> Option<usize> {
+    let Some((speed, at)) = read_leading(words) else {
+        return None;
     };
-    let Bytes::Are(n) = read_bytes(&words[at..], bytes) else {
-        return Answer::Bad;
+    let Some(n) = read_bytes(&words[at..], bytes) else {
+        return None;
     };
     let right = tap_check_crc(&bytes[..n], speed);
-    Answer::Put(put_named(out, used, b"checksum", right as u64))
+    Some(put_named(out, used, b"checksum", right as u64))
 }

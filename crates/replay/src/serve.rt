@@ -6,7 +6,6 @@ ghost use Rattle.replay.specs.Serve.{Goes};
 use crate::definitions::{commandtext, frametext, tidy};
 use crate::input::{Filled, Found, Input};
 use crate::mpdu::{bits, checksum};
-use answer::Answer;
 use frame_requests::frame_request;
 use listing_requests::listing;
 use node_requests::{commandnodes, headernodes};
@@ -37,7 +36,7 @@ fn answer_word(
     bytes: &mut [u8],
     out: &mut Buffer,
     used: usize,
-) -> Answer {
+) -> Option<usize> {
     match word {
         Word::Frametext => frametext(words, bytes, out, used),
         Word::Commandtext => commandtext(words, bytes, out, used),
@@ -57,12 +56,18 @@ fn answer_word(
 }
 
 // Answers a request. Every one has two words or more.
-fn answer(line: &[u8], bytes: &mut [u8], rows: &mut [u64], out: &mut Buffer, used: usize) -> Answer
+fn answer(
+    line: &[u8],
+    bytes: &mut [u8],
+    rows: &mut [u64],
+    out: &mut Buffer,
+    used: usize,
+) -> Option<usize>
     requires { Ample rows.old }
 {
     let e = find(line, b' ');
     if e == line.len() {
-        return Answer::Bad;
+        return None;
     }
     let words = &line[e + 1..];
     let word = word_of(&line[..e]);
@@ -88,8 +93,8 @@ fn answer_line(
     requires { Ample rows.old }
 {
     match answer(line, bytes, rows, out, used) {
-        Answer::Put(n) => put_byte(out, n, b'\n'),
-        Answer::Bad => put_bad(out, used),
+        Some(n) => put_byte(out, n, b'\n'),
+        None => put_bad(out, used),
     }
 }
 

@@ -16,38 +16,31 @@ use Rattle.text.specs.Text.{missing}
 use Rattle.text.specs.Scan.{cut}
 use Rattle.text.proofs.Laws.{front_count}
 use Rattle.numerals.specs.Numbers.{value_of}
-use Rattle.numerals.specs.declared.numbers.Value.{Value}
-use Rattle.numerals.specs.declared.numbers.Value.TheVariants.{Is, Not}
-use Rattle.request.specs.declared.Leading.{Leading}
-use Rattle.request.specs.declared.Leading.TheVariants.{Is as Leads, Not as NoLeading}
 use Rattle.request.specs.declared.Two.{Two}
 use Rattle.request.specs.declared.Two.TheVariants.{Are as TwoAre, Not as NotTwo}
-use Rattle.request.specs.declared.Bytes.{Bytes}
-use Rattle.request.specs.declared.Bytes.TheVariants.{Are, Not as NoBytes}
-use Rattle.request.specs.declared.Both.{Both}
-use Rattle.request.specs.declared.Both.TheVariants.{Are as BothAre, Not as NotBoth}
 use Rattle.request.specs.Request.{led, leading_of, digit_of, Decoded, bytes, none, onto, pairs_of, bytes_of}
 use Rattle.request.specs.Request.{paired, further, two_of, fitting, Decodes, first_of, second_of, fitting_both, InBoth, DecodesBoth}
+use Rattle.std.specs.Prelude.{Option, Some, None}
 
 -- ---- a number that others follow
 module _ (s : List ℕ) (e : ℕ) (at-e : e ≡ cut 0x20 s) where
-  pub leading_alone : e ≡ length s → NoLeading ≡ leading_of s
+  pub leading_alone : e ≡ length s → None ≡ leading_of s
   leading_alone l = rw (← at-e, le-ltb e (length s) (omega arith))
 
-  module _ (r : Value) (first : r ≡ value_of (take e s)) (inside : e ≤ length s) (more : e ≡ length s → ⊥) where
-    pub leading_not : r ≡ Not → NoLeading ≡ leading_of s
+  module _ (r : Option ℕ) (first : r ≡ value_of (take e s)) (inside : e ≤ length s) (more : e ≡ length s → ⊥) where
+    pub leading_not : r ≡ None → None ≡ leading_of s
     leading_not n = rw (← at-e, lt-ltb e (length s) (omega arith), ← first, n)
 
-    pub leading_is : (v : ℕ) → r ≡ Is v → Leads v (e + 1) ≡ leading_of s
+    pub leading_is : (v : ℕ) → r ≡ Some v → Some (v, (e + 1)) ≡ leading_of s
     leading_is v n = rw (← at-e, lt-ltb e (length s) (omega arith), ← first, n)
 
 -- where the others start, there are such
-pub leading_inside : (s : List ℕ) (r : Leading) (v at : ℕ) → r ≡ leading_of s → r ≡ Leads v at → at ≤ length s
+pub leading_inside : (s : List ℕ) (r : Option (ℕ × ℕ)) (v at : ℕ) → r ≡ leading_of s → r ≡ Some (v, at) → at ≤ length s
 leading_inside s r v at is e = go (ltb (cut 0x20 s) (length s)) (value_of (take (cut 0x20 s) s)) (ltb-true (cut 0x20 s) (length s)) (sym is ∙ e)
   where
-    go : (t : Bool) (n : Value) → (t ≡ true → cut 0x20 s < length s) → cond t (led n (cut 0x20 s + 1)) NoLeading ≡ Leads v at → at ≤ length s
-    go true (Is m) inside q = let z : cut 0x20 s + 1 ≡ at = cc in omega (arith, inside refl)
-    go true Not inside q = absurd (let z : ◌≡◌ {A = ℕ} 0 1 = cc in omega arith)
+    go : (t : Bool) (n : Option ℕ) → (t ≡ true → cut 0x20 s < length s) → cond t (led n (cut 0x20 s + 1)) None ≡ Some (v, at) → at ≤ length s
+    go true (Some m) inside q = let z : ◌≡◌ {A = ℕ × ℕ} (m, cut 0x20 s + 1) (v, at) = cc in omega (arith, ap (λ p. p.1) z, inside refl)
+    go true None inside q = absurd (let z : ◌≡◌ {A = ℕ} 0 1 = cc in omega arith)
     go false n inside q = absurd (let z : ◌≡◌ {A = ℕ} 0 1 = cc in omega arith)
 
 -- ---- a hex digit
@@ -79,7 +72,7 @@ odd-none (x ∷ y ∷ l) (suc k) h = go (ltb (digit_of x) 16 && ltb (digit_of y)
     go true d e = rw e
     go false d e = refl
 
-pub pairs-odd : (w held : List ℕ) → (length w ≡ length w / 2 * 2 → ⊥) → Decodes (pairs_of w) held NoBytes
+pub pairs-odd : (w held : List ℕ) → (length w ≡ length w / 2 * 2 → ⊥) → Decodes (pairs_of w) held None
 pairs-odd w held h = rw (odd-none w (length w / 2) (omega arith))
 
 -- more bytes than there is room for
@@ -102,7 +95,7 @@ long-none (x ∷ y ∷ l) room h = go (ltb (digit_of x) 16 && ltb (digit_of y) 1
     go true (suc room) h ih = one room (pairs_of l) (ih room (omega arith))
     go false room h ih = refl
 
-pub pairs-long : (w held : List ℕ) → length held < length w / 2 → Decodes (pairs_of w) held NoBytes
+pub pairs-long : (w held : List ℕ) → length held < length w / 2 → Decodes (pairs_of w) held None
 pairs-long w held h = long-none w (length held) (omega arith)
 
 onto-onto : (a b : List ℕ) (d : Decoded) → onto a (onto b d) ≡ onto (a ++ b) d
@@ -138,11 +131,11 @@ module _ (w held : List ℕ) (room n i : ℕ) (p : Pairing w held room n i) (eve
         let e : (i + 1) * 2 ≡ i * 2 + 1 + 1 = omega arith in
         next w (i * 2) (omega arith) ∙ rw (e, next w (i * 2 + 1) (omega arith))
 
-    pub pairs_high : 16 ≤ high → Decodes (pairs_of w) held NoBytes
+    pub pairs_high : 16 ≤ high → Decodes (pairs_of w) held None
     pairs_high h = rw (p.all, left, ← is-high, le-ltb high 16 h)
 
     module _ (low : ℕ) (is-low : low ≡ digit_of (get_or w (i * 2 + 1) 0)) (small : high < 16) where
-      pub pairs-low : 16 ≤ low → Decodes (pairs_of w) held NoBytes
+      pub pairs-low : 16 ≤ low → Decodes (pairs_of w) held None
       pairs-low h = rw (p.all, left, ← is-high, ← is-low, lt-ltb high 16 small, le-ltb low 16 h)
 
       pub pairing_more : low < 16 → Pairing w (set held i (high * 16 + low)) room n (i + 1)
@@ -158,7 +151,7 @@ module _ (w held : List ℕ) (room n i : ℕ) (p : Pairing w held room n i) (eve
 
 -- ---- the bytes of a word
 module _ (w held : List ℕ) where
-  pub bytes-empty : length w ≡ 0 → Decodes (bytes_of w) held NoBytes
+  pub bytes-empty : length w ≡ 0 → Decodes (bytes_of w) held None
   bytes-empty e = go w e
     where
       go : (w : List ℕ) → length w ≡ 0 → fitting (length held) (bytes_of w) ≡ false
@@ -173,7 +166,7 @@ module _ (w held : List ℕ) where
         go [] t = cc
         go (x ∷ l) t = rw t
 
-    pub bytes-pairs : (r : Bytes) → (length w ≡ 0 → ⊥) → d ≡ false → Decodes (pairs_of w) held r → Decodes (bytes_of w) held r
+    pub bytes-pairs : (r : Option ℕ) → (length w ≡ 0 → ⊥) → d ≡ false → Decodes (pairs_of w) held r → Decodes (bytes_of w) held r
     bytes-pairs r some e told = rw (same w some (sym is-dash ∙ e)) told
       where
         same : (w : List ℕ) → (length w ≡ 0 → ⊥) → missing w ≡ false → bytes_of w ≡ pairs_of w
@@ -181,13 +174,13 @@ module _ (w held : List ℕ) where
         same (x ∷ l) n t = rw t
 
 -- the bytes that are decoded lie in the buffer
-pub decoded-inside : (d : Decoded) (held : List ℕ) (r : Bytes) (n : ℕ) → Decodes d held r → r ≡ Are n → n ≤ length held
-decoded-inside d held (Are m) n told e = let z : m ≡ n = cc in rw (← z) told.0
-decoded-inside d held NoBytes n told e = absurd (let z : ◌≡◌ {A = ℕ} 0 1 = cc in omega arith)
+pub decoded-inside : (d : Decoded) (held : List ℕ) (r : Option ℕ) (n : ℕ) → Decodes d held r → r ≡ Some n → n ≤ length held
+decoded-inside d held (Some m) n told e = let z : m ≡ n = cc in rw (← z) told.0
+decoded-inside d held None n told e = absurd (let z : ◌≡◌ {A = ℕ} 0 1 = cc in omega arith)
 
 -- ---- two words of bytes
 -- there is no second word
-pub both-alone : (w held : List ℕ) (e : ℕ) → e ≡ cut 0x20 w → e ≡ length w → DecodesBoth (first_of w) (second_of w) held NotBoth
+pub both-alone : (w held : List ℕ) (e : ℕ) → e ≡ cut 0x20 w → e ≡ length w → DecodesBoth (first_of w) (second_of w) held None
 both-alone w held e at-e l =
     let end : drop (cut 0x20 w + 1) w ≡ [] = done w (cut 0x20 w + 1) (omega arith) in
     rw end (go (first_of w))
@@ -196,8 +189,8 @@ both-alone w held e at-e l =
     go (bytes l) = rw and-false
     go none = refl
 
-module _ (w held : List ℕ) (e : ℕ) (at-e : e ≡ cut 0x20 w) (r : Bytes) (told : Decodes (bytes_of (take e w)) held r) where
-  pub both_first : r ≡ NoBytes → DecodesBoth (first_of w) (second_of w) held NotBoth
+module _ (w held : List ℕ) (e : ℕ) (at-e : e ≡ cut 0x20 w) (r : Option ℕ) (told : Decodes (bytes_of (take e w)) held r) where
+  pub both_first : r ≡ None → DecodesBoth (first_of w) (second_of w) held None
   both_first is = rw (← at-e) (go (bytes_of (take e w)) (bytes_of (drop (e + 1) w)) (rw is at told))
     where
       go : (a b : Decoded) → fitting (length held) a ≡ false → fitting_both (length held) a b ≡ false
@@ -205,7 +198,7 @@ module _ (w held : List ℕ) (e : ℕ) (at-e : e ≡ cut 0x20 w) (r : Bytes) (to
       go none b f = refl
 
   -- the second's bytes go into the rest of the buffer, which is ys then
-  module _ (n : ℕ) (are : r ≡ Are n) (ys : List ℕ) (kept : length ys ≡ length (take (length held - n) (drop n held))) (q : Bytes)
+  module _ (n : ℕ) (are : r ≡ Some n) (ys : List ℕ) (kept : length ys ≡ length (take (length held - n) (drop n held))) (q : Option ℕ)
       (next : Decodes (bytes_of (take (length w - (e + 1)) (drop (e + 1) w))) ys q) where
     first : (n ≤ length held) × (bytes_of (take e w) ≡ bytes (take n held))
     first = rw are at told
@@ -231,17 +224,17 @@ module _ (w held : List ℕ) (e : ℕ) (at-e : e ≡ cut 0x20 w) (r : Bytes) (to
     start : first_of w ≡ bytes (take n held)
     start = rw (← at-e) first.1
 
-    pub both-second : q ≡ NoBytes → DecodesBoth (first_of w) (second_of w) after NotBoth
+    pub both-second : q ≡ None → DecodesBoth (first_of w) (second_of w) after None
     both-second is =
         let f : fitting (length ys) (second_of w) ≡ false = rw is at then in
         rw (front, whole, start, long, ← same, f, and-false)
 
-    pub both-fits : (m : ℕ) (lent : List ℕ) → q ≡ Are m → length held ≡ length lent → length lent * 1 < 2 ^ 63 → Fits w64 (n + m)
+    pub both-fits : (m : ℕ) (lent : List ℕ) → q ≡ Some m → length held ≡ length lent → length lent * 1 < 2 ^ 63 → Fits w64 (n + m)
     both-fits m lent is l room =
         let second : (m ≤ length ys) × (second_of w ≡ bytes (take m ys)) = rw is at then in
         omega (arith, second.0, first.0, same)
 
-    pub both_are : (m : ℕ) → q ≡ Are m → InBoth (first_of w) (second_of w) after n (n + m)
+    pub both_are : (m : ℕ) → q ≡ Some m → InBoth (first_of w) (second_of w) after n (n + m)
     both_are m is =
         let second : (m ≤ length ys) × (second_of w ≡ bytes (take m ys)) = rw is at then in
         let less : n + m - n ≡ m = omega arith in
@@ -253,7 +246,7 @@ module _ (w held : List ℕ) (e : ℕ) (at-e : e ≡ cut 0x20 w) (r : Bytes) (to
         })
 
 -- the bytes of both words that are decoded lie in the buffer
-module _ (a b : Decoded) (held : List ℕ) (r : Both) (n e : ℕ) (told : DecodesBoth a b held r) (is : r ≡ BothAre n e) where
+module _ (a b : Decoded) (held : List ℕ) (r : Option (ℕ × ℕ)) (n e : ℕ) (told : DecodesBoth a b held r) (is : r ≡ Some (n, e)) where
   both : InBoth a b held n e
   both = rw is at told
 
@@ -271,18 +264,18 @@ pub taken_before : (s : List ℕ) (n e : ℕ) → n ≤ e → e ≤ length s →
 taken_before s n e l h = front_count s n (omega arith)
 
 -- ---- two numbers that others follow
-module _ (s : List ℕ) (r : Leading) (first : r ≡ leading_of s) where
-  pub two_none : r ≡ NoLeading → NotTwo ≡ two_of s
+module _ (s : List ℕ) (r : Option (ℕ × ℕ)) (first : r ≡ leading_of s) where
+  pub two_none : r ≡ None → NotTwo ≡ two_of s
   two_none e = rw (← first, e)
 
-  module _ (v at : ℕ) (is : r ≡ Leads v at) (q : Leading) (next : q ≡ leading_of (take (length s - at) (drop at s))) where
+  module _ (v at : ℕ) (is : r ≡ Some (v, at)) (q : Option (ℕ × ℕ)) (next : q ≡ leading_of (take (length s - at) (drop at s))) where
     rest_is : q ≡ leading_of (drop at s)
     rest_is = rw (tail s at) at next
 
-    pub two_one : q ≡ NoLeading → NotTwo ≡ two_of s
+    pub two_one : q ≡ None → NotTwo ≡ two_of s
     two_one e = rw (← first, is, ← rest_is, e)
 
-    module _ (w from : ℕ) (also : q ≡ Leads w from) where
+    module _ (w from : ℕ) (also : q ≡ Some (w, from)) where
       pub two_are : TwoAre v w (at + from) ≡ two_of s
       two_are = rw (← first, is, ← rest_is, also)
 
@@ -295,17 +288,17 @@ module _ (s : List ℕ) (r : Leading) (first : r ≡ leading_of s) where
 pub two_words : (s : List ℕ) (r : Two) (v w at : ℕ) → r ≡ two_of s → r ≡ TwoAre v w at → at ≤ length s
 two_words s r v w at is e = one (leading_of s) (λ n m h. leading_inside s (leading_of s) n m refl h) (sym is ∙ e)
   where
-    two : (n m : ℕ) (q : Leading) → m ≤ length s → ((k from : ℕ) → q ≡ Leads k from → from ≤ length (drop m s))
+    two : (n m : ℕ) (q : Option (ℕ × ℕ)) → m ≤ length s → ((k from : ℕ) → q ≡ Some (k, from) → from ≤ length (drop m s))
         → paired n m q ≡ TwoAre v w at → at ≤ length s
-    two n m (Leads k from) few inside h =
+    two n m (Some (k, from)) few inside h =
         let z : m + from ≡ at = cc in
         omega (arith, inside k from refl, length-drop m s)
-    two n m NoLeading few inside h = absurd (let z : ◌≡◌ {A = ℕ} 0 1 = cc in omega arith)
+    two n m None few inside h = absurd (let z : ◌≡◌ {A = ℕ} 0 1 = cc in omega arith)
 
-    one : (p : Leading) → ((n m : ℕ) → p ≡ Leads n m → m ≤ length s) → further s p ≡ TwoAre v w at → at ≤ length s
-    one (Leads n m) inside h =
+    one : (p : Option (ℕ × ℕ)) → ((n m : ℕ) → p ≡ Some (n, m) → m ≤ length s) → further s p ≡ TwoAre v w at → at ≤ length s
+    one (Some (n, m)) inside h =
         two n m (leading_of (drop m s)) (inside n m refl) (λ k from t. leading_inside (drop m s) (leading_of (drop m s)) k from refl t) h
-    one NoLeading inside h = absurd (let z : ◌≡◌ {A = ℕ} 0 1 = cc in omega arith)
+    one None inside h = absurd (let z : ◌≡◌ {A = ℕ} 0 1 = cc in omega arith)
 
 pub ruleset two_laws = (taken_before, two_none, two_one, two_are, two_fits, two_words)
 

@@ -1,18 +1,17 @@
 -- Words of requests, worked out.
-use Rattle.std.specs.Prelude.{◌≡◌, refl, [], ◌∷◌}
-use Rattle.request.specs.declared.Leading.TheVariants.{Is as Leads, Not as NoLeading}
+use Rattle.std.specs.Prelude.{◌≡◌, refl, [], ◌∷◌, Some, None}
 use Rattle.request.specs.declared.Two.TheVariants.{Are as TwoAre, Not as NotTwo}
 use Rattle.request.specs.Request.{leading_of, two_of, bytes_of, bytes, none}
 use Rattle.request.specs.Row.{asked, unasked, header_of, command_of}
 
 -- `3 12`, `3`, and a word that is empty behind the space
-first_of_two : leading_of (51 ∷ 32 ∷ 49 ∷ 50 ∷ []) ≡ Leads 3 2
+first_of_two : leading_of (51 ∷ 32 ∷ 49 ∷ 50 ∷ []) ≡ Some (3, 2)
 first_of_two = refl
 
-alone : leading_of (51 ∷ []) ≡ NoLeading
+alone : leading_of (51 ∷ []) ≡ None
 alone = refl
 
-last_empty : leading_of (51 ∷ 32 ∷ []) ≡ Leads 3 2
+last_empty : leading_of (51 ∷ 32 ∷ []) ≡ Some (3, 2)
 last_empty = refl
 
 -- `3 12 5b`, and `3 12`

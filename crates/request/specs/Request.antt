@@ -1,41 +1,33 @@
 -- The words of a request: decimal numbers, and bytes in hex. A word is a list of bytes.
-use Rattle.std.specs.Prelude.{◌≡◌, ℕ, ◌+◌, ◌-◌, ◌*◌, ◌≤◌, Bool, false, cond, ◌&&◌, List, [], ◌∷◌, ◌++◌, length, take, drop, ltb, leb}
+use Rattle.std.specs.Prelude.{◌≡◌, ℕ, ◌+◌, ◌-◌, ◌*◌, ◌≤◌, Bool, false, cond, ◌&&◌, List, [], ◌∷◌, ◌++◌, length, take, drop, ltb, leb, Option, Some, None}
 use Rattle.text.specs.Text.{missing}
 use Rattle.text.specs.Scan.{cut}
 use Rattle.numerals.specs.Numbers.{value_of}
-use Rattle.numerals.specs.declared.numbers.Value.{Value}
-use Rattle.numerals.specs.declared.numbers.Value.TheVariants.{Is, Not}
-use Rattle.request.specs.declared.Leading.{Leading}
-use Rattle.request.specs.declared.Leading.TheVariants.{Is as Leads, Not as NoLeading}
 use Rattle.request.specs.declared.Two.{Two}
 use Rattle.request.specs.declared.Two.TheVariants.{Are as TwoAre, Not as NotTwo}
-use Rattle.request.specs.declared.Bytes.{Bytes}
-use Rattle.request.specs.declared.Bytes.TheVariants.{Are, Not as NoBytes}
-use Rattle.request.specs.declared.Both.{Both}
-use Rattle.request.specs.declared.Both.TheVariants.{Are as BothAre, Not as NotBoth}
 
 -- ---- "Numbers are decimal", without leading zeros and at most 2^64 - 1
 -- the number that words start with where others follow it, and where these start: words are "parted by one space"
-abbrev pub led : Value → ℕ → Leading
-led (Is n) at = Leads n at
-led Not at = NoLeading
+abbrev pub led : Option ℕ → ℕ → Option (ℕ × ℕ)
+led (Some n) at = Some (n, at)
+led None at = None
 
-abbrev pub leading_of : List ℕ → Leading
-leading_of l = cond (ltb (cut 0x20 l) (length l)) (led (value_of (take (cut 0x20 l) l)) (cut 0x20 l + 1)) NoLeading
+abbrev pub leading_of : List ℕ → Option (ℕ × ℕ)
+leading_of l = cond (ltb (cut 0x20 l) (length l)) (led (value_of (take (cut 0x20 l) l)) (cut 0x20 l + 1)) None
 
 -- the two numbers that words start with where others follow them, and where these start
-abbrev pub paired : ℕ → ℕ → Leading → Two
-paired first at (Leads second from) = TwoAre first second (at + from)
-paired first at NoLeading = NotTwo
+abbrev pub paired : ℕ → ℕ → Option (ℕ × ℕ) → Two
+paired first at (Some (second, from)) = TwoAre first second (at + from)
+paired first at None = NotTwo
 
-abbrev pub further : List ℕ → Leading → Two
-further l (Leads first at) = paired first at (leading_of (drop at l))
-further l NoLeading = NotTwo
+abbrev pub further : List ℕ → Option (ℕ × ℕ) → Two
+further l (Some (first, at)) = paired first at (leading_of (drop at l))
+further l None = NotTwo
 
 abbrev pub two_of : List ℕ → Two
 two_of l = further l (leading_of l)
 
--- ---- "Bytes are lower-case hex without spaces, `-` for none"
+-- ---- "(Option ℕ) are lower-case hex without spaces, `-` for none"
 -- what a digit says; 16 for a byte that is none
 abbrev pub digit_of : ℕ → ℕ
 digit_of x = cond (leb 48 x && leb x 57) (x - 48) (cond (leb 97 x && leb x 102) (x - 87) 16)
@@ -64,9 +56,9 @@ fitting room (bytes l) = leb (length l) room
 fitting room none = false
 
 -- what is answered of a word's bytes d, once a buffer holds those that are decoded
-abbrev pub Decodes : Decoded → List ℕ → Bytes → Type 0
-Decodes d held (Are n) = (n ≤ length held) × (d ≡ bytes (take n held))
-Decodes d held NoBytes = fitting (length held) d ≡ false
+abbrev pub Decodes : Decoded → List ℕ → Option ℕ → Type 0
+Decodes d held (Some n) = (n ≤ length held) × (d ≡ bytes (take n held))
+Decodes d held None = fitting (length held) d ≡ false
 
 -- ---- two words of bytes
 abbrev pub first_of : List ℕ → Decoded
@@ -88,6 +80,6 @@ pub record InBoth (a b : Decoded) (held : List ℕ) (n e : ℕ) : Type 0 where
   pub second : b ≡ bytes (take (e - n) (drop n held))
 
 -- what is answered of two words' bytes a and b, once a buffer holds those that are decoded
-abbrev pub DecodesBoth : Decoded → Decoded → List ℕ → Both → Type 0
-DecodesBoth a b held (BothAre n e) = InBoth a b held n e
-DecodesBoth a b held NotBoth = fitting_both (length held) a b ≡ false
+abbrev pub DecodesBoth : Decoded → Decoded → List ℕ → Option (ℕ × ℕ) → Type 0
+DecodesBoth a b held (Some (n, e)) = InBoth a b held n e
+DecodesBoth a b held None = fitting_both (length held) a b ≡ false

@@ -1,14 +1,10 @@
 -- The words of a request for a row.
-use Rattle.std.specs.Prelude.{◌≡◌, Bool, false, cond, ◌&&◌, List, [], ◌∷◌, ℕ, ◌≤◌, leb, length, drop}
-use Rattle.request.specs.declared.Leading.{Leading}
-use Rattle.request.specs.declared.Leading.TheVariants.{Is as Leads, Not as NoLeading}
+use Rattle.std.specs.Prelude.{◌≡◌, Bool, false, cond, ◌&&◌, List, [], ◌∷◌, ℕ, ◌≤◌, leb, length, drop, Option, Some, None}
 use Rattle.request.specs.declared.Two.{Two}
 use Rattle.request.specs.declared.Two.TheVariants.{Are as TwoAre, Not as NotTwo}
-use Rattle.request.specs.declared.row.HeaderAsked.{HeaderAsked}
-use Rattle.request.specs.declared.row.HeaderAsked.TheVariants as header
-use Rattle.request.specs.declared.row.CommandAsked.{CommandAsked}
-use Rattle.request.specs.declared.row.CommandAsked.TheVariants as command
 use Rattle.request.specs.Request.{leading_of, two_of, first_of, second_of, fitting_both, InBoth}
+use Rattle.request.specs.declared.row.CommandRow.{CommandRow}
+use Rattle.request.specs.declared.row.HeaderRow.{HeaderRow}
 
 -- what is asked for: how much room, the other numbers, and behind them the two words of bytes
 pub data Asked : Type 0 where
@@ -32,9 +28,9 @@ abbrev pub command_end : ℕ → List ℕ → Two → Asked
 command_end mode l (TwoAre cap row at) = asked cap (row ∷ mode ∷ []) (drop at l)
 command_end mode l NotTwo = unasked
 
-abbrev pub command_from : List ℕ → Leading → Asked
-command_from l (Leads mode at) = cond (leb mode 1) (command_end mode (drop at l) (two_of (drop at l))) unasked
-command_from l NoLeading = unasked
+abbrev pub command_from : List ℕ → Option (ℕ × ℕ) → Asked
+command_from l (Some (mode, at)) = cond (leb mode 1) (command_end mode (drop at l) (two_of (drop at l))) unasked
+command_from l None = unasked
 
 abbrev pub command_of : List ℕ → Asked
 command_of l = command_from l (leading_of l)
@@ -52,10 +48,10 @@ readable most room (asked cap numbers words) = leb cap most && fitting_both room
 readable most room unasked = false
 
 -- what is answered of a request, once a buffer holds the bytes that are decoded
-abbrev pub AsksHeader : ℕ → List ℕ → List ℕ → HeaderAsked → Type 0
-AsksHeader most l held (header.Is q) = Reads most (header_of l) held q.cap (q.row ∷ q.region ∷ q.speed ∷ []) q.n q.end
-AsksHeader most l held header.Not = readable most (length held) (header_of l) ≡ false
+abbrev pub AsksHeader : ℕ → List ℕ → List ℕ → Option HeaderRow → Type 0
+AsksHeader most l held (Some q) = Reads most (header_of l) held q.cap (q.row ∷ q.region ∷ q.speed ∷ []) q.n q.end
+AsksHeader most l held None = readable most (length held) (header_of l) ≡ false
 
-abbrev pub AsksCommand : ℕ → List ℕ → List ℕ → CommandAsked → Type 0
-AsksCommand most l held (command.Is q) = Reads most (command_of l) held q.cap (q.row ∷ cond q.by_position 1 0 ∷ []) q.n q.end
-AsksCommand most l held command.Not = readable most (length held) (command_of l) ≡ false
+abbrev pub AsksCommand : ℕ → List ℕ → List ℕ → Option CommandRow → Type 0
+AsksCommand most l held (Some q) = Reads most (command_of l) held q.cap (q.row ∷ cond q.by_position 1 0 ∷ []) q.n q.end
+AsksCommand most l held None = readable most (length held) (command_of l) ≡ false

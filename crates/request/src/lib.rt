@@ -6,7 +6,7 @@ pub mod row;
 ghost use Rattle.std.specs.Prelude.{◌≡◌};
 ghost use Rattle.request.specs.Request.{leading_of, two_of, digit_of, pairs_of, bytes_of, Decodes, first_of, second_of, DecodesBoth};
 
-use numerals::numbers::{Value, read_value};
+use numerals::numbers::read_value;
 use readers::line_fields::find_field;
 use text::{find, is_missing};
 
@@ -41,31 +41,10 @@ pub enum Word {
     Unknown,
 }
 
-// What words say of which the first is a number and others follow it: the number, and where the others start.
-#[derive(Clone, Copy)]
-pub enum Leading {
-    Is(u64, usize),
-    Not,
-}
-
 // What words say of which the first two are numbers and others follow them: the numbers, and where the others start.
 #[derive(Clone, Copy)]
 pub enum Two {
     Are(u64, u64, usize),
-    Not,
-}
-
-// What a word says as bytes: how many, all of them decoded.
-#[derive(Clone, Copy)]
-pub enum Bytes {
-    Are(usize),
-    Not,
-}
-
-// What two words say as bytes, the second's behind the first's: where the second's start and end, all of them decoded.
-#[derive(Clone, Copy)]
-pub enum Both {
-    Are(usize, usize),
     Not,
 }
 
@@ -112,27 +91,27 @@ pub fn word_of(word: &[u8]) -> Word {
 }
 
 // The number that words start with, and where the others start.
-pub fn read_leading(words: &[u8]) -> Leading
+pub fn read_leading(words: &[u8]) -> Option<(u64, usize)>
     ensures { result ≡ leading_of words.now }
 {
     let e = find(words, b' ');
     if e == words.len() {
-        return Leading::Not;
+        return None;
     }
-    let Value::Is(n) = read_value(&words[..e]) else {
-        return Leading::Not;
+    let Some(n) = read_value(&words[..e]) else {
+        return None;
     };
-    Leading::Is(n, e + 1)
+    Some((n, e + 1))
 }
 
 // The two numbers that words start with, and where the others start.
 pub fn read_two(words: &[u8]) -> Two
     ensures { result ≡ two_of words.now }
 {
-    let Leading::Is(first, at) = read_leading(words) else {
+    let Some((first, at)) = read_leading(words) else {
         return Two::Not;
     };
-    let Leading::Is(second, from) = read_leading(&words[at..]) else {
+    let Some((second, from)) = read_leading(&words[at..]) else {
         return Two::Not;
     };
     Two::Are(first, second, at + from)
@@ -158,58 +137,58 @@ fn read_digit(b: u8) -> u8
 }
 
 // The bytes that pairs of hex digits say.
-fn read_pairs(word: &[u8], bytes: &mut [u8]) -> Bytes
+fn read_pairs(word: &[u8], bytes: &mut [u8]) -> Option<usize>
     ensures { Decodes (pairs_of word.now) bytes.new result }
 {
     let n = word.len() / 2;
     if word.len() != n * 2 {
-        return Bytes::Not;
+        return None;
     }
     if bytes.len() < n {
-        return Bytes::Not;
+        return None;
     }
     let mut i = 0;
     while i < n {
         let high = read_digit(word[i * 2]);
         if 16 <= high {
-            return Bytes::Not;
+            return None;
         }
         let low = read_digit(word[i * 2 + 1]);
         if 16 <= low {
-            return Bytes::Not;
+            return None;
         }
         bytes[i] = high * 16 + low;
         i += 1;
     }
-    Bytes::Are(n)
+    Some(n)
 }
 
 // The bytes that a word says: pairs of hex digits, or `-` for none. More bytes than the buffer holds are not decoded.
-pub fn read_bytes(word: &[u8], bytes: &mut [u8]) -> Bytes
+pub fn read_bytes(word: &[u8], bytes: &mut [u8]) -> Option<usize>
     ensures { Decodes (bytes_of word.now) bytes.new result }
 {
     if word.len() == 0 {
-        return Bytes::Not;
+        return None;
     }
     if is_missing(word) {
-        return Bytes::Are(0);
+        return Some(0);
     }
     read_pairs(word, bytes)
 }
 
 // The bytes that two words say. They have to have room in the buffer together.
-pub fn read_both(words: &[u8], bytes: &mut [u8]) -> Both
+pub fn read_both(words: &[u8], bytes: &mut [u8]) -> Option<(usize, usize)>
     ensures { DecodesBoth (first_of words.now) (second_of words.now) bytes.new result }
 {
     let e = find(words, b' ');
     if e == words.len() {
-        return Both::Not;
+        return None;
     }
-    let Bytes::Are(n) = read_bytes(&words[..e], bytes) else {
-        return Both::Not;
+    let Some(n) = read_bytes(&words[..e], bytes) else {
+        return None;
     };
-    let Bytes::Are(m) = read_bytes(&words[e + 1..], &mut bytes[n..]) else {
-        return Both::Not;
+    let Some(m) = read_bytes(&words[e + 1..], &mut bytes[n..]) else {
+        return None;
     };
-    Both::Are(n, n + m)
+    Some((n, n + m))
 }

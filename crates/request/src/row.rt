@@ -1,7 +1,7 @@
 // The words of a request for a row of a header or of a command: numbers, and then the bytes of a definition text and of what is read by it.
 ghost use Rattle.request.specs.Row.{AsksHeader, AsksCommand};
 
-use crate::{Both, Leading, Two, read_both, read_leading, read_two};
+use crate::{Two, read_both, read_leading, read_two};
 
 // A row of a header: how much room is asked for, its number, the region and the speed, where the MPDU starts behind the text, and where it ends.
 #[derive(Clone, Copy)]
@@ -14,12 +14,6 @@ pub struct HeaderRow {
     pub end: usize,
 }
 
-#[derive(Clone, Copy)]
-pub enum HeaderAsked {
-    Is(HeaderRow),
-    Not,
-}
-
 // A row of a command: how much room is asked for, its number, how offsets are read, where the payload starts behind the text, and where it ends.
 #[derive(Clone, Copy)]
 pub struct CommandRow {
@@ -30,30 +24,24 @@ pub struct CommandRow {
     pub end: usize,
 }
 
-#[derive(Clone, Copy)]
-pub enum CommandAsked {
-    Is(CommandRow),
-    Not,
-}
-
 // `CAP ROW REGION SPEED TEXT MPDU`, where CAP is at most so much
-pub fn read_header_row(words: &[u8], most: u64, bytes: &mut [u8]) -> HeaderAsked
+pub fn read_header_row(words: &[u8], most: u64, bytes: &mut [u8]) -> Option<HeaderRow>
     ensures { AsksHeader most words.now bytes.new result }
 {
     let Two::Are(cap, row, at) = read_two(words) else {
-        return HeaderAsked::Not;
+        return None;
     };
     if most < cap {
-        return HeaderAsked::Not;
+        return None;
     }
     let others = &words[at..];
     let Two::Are(region, speed, from) = read_two(others) else {
-        return HeaderAsked::Not;
+        return None;
     };
-    let Both::Are(n, end) = read_both(&others[from..], bytes) else {
-        return HeaderAsked::Not;
+    let Some((n, end)) = read_both(&others[from..], bytes) else {
+        return None;
     };
-    HeaderAsked::Is(HeaderRow {
+    Some(HeaderRow {
         cap: cap as usize,
         row: row as usize,
         region,
@@ -64,26 +52,26 @@ pub fn read_header_row(words: &[u8], most: u64, bytes: &mut [u8]) -> HeaderAsked
 }
 
 // `MODE CAP ROW TEXT PAYLOAD`, where CAP is at most so much and MODE is 0, or 1 for offsets by position
-pub fn read_command_row(words: &[u8], most: u64, bytes: &mut [u8]) -> CommandAsked
+pub fn read_command_row(words: &[u8], most: u64, bytes: &mut [u8]) -> Option<CommandRow>
     ensures { AsksCommand most words.now bytes.new result }
 {
-    let Leading::Is(mode, at) = read_leading(words) else {
-        return CommandAsked::Not;
+    let Some((mode, at)) = read_leading(words) else {
+        return None;
     };
     if 1 < mode {
-        return CommandAsked::Not;
+        return None;
     }
     let others = &words[at..];
     let Two::Are(cap, row, from) = read_two(others) else {
-        return CommandAsked::Not;
+        return None;
     };
     if most < cap {
-        return CommandAsked::Not;
+        return None;
     }
-    let Both::Are(n, end) = read_both(&others[from..], bytes) else {
-        return CommandAsked::Not;
+    let Some((n, end)) = read_both(&others[from..], bytes) else {
+        return None;
     };
-    CommandAsked::Is(CommandRow {
+    Some(CommandRow {
         cap: cap as usize,
         row: row as usize,
         by_position: mode == 1,

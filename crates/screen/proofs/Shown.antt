@@ -17,12 +17,12 @@ use Rattle.frame.specs.Frame.{region_bits, rules_of, is_frame, frame_of, directi
 use Rattle.frame.proofs.Ranges.{Bytes, bytes_take, bytes_drop, Small, small}
 use Rattle.refusal.specs.declared.Refusal.{Refusal}
 use Rattle.refusal.specs.declared.Refusal.TheVariants.{TooLong, MoreRows, Firmware}
-use Rattle.pti.specs.declared.payload.Frames.TheVariants.{Rows, Refused}
 use Rattle.pti.specs.Payload.{row_width, row_of, rows_in, rows_of, Parses}
 use Rattle.pti.proofs.Laws.{wide}
 use Rattle.screen.specs.declared.FrameRecord.{FrameRecord}
 use Rattle.screen.specs.Screen.{record_of, records_of, Filled, shown_of, shown_in}
 use Rattle.screen.proofs.Laws.{fillable_all}
+use Rattle.std.specs.Prelude.{Ok, Err}
 
 -- one row, whatever stands behind it
 shown-row : (number body n : ℕ) (f : PtiFrame) (more : List ℕ) → Small n f → record_of (row_of number body f ++ more) ≡ shown_of number body f
@@ -77,7 +77,7 @@ module _ (w : Rules) (s : List ℕ) (narrow : w.width ≤ 5) (all : Bytes s) whe
           (small w (bytes_of s b) narrow (part_bytes b) e) in
           λ i. first i ∷ ih i
 
-answered : (u a b : Bool) (k n : ℕ) (x y z : Refusal) → Rows n ≡ cond u (Refused z) (cond a (cond b (Rows k) (Refused x)) (Refused y))
+answered : (u a b : Bool) (k n : ℕ) (x y z : Refusal) → Ok n ≡ cond u (Err z) (cond a (cond b (Ok k) (Err x)) (Err y))
     → (n ≡ k) × (a ≡ true)
 answered true a b k n x y z e = (cc, cc)
 answered false true true k n x y z e = (cc, refl)
@@ -94,7 +94,7 @@ narrow_bits firmware = go (eqb firmware 2) (eqb firmware 3)
 
 -- `parse_payload` and `fill_frames`, one after the other: the records are the payload's frames, and behind them what stood there
 pub shown : (firmware : ℕ) (reading : Reading) (s t t' : List ℕ) (n m : ℕ) (entry exit : List FrameRecord) → Bytes s
-    → Parses firmware reading s t (Rows n) t' → Filled t' n entry m exit → n ≤ length entry
+    → Parses firmware reading s t (Ok n) t' → Filled t' n entry m exit → n ≤ length entry
     → (m ≡ n) × (exit ≡ shown_in (rules_of firmware reading) s 0 (bodies s) ++ drop n entry)
 shown firmware reading s t t' n m entry exit all parses fills room =
     let w = rules_of firmware reading in

@@ -3,13 +3,12 @@ use crate::command_page::{put_command, put_short, put_title, put_unknown};
 use crate::frame_page::{put_header, put_heard, put_refused};
 use command::{Params, decode_params, offsets_by};
 use command_part::command_part;
-use files::folder::{Loaded, load, load_command};
+use files::folder::{load, load_command};
 use files::input::{File, Reader};
-use files::options::{Asked, Options};
+use files::options::Options;
 use frame_search::{Aim, Hit, Search, fail_number, read_number, search_capture};
-use header::{Decoded, MOST_NUMBERS, decode_header};
+use header::{MOST_NUMBERS, decode_header};
 use output::outcome::{fail, fail_capture, fail_file};
-use readers::numeral::Numeral;
 use readers::region::frame_code;
 use screen::FrameRecord;
 use std::num::wrapping_sub_u64;
@@ -52,8 +51,7 @@ fn show_line(
     }
     let place = put_title(out, at, readers::catalog::name(line), options.colour);
     let mut text = io::large_buffer();
-    let Loaded::Bytes(n) = load_command(rt, options.folder, readers::catalog::file(line), &mut text)
-    else {
+    let Some(n) = load_command(rt, options.folder, readers::catalog::file(line), &mut text) else {
         flush(out, place);
         fail(b"");
         return;
@@ -76,7 +74,7 @@ fn show_command(
         return;
     }
     let mut index = io::large_buffer();
-    let Loaded::Bytes(n) = load_command(rt, options.folder, b"index.txt", &mut index) else {
+    let Some(n) = load_command(rt, options.folder, b"index.txt", &mut index) else {
         flush(out, at);
         fail(b"");
         return;
@@ -98,12 +96,12 @@ fn show_mpdu(
 ) {
     let mut rows = [0u64; MOST_NUMBERS];
     match decode_header(text, mpdu, frame_code(region), rate, &mut rows) {
-        Decoded::Header(header) => {
+        Ok(header) => {
             let place = put_header(out, at, text, mpdu, header, &rows, options);
             let bytes = command_part(mpdu, header.payload, rate);
             show_command(rt, bytes, out, place, options);
         }
-        Decoded::Refused(refusal) => {
+        Err(refusal) => {
             let place = put_refused(out, at, refusal, options.colour);
             flush(out, place);
             output::outcome::refuse(refusal);
@@ -126,7 +124,7 @@ fn show_named(
         return;
     }
     let mut text = io::large_buffer();
-    let Loaded::Bytes(n) = load(rt, options.folder, b"frames.txt", &mut text) else {
+    let Some(n) = load(rt, options.folder, b"frames.txt", &mut text) else {
         flush(out, at);
         fail(b"");
         return;
@@ -187,7 +185,7 @@ fn open_and_show(rt: &(impl Env + Files + Input), number: u64, options: Options)
 
 // `tap show FILE N`.
 pub fn show_frame(rt: &(impl Env + Files + Input)) {
-    let Asked::Options(options) = files::options::read(
+    let Some(options) = files::options::read(
         rt,
         2,
         b"--definitions\t--plain\t--colour\t--picture\t--progress\t--records\t--firmware\t--beams\t--by-position",
@@ -195,7 +193,7 @@ pub fn show_frame(rt: &(impl Env + Files + Input)) {
     ) else {
         return;
     };
-    let Numeral::Is(number) = read_number(rt, options.second) else {
+    let Some(number) = read_number(rt, options.second) else {
         fail(b"tap: the number of a frame is a decimal number from 1\n");
         return;
     };

@@ -1,26 +1,23 @@
 // Values of rows of a table as people read them, on their way to standard output. A row that is not there, or a text that isn't accepted, has none.
 #![tactic(auto)]
 
-ghost use Rattle.std.specs.Prelude.{◌≡◌};
-ghost use Rattle.text.specs.declared.Verdict.TheVariants.{Accepted};
+ghost use Rattle.std.specs.Prelude.{◌≡◌, Ok};
 ghost use Rattle.frame_text.specs.Rules.{verdict};
 
-use buffer::Written;
 use command_rows::read_row;
 use command_text::check_command_text;
 use frame_text::check_frame_text;
-use refusal::MOST_FRAME;
-use text::Verdict;
+use refusal::{MOST_FRAME, Refusal};
 use writer::{Buffer, put};
 
 // Room for every value: 2,048 bytes of ascii, each of which may become three.
 pub const MOST: usize = 6144;
 
 // How many bytes are written; none where a value is refused.
-fn length_of(written: Written) -> usize {
+fn length_of(written: Result<usize, Refusal>) -> usize {
     match written {
-        Written::Length(n) => n,
-        Written::Refused(_) => 0,
+        Ok(n) => n,
+        Err(_) => 0,
     }
 }
 
@@ -34,7 +31,7 @@ fn put_first(out: &mut Buffer, at: usize, value: &[u8], n: usize) -> usize {
 
 // The value of row i of a header, by an accepted text, and how many bytes it has.
 pub fn show_field(text: &[u8], mpdu: &[u8], rows: &[u64], i: usize, value: &mut [u8]) -> usize
-    requires { verdict text.now ≡ Accepted }
+    requires { verdict text.now ≡ Ok tt }
 {
     if MOST_FRAME < mpdu.len() {
         return 0;
@@ -48,8 +45,8 @@ pub fn show_field(text: &[u8], mpdu: &[u8], rows: &[u64], i: usize, value: &mut 
 // The same by any text.
 fn show_checked(text: &[u8], mpdu: &[u8], rows: &[u64], i: usize, value: &mut [u8]) -> usize {
     match check_frame_text(text) {
-        Verdict::Accepted => show_field(text, mpdu, rows, i, value),
-        Verdict::Refused(_) => 0,
+        Ok(()) => show_field(text, mpdu, rows, i, value),
+        Err(_) => 0,
     }
 }
 
@@ -76,13 +73,8 @@ fn show_param(text: &[u8], payload: &[u8], rows: &[u64], i: usize, value: &mut [
         return 0;
     }
     match check_command_text(text) {
-        Verdict::Accepted => length_of(command_value::row_value(
-            text,
-            payload,
-            read_row(rows, i),
-            value,
-        )),
-        Verdict::Refused(_) => 0,
+        Ok(()) => length_of(command_value::row_value(text, payload, read_row(rows, i), value)),
+        Err(_) => 0,
     }
 }
 

@@ -1,7 +1,6 @@
 -- Laws of sorting H blocks, a function at a time. Assumes nothing.
 use mathlib.Core.Path.{◌≡◌, refl, sym, ap, ◌∙◌, subst}
 use mathlib.Core.Bool.{Bool, true, false, cond, ◌||◌}
-use mathlib.Core.Option.{Option}
 use mathlib.Core.List.{List, [], ◌∷◌, ◌++◌, append-nil, append_assoc}
 use Prim.Native.Nat.{ℕ, ◌+◌, ◌-◌, ◌≤◌, ◌<◌, ◌^◌}
 use native.Mathlib.Omega.{arith}
@@ -17,16 +16,12 @@ use Rattle.laws.proofs.Lists.{next, done, tail}
 use Rattle.refusal.specs.declared.Refusal.{Refusal}
 use Rattle.refusal.specs.declared.Refusal.TheVariants.{MoreBytes}
 use Rattle.buffer.specs.Buffer.{Writes}
-use Rattle.buffer.specs.declared.Written.{Written}
-use Rattle.buffer.specs.declared.Written.TheVariants.{Length, Refused}
 use Rattle.buffer.proofs.Laws.{sets-append, writes_short, writes_room}
 use Rattle.text.specs.Text.{field, fields, lines}
 use Rattle.text.specs.Scan.{cut}
 use Rattle.text.specs.Judge.{Checks}
 use Rattle.text.specs.Print.{Every}
 use Rattle.text.proofs.Laws.{front_count}
-use Rattle.text.specs.declared.Verdict.{Verdict}
-use Rattle.text.specs.declared.Verdict.TheVariants.{Accepted, Refused as NotAccepted}
 use Rattle.frame_text.specs.Form.{Record}
 use Rattle.frame_text.specs.Rules.{rules, verdict}
 use Rattle.frame_definition.proofs.Finding.{owner_laws}
@@ -38,6 +33,7 @@ use Rattle.sorting.specs.declared.Chosen.{Chosen}
 use Rattle.reorder.proofs.Sorted.{sort_length}
 use Rattle.sorting.proofs.Places.{stepped, between_start, reaches_first, reaches_end, reaches_owner, reaches_more}
 use Rattle.sorting.proofs.Texts.{sorted_every, headers_64, sorted_is, sorted-long}
+use Rattle.std.specs.Prelude.{Option, Result, Ok, Err}
 
 -- ---- names
 pub up_done : (a b : List ℕ) (i : ℕ) → up_to a b ≡ up_to (drop i a) (drop i b) → length a ≤ i → true ≡ up_to a b
@@ -221,7 +217,7 @@ pub record Collecting (t a : List ℕ) (at n : ℕ) : Type 0 where
   pub inside : n ≤ length a
   pub between : Between t at
 
-pub collecting_starts : (t a : List ℕ) → verdict t ≡ Accepted → length a ≡ 64 → Collecting t a 0 0
+pub collecting_starts : (t a : List ℕ) → verdict t ≡ Ok tt → length a ≡ 64 → Collecting t a 0 0
 collecting_starts t a v h = record { left = refl; few = headers_64 t v; size = h; inside = omega arith; between = between_start t v }
 
 module _ (t a : List ℕ) (at n : ℕ) (w : Collecting t a at n) where
@@ -312,7 +308,7 @@ pub record Placing (t starts b₀ b : List ℕ) (at out used : ℕ) : Type 0 whe
   pub between : Between t at
   pub others : Every (Starts t) (drop used starts)
 
-pub placing_starts : (t starts b : List ℕ) → verdict t ≡ Accepted → Every (Starts t) starts
+pub placing_starts : (t starts b : List ℕ) → verdict t ≡ Ok tt → Every (Starts t) starts
     → length (gathered t (placed (is_header t) starts (starts_at t 0))) ≤ length b → Placing t starts b b 0 0 0
 placing_starts t starts b v a l = record { left = refl; room = omega arith; same = refl; between = between_start t v; others = a }
 
@@ -361,7 +357,7 @@ sorted_back t a ys n c e =
       inside = let s = length-append ys (drop n a) in omega (arith, s, size);
     }
 
-module _ (t a : List ℕ) (n : ℕ) (v : verdict t ≡ Accepted) (c : CollectsSorted t a n) where
+module _ (t a : List ℕ) (n : ℕ) (v : verdict t ≡ Ok tt) (c : CollectsSorted t a n) where
   pub sorted_starts : Every (Starts t) (take n a)
   sorted_starts = subst (Every (Starts t)) (sym c.first) (sorted_every t v)
 
@@ -372,23 +368,23 @@ module _ (t a : List ℕ) (n : ℕ) (v : verdict t ≡ Accepted) (c : CollectsSo
   sorted-room b h = let e = ap length placed_is in omega (arith, e, sorted-long t v)
 
   pub sorted_writes : (b b' : List ℕ) (size : ℕ) → size ≡ length t → size ≤ length b
-      → b' ≡ sets b 0 (gathered t (placed (is_header t) (take n a) (starts_at t 0))) → Writes (sorted_text t) b (Length size) b'
+      → b' ≡ sets b 0 (gathered t (placed (is_header t) (take n a) (starts_at t 0))) → Writes (sorted_text t) b (Ok size) b'
   sorted_writes b b' size e h f = writes_room (sorted_text t) b size (e ∙ sym (sorted-long t v)) b' (f ∙ ap (sets b 0) (sym placed_is)) h
 
-pub sorted-short : (t b : List ℕ) (size : ℕ) → verdict t ≡ Accepted → size ≡ length t → length b < size
-    → Writes (sorted_text t) b (Refused (MoreBytes size)) b
+pub sorted-short : (t b : List ℕ) (size : ℕ) → verdict t ≡ Ok tt → size ≡ length t → length b < size
+    → Writes (sorted_text t) b (Err (MoreBytes size)) b
 sorted-short t b size v e h = writes_short (sorted_text t) b size (e ∙ sym (sorted-long t v)) h
 
-module _ (t b : List ℕ) (v : Verdict) (is : Checks rules t v) where
-  pub sorts_accepted : (r : Written) (b' : List ℕ) → v ≡ Accepted → Writes (sorted_text t) b r b' → Sorts t b r b'
+module _ (t b : List ℕ) (v : Result (Unit {0}) Refusal) (is : Checks rules t v) where
+  pub sorts_accepted : (r : Result ℕ Refusal) (b' : List ℕ) → v ≡ Ok tt → Writes (sorted_text t) b r b' → Sorts t b r b'
   sorts_accepted r b' e w =
       let n : length (sorted_text t) ≡ length t = sorted-long t (sym is.is ∙ e) in
       record { answer = w.answer ∙ rw (← is.is, e, n) refl; buffer = w.buffer }
 
-  pub sorts_refused : (x : Refusal) → v ≡ NotAccepted x → Sorts t b (Refused x) b
+  pub sorts_refused : (x : Refusal) → v ≡ Err x → Sorts t b (Err x) b
   sorts_refused x e = record { answer = rw (← is.is, e) refl; buffer = refl }
 
-  pub sorts_checked : v ≡ Accepted → verdict t ≡ Accepted
+  pub sorts_checked : v ≡ Ok tt → verdict t ≡ Ok tt
   sorts_checked e = sym is.is ∙ e
 
 pub ruleset whole_laws = (sorted_back, sorted_starts, sorted-room, sorted_writes, sorted-short, sorts_accepted, sorts_refused, sorts_checked)

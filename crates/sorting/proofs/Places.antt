@@ -2,7 +2,6 @@
 use mathlib.Core.Path.{◌≡◌, refl, sym, ap, ◌∙◌, subst}
 use mathlib.Core.Bool.{Bool, true, false, cond}
 use mathlib.Core.List.{List, [], ◌∷◌, ◌++◌, append_assoc, append-nil}
-use mathlib.Core.Option.{some}
 use Prim.Native.Nat.{ℕ, suc, ◌+◌, ◌-◌, ◌≤◌, ◌<◌}
 use native.Mathlib.Omega.{arith}
 use native.Mathlib.Nat.{add-zero}
@@ -16,7 +15,6 @@ use Rattle.text.specs.Text.{split, lines, fields}
 use Rattle.text.specs.Scan.{cut}
 use Rattle.text.specs.Records.{Readable}
 use Rattle.text.specs.declared.Place.{Place}
-use Rattle.text.specs.declared.Verdict.TheVariants.{Accepted, Refused}
 use Rattle.text.specs.Judge.{judge, sentence}
 use Rattle.text.proofs.Laws.{split-more, split-last}
 use Rattle.text.proofs.Judging.{split_some, judge_open, judge_line}
@@ -30,6 +28,7 @@ use Rattle.frame_definition.proofs.Finding.{some_letter, owner_kind_lem}
 use Rattle.reorder.specs.Blocks.{owns_more, until_next, ended, Line, says_of}
 use Rattle.reorder.proofs.Whole.{none_first}
 use Rattle.sorting.specs.Sorting.{lines_at, line_at, behind, starts_from, starts_at, bytes_of, first_section, section_bytes, Here, Between, Starts, Ends}
+use Rattle.std.specs.Prelude.{Some, Ok, Err}
 
 -- ---- lines of any text
 ended-more : (l : Line) (ms : List Line) → (ms ≡ [] → ⊥) → ended (l ∷ ms) ≡ l ∷ ended ms
@@ -74,7 +73,7 @@ line_long t p h = length-take-le (cut 10 (drop p t)) (drop p t) (omega arith)
 -- ---- a line of an accepted text
 pub record Stepped (t : List ℕ) (p : ℕ) : Type 0 where
   pub said : Record
-  pub says : says_of (line_at t p) ≡ some said
+  pub says : says_of (line_at t p) ≡ Some said
   pub byte : get_or t p 0 ≡ letter said
   pub is_ended : cut 0x0a (drop p t) < length (drop p t)
   pub within : behind t p ≤ length t
@@ -94,7 +93,7 @@ module _ (t : List ℕ) (π : Place) (readable : Readable rules t π) (inside : 
       go true q = ltb-true (cut 10 here) (length here) q
       go false q =
           let c : cut 10 here ≡ length here = omega (arith, ltb-false (cut 10 here) (length here) q, cut-within here) in
-          let z : Refused (Form π.line) ≡ Accepted =
+          let z : Err (Form π.line) ≡ (Ok tt) =
           sym (judge_open rules readable.before π.line here long) ∙ (rw (split-last 10 here c) at readable.good) in
           absurd (let w : ◌≡◌ {A = ℕ} 0 1 = cc in omega arith)
 
@@ -142,7 +141,7 @@ stepped t p h inside =
     subst (Stepped t) h.at_is (stepped_at t h.place h.readable (subst (λ (k : ℕ). k < length t) (sym h.at_is) inside))
 
 -- ---- the text's start
-pub between_start : (t : List ℕ) → verdict t ≡ Accepted → Between t 0
+pub between_start : (t : List ℕ) → verdict t ≡ Ok tt → Between t 0
 between_start t v =
     record {
       here = record { place = record { at = 0; line = 1 }; at_is = refl; readable = readable-start rules t (record { at = 0; line = 1 }) v refl };

@@ -2,7 +2,6 @@
 use mathlib.Core.Path.{◌≡◌, refl, sym, ap, ◌∙◌, subst}
 use mathlib.Core.Bool.{Bool, true, false, cond}
 use mathlib.Core.List.{List, [], ◌∷◌, ◌++◌, map, append_assoc}
-use mathlib.Core.Option.{Option, none, some}
 use Prim.Native.Nat.{ℕ, suc, ◌+◌, ◌≤◌, ◌<◌}
 use native.Mathlib.Omega.{arith}
 use lib.Dec.{eqb, ltb}
@@ -13,7 +12,6 @@ use Rattle.text.specs.Text.{lines, fields}
 use Rattle.text.specs.Scan.{cut}
 use Rattle.text.specs.Records.{onto, records}
 use Rattle.text.specs.Print.{joined, Every}
-use Rattle.text.specs.declared.Verdict.TheVariants.{Accepted}
 use Rattle.text.proofs.Laws.{split-last}
 use Rattle.frame_text.specs.Form.{Record, form}
 use Rattle.frame_text.specs.Rules.{letter, count, verdict}
@@ -26,6 +24,7 @@ use Rattle.sorting.specs.Sorting.{lines_at, line_at, behind, earlier, is_header,
 use Rattle.sorting.specs.Sorting.{gathered, Here, Starts}
 use Rattle.sorting.proofs.Lists.{only-map, sort_map, placed-map, only_every, sort_every, placed_every}
 use Rattle.sorting.proofs.Places.{cut-within, lines_more, line_long, stepped, between_start}
+use Rattle.std.specs.Prelude.{Option, Some, None, Ok}
 
 -- ---- bytes of lines
 bytes-joined : (ls : List Line) → joined 0x0a (ls ++ ([] ∷ [])) ≡ bytes_of ls
@@ -177,11 +176,11 @@ tally-count (l ∷ m ∷ ms) = go (form (fields l)) (tally-count (m ∷ ms))
   where
     go : (x : Option Record) → tally says_of 0x48 (ended (m ∷ ms)) ≡ count 0x48 (records form (m ∷ ms))
         → more 0x48 x (tally says_of 0x48 (ended (m ∷ ms))) ≡ count 0x48 (onto x (records form (m ∷ ms)))
-    go none ih = ih
-    go (some r) ih = ap (λ (k : ℕ). cond (eqb (letter r) 0x48) (suc k) k) ih
+    go None ih = ih
+    go (Some r) ih = ap (λ (k : ℕ). cond (eqb (letter r) 0x48) (suc k) k) ih
 
 -- ---- of an accepted text
-module _ (t : List ℕ) (v : verdict t ≡ Accepted) where
+module _ (t : List ℕ) (v : verdict t ≡ Ok tt) where
   abbrev pub headers : List ℕ
   headers = only (is_header t) (starts_at t 0)
 

@@ -1,8 +1,7 @@
 -- O6 and O7 (docs/RULES.md): a frame text with its H blocks sorted by name, written into a lent buffer; and the places in the text that this is done by.
-use Rattle.std.specs.Prelude.{ℕ, suc, ◌+◌, ◌-◌, ◌≤◌, ◌<◌, Bool, cond, ◌≡◌, List, [], ◌∷◌, ◌++◌, eqb, length, take, drop}
+use Rattle.std.specs.Prelude.{ℕ, suc, ◌+◌, ◌-◌, ◌≤◌, ◌<◌, Bool, cond, ◌≡◌, List, [], ◌∷◌, ◌++◌, eqb, length, take, drop, Result}
 use Rattle.std.proofs.lemmas.List.Edits.{sets}
 use Rattle.buffer.specs.Buffer.{answer_in, answer_by, buffer_after}
-use Rattle.buffer.specs.declared.Written.{Written}
 use Rattle.text.specs.Text.{lines, field, fields}
 use Rattle.text.specs.Scan.{cut}
 use Rattle.text.specs.Print.{Every}
@@ -13,11 +12,12 @@ use Rattle.frame_text.specs.Rules.{rules, verdict}
 use Rattle.reorder.specs.Blocks.{only, letter_of, owns_more, until_next, ended, Line, says_of}
 use Rattle.reorder.specs.Sorted.{up_to, sort_by, placed, sorted_text}
 use Rattle.sorting.specs.declared.Chosen.{Chosen}
+use Rattle.refusal.specs.declared.Refusal.{Refusal}
 
 -- ---- the answer
 
 -- O6, R10: what `sort_headers` answers for any text, and leaves in the buffer b
-pub record Sorts (t b : List ℕ) (r : Written) (b' : List ℕ) : Type 0 where
+pub record Sorts (t b : List ℕ) (r : Result ℕ Refusal) (b' : List ℕ) : Type 0 where
   pub answer : r ≡ answer_by (verdict t) (answer_in (length t) (length b))
   pub buffer : b' ≡ buffer_after (sorted_text t) b r
 

@@ -2,22 +2,21 @@
 // before it is written.
 #![tactic(auto)]
 
-ghost use Rattle.std.specs.Prelude.{◌≡◌, ◌++◌, ◌+◌, ◌≤◌, ◌<◌, length, get_or, take, drop};
+ghost use Rattle.std.specs.Prelude.{◌≡◌, ◌++◌, ◌+◌, ◌≤◌, ◌<◌, length, get_or, take, drop, Ok};
 ghost use Rattle.std.proofs.lemmas.List.Edits.{sets};
 ghost use Rattle.buffer.specs.Buffer.{Writes};
 ghost use Rattle.text.specs.Print.{Every};
-ghost use Rattle.text.specs.declared.Verdict.TheVariants.{Accepted};
 ghost use Rattle.frame_text.specs.Rules.{verdict};
 ghost use Rattle.frame_definition.specs.Find.{owner_kind};
 ghost use Rattle.reorder.specs.Sorted.{up_to, insert_by, sort_by, placed, sorted_text};
 ghost use Rattle.sorting.specs.Sorting.{name_at, behind, earlier, is_header, starts_at, section_bytes, gathered, Here, Starts, Ends, Chooses};
 ghost use Rattle.sorting.specs.Sorting.{Puts, Collects, CollectsSorted, Sorts};
 
-use buffer::{Written, put};
+use buffer::put;
 use frame_text::check_frame_text;
 use readers::line_fields::field_of;
 use refusal::Refusal;
-use text::{Verdict, find};
+use text::find;
 
 // The H lines that a frame text has at most.
 const HEADERS: usize = 64;
@@ -142,7 +141,7 @@ fn put_section(text: &[u8], start: usize, buffer: &mut [u8], out: usize) -> usiz
 
 // Where the blocks begin, in the order of the text; answers how many there are.
 fn collect(text: &[u8], starts: &mut [usize]) -> usize
-    requires { (verdict text.now ≡ Accepted) × (length starts.old ≡ 64) }
+    requires { (verdict text.now ≡ Ok tt) × (length starts.old ≡ 64) }
     ensures { Collects text.now starts.new result }
 {
     let mut n = 0;
@@ -162,7 +161,7 @@ fn collect(text: &[u8], starts: &mut [usize]) -> usize
 
 // The same, sorted.
 fn collect_sorted(text: &[u8], starts: &mut [usize]) -> usize
-    requires { (verdict text.now ≡ Accepted) × (length starts.old ≡ 64) }
+    requires { (verdict text.now ≡ Ok tt) × (length starts.old ≡ 64) }
     ensures { CollectsSorted text.now starts.new result }
 {
     let n = collect(text, starts);
@@ -195,7 +194,7 @@ fn choose(text: &[u8], starts: &[usize], used: usize, at: usize) -> Chosen
 
 // Writes the sections of the text with these blocks, one after the other, in the places of blocks.
 fn write_placed(text: &[u8], starts: &[usize], buffer: &mut [u8])
-    requires text_value { (verdict text.now ≡ Accepted) × Every (Starts text.now) starts.now }
+    requires text_value { (verdict text.now ≡ Ok tt) × Every (Starts text.now) starts.now }
     requires text_in_bounds { length (gathered text.now (placed (is_header text.now) starts.now (starts_at text.now 0))) ≤ length buffer.old }
     ensures { buffer.new ≡ sets buffer.old 0
         (gathered text.now (placed (is_header text.now) starts.now (starts_at text.now 0))) }
@@ -213,27 +212,27 @@ fn write_placed(text: &[u8], starts: &[usize], buffer: &mut [u8])
 }
 
 // Writes an accepted text sorted, if there is room.
-fn sort_within(text: &[u8], buffer: &mut [u8]) -> Written
-    requires { verdict text.now ≡ Accepted }
+fn sort_within(text: &[u8], buffer: &mut [u8]) -> Result<usize, Refusal>
+    requires { verdict text.now ≡ Ok tt }
     ensures { Writes (sorted_text text.now) buffer.old result buffer.new }
 {
     let size = text.len();
     if buffer.len() < size {
-        return Written::Refused(Refusal::MoreBytes(size));
+        return Err(Refusal::MoreBytes(size));
     }
     let mut starts = [0usize; HEADERS];
     let n = collect_sorted(text, &mut starts);
     write_placed(text, &starts[..n], buffer);
-    Written::Length(size)
+    Ok(size)
 }
 
 // Writes a frame text into the buffer with its H blocks sorted by name, and answers its length, or refuses. A refusal writes nothing, an answer nothing past
 // the text's length.
-pub fn sort_headers(text: &[u8], buffer: &mut [u8]) -> Written
+pub fn sort_headers(text: &[u8], buffer: &mut [u8]) -> Result<usize, Refusal>
     ensures { Sorts text.now buffer.old result buffer.new }
 {
     match check_frame_text(text) {
-        Verdict::Accepted => sort_within(text, buffer),
-        Verdict::Refused(refusal) => Written::Refused(refusal),
+        Ok(()) => sort_within(text, buffer),
+        Err(refusal) => Err(refusal),
     }
 }

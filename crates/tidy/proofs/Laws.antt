@@ -12,15 +12,12 @@ use borrow.Author.Tests.{eq-eqb, ne_eqb}
 use Rattle.laws.proofs.Lists.{next, done}
 use Rattle.refusal.specs.declared.Refusal.{Refusal}
 use Rattle.text.specs.Judge.{Checks}
-use Rattle.text.specs.declared.Verdict.{Verdict}
-use Rattle.text.specs.declared.Verdict.TheVariants.{Accepted, Refused as NotAccepted}
 use Rattle.buffer.specs.Buffer.{Writes}
-use Rattle.buffer.specs.declared.Written.{Written}
-use Rattle.buffer.specs.declared.Written.TheVariants.{Length, Refused}
 use Rattle.buffer.proofs.Laws.{writes_short, writes_room, length_by}
 use Rattle.command_text.specs.Rules.{rules, verdict}
 use Rattle.tidy.specs.Tidy.{tidy_byte, tidy_from, tidied, Tidies}
 use Rattle.tidy.proofs.TidiedText.{tidied-length}
+use Rattle.std.specs.Prelude.{Result, Ok, Err}
 
 -- ---- a byte
 module _ (first : Bool) (x : ℕ) where
@@ -73,15 +70,15 @@ pub ruleset write_laws = (tidying_starts, tidying_more, tidying_inside, tidying_
 pub as_long : (t : List ℕ) → length t ≡ length (tidied t)
 as_long t = sym (tidied-length t)
 
-module _ (t b : List ℕ) (v : Verdict) (is : Checks rules t v) where
-  pub tidies_accepted : (r : Written) (b' : List ℕ) → v ≡ Accepted → Writes (tidied t) b r b' → Tidies t b r b'
+module _ (t b : List ℕ) (v : Result (Unit {0}) Refusal) (is : Checks rules t v) where
+  pub tidies_accepted : (r : Result ℕ Refusal) (b' : List ℕ) → v ≡ Ok tt → Writes (tidied t) b r b' → Tidies t b r b'
   tidies_accepted r b' e w = record { answer = w.answer ∙ rw (← is.is, e); buffer = w.buffer }
 
-  pub tidies_refused : (x : Refusal) → v ≡ NotAccepted x → Tidies t b (Refused x) b
+  pub tidies_refused : (x : Refusal) → v ≡ Err x → Tidies t b (Err x) b
   tidies_refused x e = record { answer = rw (← is.is, e); buffer = refl }
 
 -- for callers: so many bytes stand in the buffer
-pub length-within : (t b : List ℕ) (r : Written) (b' : List ℕ) (n : ℕ) → Tidies t b r b' → r ≡ Length n → n ≤ length b'
+pub length-within : (t b : List ℕ) (r : Result ℕ Refusal) (b' : List ℕ) (n : ℕ) → Tidies t b r b' → r ≡ Ok n → n ≤ length b'
 length-within t b r b' n so e = length_by (verdict t) (tidied t) b (length (tidied t)) r b' n (λ z. refl) so.answer so.buffer e
 
 pub ruleset laws = (byte_laws, write_laws, as_long, writes_short, writes_room, tidies_accepted, tidies_refused)

@@ -2,7 +2,6 @@
 use mathlib.Core.Path.{◌≡◌, refl, sym, ap, ◌∙◌}
 use mathlib.Core.Bool.{Bool, true, false, cond, ◌&&◌}
 use mathlib.Core.List.{List, [], ◌∷◌}
-use mathlib.Core.Option.{Option, none, some}
 use Prim.Native.Nat.{ℕ, zero, suc, ◌<◌}
 use native.Mathlib.Omega.{arith}
 use lib.Dec.{eqb}
@@ -15,13 +14,13 @@ use Rattle.text.specs.Judge.{sentence, judge}
 use Rattle.text.specs.Records.{records}
 use Rattle.text.specs.Records as records
 use Rattle.text.specs.Print.{Every}
-use Rattle.text.specs.declared.Verdict.{Verdict}
-use Rattle.text.specs.declared.Verdict.TheVariants.{Refused}
 use Rattle.text.proofs.Judging.{split_some, judge_line}
 use Rattle.command_text.specs.Form.{Record, form}
 use Rattle.command_text.specs.Rules.{over, lost, rules, verdict}
 use Rattle.command_class.specs.Definition.{entries_at, definition}
 use Rattle.tidy.specs.Tidy.{tidy_byte, tidy_from, tidied}
+use Rattle.std.specs.Prelude.{Option, Some, None, Result, Err}
+use Rattle.refusal.specs.declared.Refusal.{Refusal}
 
 -- ---- bytes
 end_stays : (first : Bool) (x : ℕ) → eqb (tidy_byte first x) 10 ≡ eqb x 10
@@ -142,8 +141,8 @@ judge_stays before n (l ∷ m ∷ ms) =
     go : (x : Option Record) → ((r : Record) → judge rules (r ∷ before) (suc n) (tidy_lines (m ∷ ms)) ≡ judge rules (r ∷ before) (suc n) (m ∷ ms))
         → sentence rules before n x (λ r. judge rules (r ∷ before) (suc n) (tidy_lines (m ∷ ms)))
         ≡ sentence rules before n x (λ r. judge rules (r ∷ before) (suc n) (m ∷ ms))
-    go none ih = refl
-    go (some r) ih = ap (λ (v : Verdict). cond (over before r) (Refused (Limit n)) (cond (lost before r) (Refused (Owner n)) v)) (ih r)
+    go None ih = refl
+    go (Some r) ih = ap (λ (v : Result (Unit {0}) Refusal). cond (over before r) (Err (Limit n)) (cond (lost before r) (Err (Owner n)) v)) (ih r)
 
 -- U4: it has the verdict of the text, and a refusal the same line
 pub tidied-verdict : (t : List ℕ) → verdict (tidied t) ≡ verdict t

@@ -1,9 +1,9 @@
 -- U2 and U3 (docs/RULES.md): a command text without U lines.
-use Rattle.std.specs.Prelude.{ℕ, Bool, true, cond, ◌&&◌, ◌≡◌, List, [], ◌∷◌, eqb, length}
+use Rattle.std.specs.Prelude.{ℕ, Bool, true, cond, ◌&&◌, ◌≡◌, List, [], ◌∷◌, eqb, length, Result}
 use Rattle.buffer.specs.Buffer.{answer_in, answer_by, buffer_after}
-use Rattle.buffer.specs.declared.Written.{Written}
 use Rattle.command_text.specs.Letters.{letter_s, letter_u}
 use Rattle.command_text.specs.Rules.{verdict}
+use Rattle.refusal.specs.declared.Refusal.{Refusal}
 
 -- U2: a byte that is the first of its line, or not: a U with which a line begins becomes an S
 abbrev pub tidy_byte : Bool → ℕ → ℕ
@@ -19,6 +19,6 @@ unfoldable pub tidied : List ℕ → List ℕ
 tidied t = tidy_from true t
 
 -- U3, R10, R12: what `tidy_command_text` answers for any text, and leaves in the buffer b
-pub record Tidies (t b : List ℕ) (r : Written) (b' : List ℕ) : Type 0 where
+pub record Tidies (t b : List ℕ) (r : Result ℕ Refusal) (b' : List ℕ) : Type 0 where
   pub answer : r ≡ answer_by (verdict t) (answer_in (length (tidied t)) (length b))
   pub buffer : b' ≡ buffer_after (tidied t) b r

@@ -6,10 +6,8 @@ ghost use Rattle.std.proofs.lemmas.List.Edits.{sets};
 ghost use Rattle.buffer.specs.Buffer.{Writes};
 ghost use Rattle.tidy.specs.Tidy.{tidy_byte, tidied, Tidies};
 
-use buffer::Written;
 use command_text::check_command_text;
 use refusal::Refusal;
-use text::Verdict;
 
 // A byte of the tidied text. The byte `b` is the first of a line, or not.
 fn tidy_byte(first: bool, b: u8) -> u8
@@ -37,24 +35,24 @@ fn write_tidied(text: &[u8], buffer: &mut [u8])
 }
 
 // The same, if the buffer has room; else refusal 12.
-fn tidy_within(text: &[u8], buffer: &mut [u8]) -> Written
+fn tidy_within(text: &[u8], buffer: &mut [u8]) -> Result<usize, Refusal>
     ensures { Writes (tidied text.now) buffer.old result buffer.new }
 {
     let size = text.len();
     if buffer.len() < size {
-        return Written::Refused(Refusal::MoreBytes(size));
+        return Err(Refusal::MoreBytes(size));
     }
     write_tidied(text, buffer);
-    Written::Length(size)
+    Ok(size)
 }
 
 // Writes a command text into the buffer with each U line as an S line, and answers its length, or refuses. A refusal writes nothing, an answer nothing
 // past the text's length.
-pub fn tidy_command_text(text: &[u8], buffer: &mut [u8]) -> Written
+pub fn tidy_command_text(text: &[u8], buffer: &mut [u8]) -> Result<usize, Refusal>
     ensures { Tidies text.now buffer.old result buffer.new }
 {
     match check_command_text(text) {
-        Verdict::Accepted => tidy_within(text, buffer),
-        Verdict::Refused(refusal) => Written::Refused(refusal),
+        Ok(()) => tidy_within(text, buffer),
+        Err(refusal) => Err(refusal),
     }
 }

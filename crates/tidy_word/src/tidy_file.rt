@@ -1,5 +1,4 @@
 // The word `tidy`: a command text with S for U. The text is all of the output but its last line, which bin/tap takes off.
-use buffer::Written;
 use files::arguments::argument_count;
 use files::input::{File, Got, Reader, open_argument};
 use output::outcome::{fail, fail_file, refuse_text, succeed};
@@ -17,8 +16,8 @@ fn write_text(text: &[u8]) {
 
 fn tidy_text(name: &[u8], text: &[u8], buffer: &mut [u8]) {
     match tidy_command_text(text, buffer) {
-        Written::Length(n) => write_text(&buffer[..n]),
-        Written::Refused(refusal) => refuse_text(name, b"command", refusal),
+        Ok(n) => write_text(&buffer[..n]),
+        Err(refusal) => refuse_text(name, b"command", refusal),
     }
 }
 

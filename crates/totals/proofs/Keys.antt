@@ -2,7 +2,6 @@
 use mathlib.Core.Path.{◌≡◌, refl, ap, ◌∙◌, subst}
 use mathlib.Core.Bool.{Bool, true, false, cond, ◌&&◌}
 use mathlib.Core.List.{List, [], ◌∷◌, map}
-use mathlib.Core.Option.{Option, none, some}
 use Prim.Native.Nat.{ℕ, ◌/◌, ◌≤◌, ◌<◌}
 use native.Mathlib.Omega.{arith}
 use lib.Dec.{eqb, ltb}
@@ -14,8 +13,6 @@ use Rattle.refusal.specs.Refusal.{number_of}
 use Rattle.text.specs.Text.{lines, fields, field, worth, decimal, up_to}
 use Rattle.text.specs.Print.{Every}
 use Rattle.text.specs.Records.{onto, records}
-use Rattle.text.specs.declared.Verdict.{Verdict}
-use Rattle.text.specs.declared.Verdict.TheVariants as text
 use Rattle.frame_text.specs.Form as form
 use Rattle.frame_text.specs.Rules.{verdict}
 use Rattle.frame_definition.specs.Definition.{Frame, frames, definition, is_key, some?, candidates}
@@ -29,10 +26,10 @@ use Rattle.header_rules.specs.Told.{Heading, Told, no_base, no_candidate, more_r
 use Rattle.header_rules.proofs.Told.{told-says}
 use Rattle.header_rules.proofs.Run.{every_split}
 use Rattle.header.specs.declared.DecodedHeader.{DecodedHeader}
-use Rattle.header.specs.declared.Decoded.{Decoded}
-use Rattle.header.specs.declared.Decoded.TheVariants.{Header, Refused}
 use Rattle.header.specs.Decode.{of_told, judged, key_of, told_of, decoded, number_in}
 use Rattle.header.proofs.Says.{decodes}
+use Rattle.std.specs.Prelude.{Option, Some, None, Result, Ok, Err}
+use Rattle.refusal.specs.declared.Refusal.{Refusal}
 
 -- ---- the key of an H line
 abbrev Low : form.Record → Type 0
@@ -44,7 +41,7 @@ Low (form.validation path value) = Unit
 Low (form.set name) = Unit
 Low (form.entry key text) = Unit
 
-form-low : (fs : List (List ℕ)) (x : form.Record) → form.form fs ≡ some x → Low x
+form-low : (fs : List (List ℕ)) (x : form.Record) → form.form fs ≡ Some x → Low x
 form-low fs (form.frequency code key) e = tt
 form-low fs (form.base key) e = tt
 form-low fs (form.header h) e =
@@ -63,10 +60,10 @@ records-low [] = tt
 records-low (l ∷ []) = tt
 records-low (l ∷ m ∷ ms) = go (form.form (fields l)) (form-low (fields l)) (records-low (m ∷ ms))
   where
-    go : (o : Option form.Record) → ((x : form.Record) → o ≡ some x → Low x) → Every Low (records form.form (m ∷ ms))
+    go : (o : Option form.Record) → ((x : form.Record) → o ≡ Some x → Low x) → Every Low (records form.form (m ∷ ms))
         → Every Low (onto o (records form.form (m ∷ ms)))
-    go none low rest = rest
-    go (some x) low rest = (low x refl, rest)
+    go None low rest = rest
+    go (Some x) low rest = (low x refl, rest)
 
 -- ---- that of a candidate
 abbrev LowFrame : Frame → Type 0
@@ -111,34 +108,34 @@ chosen_low t d key h c =
     omega arith
 
 -- ---- and so that of an answer
-abbrev LowKey : Decoded → Type 0
-LowKey (Header h) = h.key < 256
-LowKey (Refused x) = Unit
+abbrev LowKey : Result DecodedHeader Refusal → Type 0
+LowKey (Ok h) = h.key < 256
+LowKey (Err x) = Unit
 
 decoded-low : (t d : List ℕ) (region speed n : ℕ) → LowKey (decoded t d region speed n)
 decoded-low t d region speed n =
     go (verdict t) (ltb 2048 (length d)) (ltb (length d) 2) (told_of t d region speed n)
     (told-says (definition t) d (n / row_width) (key_of t region speed) (told_of t d region speed n) refl)
   where
-    go : (v : Verdict) (long short : Bool) (x : Told) → Says (definition t) d (n / row_width) (key_of t region speed) x
-        → LowKey (judged v (cond long (Refused (TooLong (length d))) (cond short (Refused (TooShort (length d))) (of_told t (right d speed) x))))
-    go (text.Refused y) long short x s = tt
-    go text.Accepted true short x s = tt
-    go text.Accepted false true x s = tt
-    go text.Accepted false false (no_base k) s = tt
-    go text.Accepted false false no_candidate s = tt
-    go text.Accepted false false (more_rows k) s = tt
-    go text.Accepted false false (header h) s = chosen_low t d (key_of t region speed) h s.chosen
+    go : (v : Result (Unit {0}) Refusal) (long short : Bool) (x : Told) → Says (definition t) d (n / row_width) (key_of t region speed) x
+        → LowKey (judged v (cond long (Err (TooLong (length d))) (cond short (Err (TooShort (length d))) (of_told t (right d speed) x))))
+    go (Err y) long short x s = tt
+    go (Ok tt) true short x s = tt
+    go (Ok tt) false true x s = tt
+    go (Ok tt) false false (no_base k) s = tt
+    go (Ok tt) false false no_candidate s = tt
+    go (Ok tt) false false (more_rows k) s = tt
+    go (Ok tt) false false (header h) s = chosen_low t d (key_of t region speed) h s.chosen
 
-pub key_low : (t d : List ℕ) (region speed n : ℕ) (h : DecodedHeader) → decoded t d region speed n ≡ Header h → h.key < 256
+pub key_low : (t d : List ℕ) (region speed n : ℕ) (h : DecodedHeader) → decoded t d region speed n ≡ Ok h → h.key < 256
 key_low t d region speed n h e = rw e at (decoded-low t d region speed n)
 
 -- ---- what refuses
-abbrev pub OnlyThree : Decoded → Type 0
-OnlyThree (Header h) = Unit
-OnlyThree (Refused x) = (5 ≤ number_of x) × (number_of x ≤ 7)
+abbrev pub OnlyThree : Result DecodedHeader Refusal → Type 0
+OnlyThree (Ok h) = Unit
+OnlyThree (Err x) = (5 ≤ number_of x) × (number_of x ≤ 7)
 
-pub only_three : (t d : List ℕ) (region speed : ℕ) → verdict t ≡ text.Accepted → length d ≤ 2048
+pub only_three : (t d : List ℕ) (region speed : ℕ) → verdict t ≡ Ok tt → length d ≤ 2048
     → OnlyThree (decoded t d region speed most_numbers)
 only_three t d region speed accepted few =
     rw (accepted, le-ltb 2048 (length d) few) (go (ltb (length d) 2) refl (told_of t d region speed most_numbers) refl)
@@ -156,7 +153,7 @@ only_three t d region speed accepted few =
         (ap (λ (n : ℕ). number_in (decoded t d region speed n)) full ∙ q)
 
     go : (short : Bool) → ltb (length d) 2 ≡ short → (y : Told) → told_of t d region speed most_numbers ≡ y
-        → OnlyThree (cond short (Refused (TooShort (length d))) (of_told t (right d speed) y))
+        → OnlyThree (cond short (Err (TooShort (length d))) (of_told t (right d speed) y))
     go true q y is = (omega arith, omega arith)
     go false q (no_base k) is = (omega arith, omega arith)
     go false q no_candidate is = (omega arith, omega arith)

@@ -12,13 +12,9 @@ use borrow.Author.Tests.{le-leb, lt-leb, eq-eqb, ne_eqb, ltb-true, ltb-false, no
 use Rattle.refusal.specs.declared.Refusal.{Refusal}
 use Rattle.refusal.specs.declared.Refusal.TheVariants.{TooLong, PastLimit, Firmware}
 use Rattle.refusal.specs.Refusal.{number_of}
-use Rattle.text.specs.declared.Verdict.{Verdict}
-use Rattle.text.specs.declared.Verdict.TheVariants as text
 use Rattle.frame_text.specs.Rules.{verdict}
 use Rattle.radio.proofs.SpeedLaws.{rate_low}
 use Rattle.records.specs.declared.Span.{Span}
-use Rattle.records.specs.declared.Next.{Next}
-use Rattle.records.specs.declared.Next.TheVariants.{Body, NoMore}
 use Rattle.records.specs.Records.{bodies_from}
 use Rattle.records.specs.Steps.{Follows}
 use Rattle.records.proofs.Laws.{led, body_nearer, after-fits}
@@ -26,8 +22,6 @@ use Rattle.frame.specs.declared.Parts.{Parts}
 use Rattle.frame.specs.declared.Reading.{Reading}
 use Rattle.frame.specs.declared.Rules.{Rules}
 use Rattle.frame.specs.declared.PtiFrame.{PtiFrame}
-use Rattle.frame.specs.declared.Split.{Split}
-use Rattle.frame.specs.declared.Split.TheVariants.{Into, Nothing as NoSplit}
 use Rattle.frame.specs.Frame.{region_bits, rules_of, is_frame, frame_of, fields, beams_number}
 use Rattle.frame.specs.Steps.{split_of, framed_by}
 use Rattle.frame.proofs.Ranges.{mpdu_inside}
@@ -37,21 +31,16 @@ use Rattle.pti.specs.Steps.{Within, bytes_in}
 use Rattle.pti.proofs.Laws.{within_end, leads-within}
 use Rattle.header_rules.specs.Table.{most_numbers}
 use Rattle.header.specs.declared.DecodedHeader.{DecodedHeader}
-use Rattle.header.specs.declared.Decoded.{Decoded}
-use Rattle.header.specs.declared.Decoded.TheVariants as header
 use Rattle.header.specs.Decode.{decoded}
-use Rattle.totals.specs.declared.Framed.{Framed}
-use Rattle.totals.specs.declared.Framed.TheVariants.{Is, Nothing}
-use Rattle.totals.specs.declared.Added.{Added}
-use Rattle.totals.specs.declared.Added.TheVariants.{Counted, Refused}
 use Rattle.totals.specs.Totals.{size, refused_counts, header_counts, beam_counts, frame_counts, raised_by, within, Adds}
 use Rattle.totals.specs.Steps.{zeros, tally, tally_rows, Room, Tallies, Lies, framed_in, body_counts, plus, AddsSums}
 use Rattle.totals.proofs.Sums.{adds_none, adds_both, adds_within, grown, length-rows, room_less, sum_laws}
 use Rattle.totals.proofs.Keys.{key_low}
+use Rattle.std.specs.Prelude.{Option, Some, None, Result, Ok, Err}
 
 -- ---- a header
 pub heading-counted : (h : DecodedHeader) (rate n : ℕ) (a b c : List ℕ) → Tallies 1 ((h.key * 4 + rate, 1) ∷ []) a b
-    → Tallies 1 ((1024, n) ∷ []) b c → n ≡ cond h.right 0 1 → Tallies 2 (header_counts rate (header.Header h)) a c
+    → Tallies 1 ((1024, n) ∷ []) b c → n ≡ cond h.right 0 1 → Tallies 2 (header_counts rate (Ok h)) a c
 heading-counted h rate n a b c p q e =
     rw e at (adds_both 1 1 ((h.key * 4 + rate, 1) ∷ []) ((1024, n) ∷ []) a b c p q)
 
@@ -68,15 +57,15 @@ module _ (x : Refusal) (n : ℕ) (is : n ≡ number_of x) where
   pub refused_one : (a b : List ℕ) → Tallies 1 ((1023 + n, 1) ∷ []) a b → 5 ≤ n → n ≤ 7 → Tallies 1 (refused_counts (number_of x)) a b
   refused_one a b p l h = rw (← is, le-leb 5 n l, le-leb n 7 h) p
 
-module _ (t d : List ℕ) (region speed : ℕ) (r : Decoded) (answer_is : r ≡ decoded t d region speed most_numbers) where
-  pub header_key : (h : DecodedHeader) → r ≡ header.Header h → h.key < 256
+module _ (t d : List ℕ) (region speed : ℕ) (r : Result DecodedHeader Refusal) (answer_is : r ≡ decoded t d region speed most_numbers) where
+  pub header_key : (h : DecodedHeader) → r ≡ Ok h → h.key < 256
   header_key h e = key_low t d region speed most_numbers h (sym answer_is ∙ e)
 
-  pub header-counted : (h : DecodedHeader) (a b : List ℕ) → Tallies 2 (header_counts speed (header.Header h)) a b → r ≡ header.Header h
+  pub header-counted : (h : DecodedHeader) (a b : List ℕ) → Tallies 2 (header_counts speed (Ok h)) a b → r ≡ Ok h
       → Tallies 2 (header_counts speed (decoded t d region speed most_numbers)) a b
   header-counted h a b p e = rw (← answer_is, e) p
 
-  pub header_refused : (x : Refusal) (a b : List ℕ) → Tallies 1 (refused_counts (number_of x)) a b → r ≡ header.Refused x
+  pub header_refused : (x : Refusal) (a b : List ℕ) → Tallies 1 (refused_counts (number_of x)) a b → r ≡ Err x
       → Tallies 2 (header_counts speed (decoded t d region speed most_numbers)) a b
   header_refused x a b p e = rw (← answer_is, e) (adds_within 1 2 (refused_counts (number_of x)) a b p (omega arith))
 
@@ -110,26 +99,26 @@ module _ (s : List ℕ) (body : ℕ) (f : PtiFrame) (lies : Lies s body f) where
   end_inside at is = omega (arith, lies.inside)
 
 -- ---- a body
-module _ (w : Rules) (b : List ℕ) (x : Split) (is_x : x ≡ split_of w b) where
-  pub framed-none : x ≡ NoSplit → Nothing ≡ framed_in w b
+module _ (w : Rules) (b : List ℕ) (x : Option Parts) (is_x : x ≡ split_of w b) where
+  pub framed-none : x ≡ None → None ≡ framed_in w b
   framed-none e = rw (split-none w b x is_x e) refl
 
-  pub framed_one : (p : Parts) (f : PtiFrame) → f ≡ framed_by w.reading b p → x ≡ Into p → Is f ≡ framed_in w b
-  framed_one p f is_f e = rw (split_frame w b x is_x p e) (ap Is (split-framed w b x is_x p e f is_f))
+  pub framed_one : (p : Parts) (f : PtiFrame) → f ≡ framed_by w.reading b p → x ≡ Some p → Some f ≡ framed_in w b
+  framed_one p f is_f e = rw (split_frame w b x is_x p e) (ap Some (split-framed w b x is_x p e f is_f))
 
-is_framed : (t : Bool) (f g : PtiFrame) → cond t (Is f) Nothing ≡ Is g → (t ≡ true) × (g ≡ f)
+is_framed : (t : Bool) (f g : PtiFrame) → cond t (Some f) None ≡ Some g → (t ≡ true) × (g ≡ f)
 is_framed true f g e = (refl, cc)
 is_framed false f g e = (cc, cc)
 
-not-framed : (t : Bool) (f : PtiFrame) → cond t (Is f) Nothing ≡ Nothing → t ≡ false
+not-framed : (t : Bool) (f : PtiFrame) → cond t (Some f) None ≡ None → t ≡ false
 not-framed true f e = cc
 not-framed false f e = refl
 
-module _ (w : Rules) (t : List ℕ) (region : ℕ) (s : List ℕ) (b : Span) (x : Framed) (is_x : x ≡ framed_in w (bytes_in s b)) where
-  pub body-none : (a : List ℕ) → x ≡ Nothing → Tallies 3 (body_counts w t region s b) a a
+module _ (w : Rules) (t : List ℕ) (region : ℕ) (s : List ℕ) (b : Span) (x : Option PtiFrame) (is_x : x ≡ framed_in w (bytes_in s b)) where
+  pub body-none : (a : List ℕ) → x ≡ None → Tallies 3 (body_counts w t region s b) a a
   body-none a e = rw (not-framed (is_frame w (bytes_in s b)) (frame_of w (bytes_in s b)) (sym is_x ∙ e)) (adds_none 3 a)
 
-  module _ (f : PtiFrame) (e : x ≡ Is f) where
+  module _ (f : PtiFrame) (e : x ≡ Some f) where
     one : (is_frame w (bytes_in s b) ≡ true) × (f ≡ frame_of w (bytes_in s b))
     one = is_framed (is_frame w (bytes_in s b)) (frame_of w (bytes_in s b)) f (sym is_x ∙ e)
 
@@ -174,14 +163,14 @@ room-zeros i = go (ltb i size) refl
 pub counting_starts : (w : Rules) (t : List ℕ) (region : ℕ) (s sums : List ℕ) → sums ≡ zeros → Counting w t region s sums 1
 counting_starts w t region s sums e = rw e (record { number = 0; rest = refl; room = room-zeros; some = omega arith })
 
-module _ (w : Rules) (t : List ℕ) (region : ℕ) (s sums : List ℕ) (at : ℕ) (inv : Counting w t region s sums at) (r : Next)
+module _ (w : Rules) (t : List ℕ) (region : ℕ) (s sums : List ℕ) (at : ℕ) (inv : Counting w t region s sums at) (r : Option Span)
     (follows : Follows s at r) where
-  pub counting_done : r ≡ NoMore
+  pub counting_done : r ≡ None
       → sums ≡ tally_rows (frame_counts t region s) zeros (rows_of w s)
   unfolding rows_in tally_rows
   counting_done e = let none : bodies_from s at ≡ [] = rw e at follows in rw none at inv.rest
 
-  module _ (b : Span) (is_b : r ≡ Body b) (short : length s ≤ 65535) where
+  module _ (b : Span) (is_b : r ≡ Some b) (short : length s ≤ 65535) where
     pub counting_within : Within s b
     counting_within = leads-within s at b (led s at r b follows is_b) (omega (arith, inv.some)) short
 
@@ -226,12 +215,12 @@ module _ (totals sums : List ℕ) (over : Bool) (is : over ≡ not (within (plus
   pub sums_fit : over ≡ false → within (plus totals sums) ≡ true
   sums_fit e = not-false (within (plus totals sums)) (sym is ∙ e)
 
-  pub sums_past : over ≡ true → AddsSums totals sums (Refused PastLimit) totals
+  pub sums_past : over ≡ true → AddsSums totals sums (Err PastLimit) totals
   sums_past e =
       let no = not-true (within (plus totals sums)) (sym is ∙ e) in
       record { answer = rw no refl; after = rw no refl }
 
-  pub sums_added : (totals' : List ℕ) → totals' ≡ plus totals sums → over ≡ false → AddsSums totals sums Counted totals'
+  pub sums_added : (totals' : List ℕ) → totals' ≡ plus totals sums → over ≡ false → AddsSums totals sums (Ok tt) totals'
   sums_added totals' e h = let yes = sums_fit h in record { answer = rw yes refl; after = rw yes e }
 
 -- ---- the answer
@@ -239,24 +228,24 @@ module _ (firmware : ℕ) (reading : Reading) (w : Rules) (t : List ℕ) (region
   bits : w.width ≡ region_bits firmware
   bits = ap (λ (x : Rules). x.width) is-w
 
-  pub adds_unknown : w.width ≡ 0 → Adds firmware reading t region s totals (Refused (Firmware firmware)) totals
+  pub adds_unknown : w.width ≡ 0 → Adds firmware reading t region s totals (Err (Firmware firmware)) totals
   adds_unknown none = record { answer = rw (← bits, eq-eqb w.width 0 none) refl; after = refl }
 
   module _ (some : w.width ≡ 0 → ⊥) where
     known : eqb (region_bits firmware) 0 ≡ false
     known = rw (← bits) (ne_eqb w.width 0 some)
 
-    pub adds_judged : (v : Verdict) (x : Refusal) → v ≡ verdict t → v ≡ text.Refused x → Adds firmware reading t region s totals (Refused x) totals
+    pub adds_judged : (v : Result (Unit {0}) Refusal) (x : Refusal) → v ≡ verdict t → v ≡ Err x → Adds firmware reading t region s totals (Err x) totals
     adds_judged v x is e = record { answer = rw (known, sym is ∙ e) refl; after = refl }
 
-    module _ (accepted : verdict t ≡ text.Accepted) where
-      pub adds_long : 65535 < length s → Adds firmware reading t region s totals (Refused (TooLong (length s))) totals
+    module _ (accepted : verdict t ≡ Ok tt) where
+      pub adds_long : 65535 < length s → Adds firmware reading t region s totals (Err (TooLong (length s))) totals
       adds_long long = record { answer = rw (known, accepted, lt-leb (length s) 65535 long) refl; after = refl }
 
       abbrev after : List ℕ
       after = raised_by (rules_of firmware reading) t region s totals
 
-      pub adds_sums : (sums : List ℕ) (r : Added) (totals' : List ℕ) → AddsSums totals sums r totals'
+      pub adds_sums : (sums : List ℕ) (r : Result (Unit {0}) Refusal) (totals' : List ℕ) → AddsSums totals sums r totals'
           → sums ≡ tally_rows (frame_counts t region s) zeros (rows_of w s) → length totals ≡ size → length s ≤ 65535
           → Adds firmware reading t region s totals r totals'
       adds_sums sums r totals' adds counted full short =
@@ -267,12 +256,12 @@ module _ (firmware : ℕ) (reading : Reading) (w : Rules) (t : List ℕ) (region
           fits : leb (length s) 65535 ≡ true
           fits = le-leb (length s) 65535 short
 
-          go : (b : Bool) → within after ≡ b → r ≡ cond b Counted (Refused PastLimit) → totals' ≡ cond b after totals
+          go : (b : Bool) → within after ≡ b → r ≡ cond b (Ok tt) (Err PastLimit) → totals' ≡ cond b after totals
               → Adds firmware reading t region s totals r totals'
           go true e is now = record { answer = rw (known, accepted, fits, e) is; after = rw is now }
           go false e is now = record { answer = rw (known, accepted, fits, e) is; after = rw is now }
 
-pub accepted-text : (t : List ℕ) (v : Verdict) → v ≡ verdict t → v ≡ text.Accepted → verdict t ≡ text.Accepted
+pub accepted-text : (t : List ℕ) (v : Result (Unit {0}) Refusal) → v ≡ verdict t → v ≡ Ok tt → verdict t ≡ Ok tt
 accepted-text t v e q = sym e ∙ q
 
 -- what the proofs of the functions go by

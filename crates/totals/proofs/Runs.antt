@@ -12,17 +12,14 @@ use borrow.Author.Tests.{le-leb, leb-true}
 use Rattle.laws.proofs.Bools.{and_left, and_right}
 use Rattle.refusal.specs.declared.Refusal.{Refusal}
 use Rattle.refusal.specs.declared.Refusal.TheVariants.{TooLong, PastLimit, Firmware}
-use Rattle.text.specs.declared.Verdict.{Verdict}
-use Rattle.text.specs.declared.Verdict.TheVariants as text
 use Rattle.frame_text.specs.Rules.{verdict}
 use Rattle.frame.specs.declared.Reading.{Reading}
 use Rattle.frame.specs.Frame.{region_bits, rules_of}
-use Rattle.totals.specs.declared.Added.{Added}
-use Rattle.totals.specs.declared.Added.TheVariants.{Counted, Refused}
 use Rattle.totals.specs.Totals.{size, growth, raised, most, within, added_of, totals_after}
 use Rattle.totals.specs.Steps.{zeros}
 use Rattle.totals.specs.Runs.{after, after_run, onto, taken, growth_of, NoTen}
 use Rattle.totals.proofs.Sums.{length-raised, raised_at}
+use Rattle.std.specs.Prelude.{Result, Ok, Err}
 
 -- ---- totals below others, place by place
 abbrev pub Under : List ℕ → List ℕ → Type 0
@@ -64,7 +61,7 @@ raised-none i [] = refl
 raised-none i (x ∷ xs) = let e : x + 0 ≡ x = omega arith in rw (e, raised-none (suc i) xs) refl
 
 module _ (firmware : ℕ) (reading : Reading) (t : List ℕ) (region : ℕ) where
-  abbrev answer : List ℕ → List ℕ → Added
+  abbrev answer : List ℕ → List ℕ → Result (Unit {0}) Refusal
   answer s totals = added_of firmware reading t region s totals
 
   abbrev next : List ℕ → List ℕ → List ℕ
@@ -80,9 +77,9 @@ module _ (firmware : ℕ) (reading : Reading) (t : List ℕ) (region : ℕ) wher
   length_run [] totals = refl
   length_run (s ∷ ss) totals = length_run ss (next s totals) ∙ kept (answer s totals)
     where
-      kept : (r : Added) → length (totals_after (rules_of firmware reading) t region s totals r) ≡ length totals
-      kept Counted = length-raised (grows s) 0 totals
-      kept (Refused x) = refl
+      kept : (r : Result (Unit {0}) Refusal) → length (totals_after (rules_of firmware reading) t region s totals r) ≡ length totals
+      kept (Ok tt) = length-raised (grows s) 0 totals
+      kept (Err x) = refl
 
   -- TO7: the totals of a run are the sum over its payloads that are not refused
   pub run-sum : (ss : List (List ℕ)) (totals : List ℕ) (i : ℕ) → i < length totals
@@ -90,28 +87,28 @@ module _ (firmware : ℕ) (reading : Reading) (t : List ℕ) (region : ℕ) wher
   run-sum [] totals i h = omega arith
   run-sum (s ∷ ss) totals i h = go (answer s totals) (run-sum ss)
     where
-      go : (r : Added)
+      go : (r : Result (Unit {0}) Refusal)
           → ((l : List ℕ) (j : ℕ) → j < length l
           → get_or (run ss l) j 0 ≡ get_or l j 0 + growth_of firmware reading t region (taken firmware reading t region ss l) j)
           → get_or (run ss (totals_after (rules_of firmware reading) t region s totals r)) i 0
           ≡ get_or totals i 0 + growth_of firmware reading t region
           (onto firmware reading t region r s (taken firmware reading t region ss (totals_after (rules_of firmware reading) t region s totals r))) i
-      go Counted ih =
+      go (Ok tt) ih =
           let z : 0 + i ≡ i = omega arith in
           let a = ih (raised (grows s) 0 totals) i (rw (length-raised (grows s) 0 totals) h) in
           let b : get_or (raised (grows s) 0 totals) i 0 ≡ get_or totals i 0 + grows s i = rw z at (raised_at (grows s) 0 totals i h) in
           omega (arith, a, b)
-      go (Refused x) ih = ih totals i h
+      go (Err x) ih = ih totals i h
 
   -- ---- a payload is refused whatever the totals are, or by 10 alone: what it adds where 10 does not come
   abbrev Kind : List ℕ → (ℕ → ℕ) → Type 0
   Kind s gain =
-      ((x : Refusal) × ((totals : List ℕ) → answer s totals ≡ Refused x) × (gain ≡ (λ (j : ℕ). 0)))
-      ⊎ (((totals : List ℕ) → answer s totals ≡ cond (within (raised (grows s) 0 totals)) Counted (Refused PastLimit)) × (gain ≡ grows s))
+      ((x : Refusal) × ((totals : List ℕ) → answer s totals ≡ Err x) × (gain ≡ (λ (j : ℕ). 0)))
+      ⊎ (((totals : List ℕ) → answer s totals ≡ cond (within (raised (grows s) 0 totals)) (Ok tt) (Err PastLimit)) × (gain ≡ grows s))
 
-  abbrev accepts : Verdict → Bool
-  accepts text.Accepted = true
-  accepts (text.Refused x) = false
+  abbrev accepts : Result (Unit {0}) Refusal → Bool
+  accepts (Ok tt) = true
+  accepts (Err x) = false
 
   gain : List ℕ → ℕ → ℕ
   gain s = cond (not (eqb (region_bits firmware) 0) && (accepts (verdict t) && leb (length s) 65535)) (grows s) (λ (j : ℕ). 0)
@@ -120,26 +117,26 @@ module _ (firmware : ℕ) (reading : Reading) (t : List ℕ) (region : ℕ) wher
   unfolding gain
   kind s = go (eqb (region_bits firmware) 0) refl (verdict t) refl (leb (length s) 65535) refl
     where
-      go : (unknown : Bool) → eqb (region_bits firmware) 0 ≡ unknown → (v : Verdict) → verdict t ≡ v → (short : Bool)
+      go : (unknown : Bool) → eqb (region_bits firmware) 0 ≡ unknown → (v : Result (Unit {0}) Refusal) → verdict t ≡ v → (short : Bool)
           → leb (length s) 65535 ≡ short → Kind s (cond (not unknown && (accepts v && short)) (grows s) (λ (j : ℕ). 0))
       go true a v b short c = inl (Firmware firmware, λ totals. rw a refl, refl)
-      go false a (text.Refused x) b short c = inl (x, λ totals. rw (a, b) refl, refl)
-      go false a text.Accepted b false c = inl (TooLong (length s), λ totals. rw (a, b, c) refl, refl)
-      go false a text.Accepted b true c = inr (λ totals. rw (a, b, c) refl, refl)
+      go false a (Err x) b short c = inl (x, λ totals. rw (a, b) refl, refl)
+      go false a (Ok tt) b false c = inl (TooLong (length s), λ totals. rw (a, b, c) refl, refl)
+      go false a (Ok tt) b true c = inr (λ totals. rw (a, b, c) refl, refl)
 
-  abbrev Ok : List ℕ → List ℕ → Type 0
-  Ok s totals = answer s totals ≡ Refused PastLimit → ⊥
+  abbrev Passes : List ℕ → List ℕ → Type 0
+  Passes s totals = answer s totals ≡ Err PastLimit → ⊥
 
   -- what is known of one that is refused by 10 alone, and is not
-  counts : (s totals : List ℕ) → answer s totals ≡ cond (within (raised (grows s) 0 totals)) Counted (Refused PastLimit) → Ok s totals
-      → (within (raised (grows s) 0 totals) ≡ true) × (answer s totals ≡ Counted)
+  counts : (s totals : List ℕ) → answer s totals ≡ cond (within (raised (grows s) 0 totals)) (Ok tt) (Err PastLimit) → Passes s totals
+      → (within (raised (grows s) 0 totals) ≡ true) × (answer s totals ≡ Ok tt)
   counts s totals e ok = go (within (raised (grows s) 0 totals)) refl
     where
-      go : (b : Bool) → within (raised (grows s) 0 totals) ≡ b → (b ≡ true) × (answer s totals ≡ Counted)
+      go : (b : Bool) → within (raised (grows s) 0 totals) ≡ b → (b ≡ true) × (answer s totals ≡ Ok tt)
       go true q = (refl, e ∙ rw q refl)
       go false q = absurd (ok (e ∙ rw q refl))
 
-  ok_next : (s totals : List ℕ) → Ok s totals → next s totals ≡ raised (gain s) 0 totals
+  ok_next : (s totals : List ℕ) → Passes s totals → next s totals ≡ raised (gain s) 0 totals
   ok_next s totals ok = go (kind s)
     where
       go : Kind s (gain s) → next s totals ≡ raised (gain s) 0 totals
@@ -150,21 +147,21 @@ module _ (firmware : ℕ) (reading : Reading) (t : List ℕ) (region : ℕ) wher
           ap (totals_after (rules_of firmware reading) t region s totals) (counts s totals (w.0 totals) ok).1
           ∙ sym (ap (λ (f : ℕ → ℕ). raised f 0 totals) w.1)
 
-  counted_ok : (s totals : List ℕ) → answer s totals ≡ cond (within (raised (grows s) 0 totals)) Counted (Refused PastLimit)
-      → within (raised (grows s) 0 totals) ≡ true → Ok s totals
+  counted_ok : (s totals : List ℕ) → answer s totals ≡ cond (within (raised (grows s) 0 totals)) (Ok tt) (Err PastLimit)
+      → within (raised (grows s) 0 totals) ≡ true → Passes s totals
   counted_ok s totals e q z =
-      let c : answer s totals ≡ Counted = e ∙ rw q refl in
+      let c : answer s totals ≡ (Ok tt) = e ∙ rw q refl in
       let y : ◌≡◌ {A = ℕ} 0 1 = cc in
       omega arith
 
-  fixed_ok : (s a b : List ℕ) (x : Refusal) → ((totals : List ℕ) → answer s totals ≡ Refused x) → Ok s b → Ok s a
+  fixed_ok : (s a b : List ℕ) (x : Refusal) → ((totals : List ℕ) → answer s totals ≡ Err x) → Passes s b → Passes s a
   fixed_ok s a b x e ok z = ok (e b ∙ sym (e a) ∙ z)
 
   -- lower totals take what higher ones do
-  ok_under : (s a b : List ℕ) → Under a b → Ok s b → Ok s a
+  ok_under : (s a b : List ℕ) → Under a b → Passes s b → Passes s a
   ok_under s a b u ok = go (kind s)
     where
-      go : Kind s (gain s) → Ok s a
+      go : Kind s (gain s) → Passes s a
       go (inl w) = fixed_ok s a b w.0 w.1 ok
       go (inr w) =
           counted_ok s a (w.0 a)
@@ -173,7 +170,7 @@ module _ (firmware : ℕ) (reading : Reading) (t : List ℕ) (region : ℕ) wher
   no-ten-under : (ss : List (List ℕ)) (a b : List ℕ) → Under a b → NoTen firmware reading t region ss b → NoTen firmware reading t region ss a
   no-ten-under [] a b u none = tt
   no-ten-under (s ∷ ss) a b u none =
-      let ok : Ok s a = ok_under s a b u none.0 in
+      let ok : Passes s a = ok_under s a b u none.0 in
       let x : next s a ≡ raised (gain s) 0 a = ok_next s a ok in
       let y : next s b ≡ raised (gain s) 0 b = ok_next s b none.0 in
       (ok, no-ten-under ss (next s a) (next s b) (rw (x, y) (raised-under (gain s) 0 a b u)) none.1)
@@ -223,19 +220,19 @@ module _ (firmware : ℕ) (reading : Reading) (t : List ℕ) (region : ℕ) wher
       omega (arith, a, b, c, gains_both ss rs i)
 
   -- ---- the order
-  swapped : (s r totals : List ℕ) → Ok s totals → Ok r (next s totals)
-      → Ok r totals × Ok s (next r totals) × (next s (next r totals) ≡ next r (next s totals))
+  swapped : (s r totals : List ℕ) → Passes s totals → Passes r (next s totals)
+      → Passes r totals × Passes s (next r totals) × (next s (next r totals) ≡ next r (next s totals))
   swapped s r totals ok-s ok-r =
       let x : next s totals ≡ raised (gain s) 0 totals = ok_next s totals ok-s in
       let u : Under totals (next s totals) = rw x (under-raised (gain s) 0 totals) in
-      let first : Ok r totals = ok_under r totals (next s totals) u ok-r in
+      let first : Passes r totals = ok_under r totals (next s totals) u ok-r in
       let y : next r totals ≡ raised (gain r) 0 totals = ok_next r totals first in
-      let second : Ok s (next r totals) = go (kind s) (kind r) in
+      let second : Passes s (next r totals) = go (kind s) (kind r) in
       let a : next s (next r totals) ≡ raised (gain s) 0 (raised (gain r) 0 totals) = ok_next s (next r totals) second ∙ ap (raised (gain s) 0) y in
       let b : next r (next s totals) ≡ raised (gain r) 0 (raised (gain s) 0 totals) = ok_next r (next s totals) ok-r ∙ ap (raised (gain r) 0) x in
       (first, second, a ∙ raised_swap (gain s) (gain r) 0 totals ∙ sym b)
     where
-      go : Kind s (gain s) → Kind r (gain r) → Ok s (next r totals)
+      go : Kind s (gain s) → Kind r (gain r) → Passes s (next r totals)
       go (inl w) k = fixed_ok s (next r totals) totals w.0 w.1 ok-s
       go (inr w) (inl k) =
           let same : next r totals ≡ totals = ap (totals_after (rules_of firmware reading) t region r totals) (k.1 totals) in
@@ -249,7 +246,7 @@ module _ (firmware : ℕ) (reading : Reading) (t : List ℕ) (region : ℕ) wher
           let low : within (raised (grows r) 0 totals) ≡ true =
           within-under (raised (grows r) 0 totals) (raised (grows s) 0 (raised (grows r) 0 totals))
           (under-raised (grows s) 0 (raised (grows r) 0 totals)) both in
-          let at-r : answer r totals ≡ Counted = k.0 totals ∙ rw low refl in
+          let at-r : answer r totals ≡ (Ok tt) = k.0 totals ∙ rw low refl in
           let there : next r totals ≡ raised (grows r) 0 totals = ap (totals_after (rules_of firmware reading) t region r totals) at-r in
           counted_ok s (next r totals) (w.0 (next r totals)) (rw there both)
 

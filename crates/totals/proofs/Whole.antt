@@ -10,8 +10,6 @@ use borrow.Author.Tests.{eqb-true, eqb-false, ltb-true, ltb-false, leb-true, leb
 use Rattle.refusal.specs.declared.Refusal.TheVariants.{TooLong, Firmware}
 use Rattle.refusal.specs.Refusal.{number_of}
 use Rattle.text.specs.Print.{Every}
-use Rattle.text.specs.declared.Verdict.{Verdict}
-use Rattle.text.specs.declared.Verdict.TheVariants as text
 use Rattle.frame_text.specs.Rules.{verdict}
 use Rattle.records.specs.Records.{bodies, bytes_of}
 use Rattle.frame.specs.declared.Reading.{Reading}
@@ -22,17 +20,16 @@ use Rattle.radio.proofs.SpeedLaws.{rate_low}
 use Rattle.pti.specs.Payload.{row_of, rows_in, rows_of, Placed, AllPlaced}
 use Rattle.pti.proofs.Laws.{located}
 use Rattle.header_rules.specs.Table.{most_numbers}
-use Rattle.header.specs.declared.Decoded.{Decoded}
-use Rattle.header.specs.declared.Decoded.TheVariants as header
 use Rattle.header.specs.Decode.{decoded}
-use Rattle.totals.specs.declared.Added.{Added}
-use Rattle.totals.specs.declared.Added.TheVariants.{Counted, Refused}
 use Rattle.totals.specs.Totals.{size, bytes_at, refused_counts, header_counts, beam_counts, rate_in, beams_in, mpdu_in, kind_counts}
 use Rattle.totals.specs.Totals.{frame_counts, amount_at, grown_at, growth, judged, added_of, totals_after}
 use Rattle.totals.specs.Steps.{zeros}
 use Rattle.totals.specs.Runs.{sum_below, counted, after_run, onto, taken, growth_of, frames_of}
 use Rattle.totals.proofs.Keys.{key_low, OnlyThree, only_three}
 use Rattle.totals.proofs.Runs.{run-sum}
+use Rattle.std.specs.Prelude.{Result, Ok, Err}
+use Rattle.header.specs.declared.DecodedHeader.{DecodedHeader}
+use Rattle.refusal.specs.declared.Refusal.{Refusal}
 
 -- ---- sums of sums
 below_both : (n : ℕ) (f g : ℕ → ℕ) → sum_below n (λ (i : ℕ). f i + g i) ≡ sum_below n f + sum_below n g
@@ -130,17 +127,17 @@ refused_weight n l h = go (eqb n 5) refl (eqb n 6) refl
                 lower false f few = let g = leb-false n 5 f in eqb-false n 6 q (omega arith)
             last false e = let many = leb-false n 6 e in omega arith
 
-header_weight : (t d : List ℕ) (region rate : ℕ) → verdict t ≡ text.Accepted → length d ≤ 2048 → rate < 4
+header_weight : (t d : List ℕ) (region rate : ℕ) → verdict t ≡ Ok tt → length d ≤ 2048 → rate < 4
     → weights (header_counts rate (decoded t d region rate most_numbers)) ≡ 1
 unfolding weights
 header_weight t d region rate accepted few low =
     go (decoded t d region rate most_numbers) (λ h e. key_low t d region rate most_numbers h e) (only_three t d region rate accepted few)
   where
-    go : (r : Decoded) → ((h : _) → r ≡ header.Header h → h.key < 256) → OnlyThree r → weights (header_counts rate r) ≡ 1
-    go (header.Header h) key three =
+    go : (r : Result DecodedHeader Refusal) → ((h : _) → r ≡ Ok h → h.key < 256) → OnlyThree r → weights (header_counts rate r) ≡ 1
+    go (Ok h) key three =
         let k : h.key < 256 = key h refl in
         rw (key_weight (h.key * 4 + rate) (omega arith)) refl
-    go (header.Refused x) key three = refused_weight (number_of x) three.0 three.1
+    go (Err x) key three = refused_weight (number_of x) three.0 three.1
 
 -- a row of a payload whose MPDU is not too long and whose rate is one of four
 abbrev Fair : List ℕ → Type 0
@@ -155,7 +152,7 @@ beam_weight : (n : ℕ) → weights (beam_counts n) ≡ 1
 unfolding weights
 beam_weight n = refl
 
-kind_weight : (t : List ℕ) (region : ℕ) (s row : List ℕ) → verdict t ≡ text.Accepted → Fair row → weights (kind_counts t region s row) ≡ 1
+kind_weight : (t : List ℕ) (region : ℕ) (s row : List ℕ) → verdict t ≡ Ok tt → Fair row → weights (kind_counts t region s row) ≡ 1
 kind_weight t region s row accepted fair =
     go (eqb (beams_in row) 0) (header_counts (rate_in row) (decoded t (mpdu_in s row) region (rate_in row) most_numbers))
     (header_weight t (mpdu_in s row) region (rate_in row) accepted few fair.0)
@@ -167,12 +164,12 @@ kind_weight t region s row accepted fair =
     go true ps e = e
     go false ps e = beam_weight (beams_in row)
 
-frame_weight : (t : List ℕ) (region : ℕ) (s row : List ℕ) → verdict t ≡ text.Accepted → Fair row → weights (frame_counts t region s row) ≡ 1
+frame_weight : (t : List ℕ) (region : ℕ) (s row : List ℕ) → verdict t ≡ Ok tt → Fair row → weights (frame_counts t region s row) ≡ 1
 unfolding frame_counts
 frame_weight t region s row accepted fair = bytes_weight _ (kind_counts t region s row) (kind_weight t region s row accepted fair)
 
 -- ---- and so do all
-rows_weight : (t : List ℕ) (region : ℕ) (s : List ℕ) (rs : List (List ℕ)) → verdict t ≡ text.Accepted → Every Fair rs
+rows_weight : (t : List ℕ) (region : ℕ) (s : List ℕ) (rs : List (List ℕ)) → verdict t ≡ Ok tt → Every Fair rs
     → counted (grown_at (frame_counts t region s) rs) ≡ length rs
 rows_weight t region s [] accepted fair = counted_none
 rows_weight t region s (r ∷ rs) accepted fair =
@@ -208,7 +205,7 @@ all_fair s (r ∷ rs) all rates placed =
     ((rates.0, omega (arith, p.behind, p.before)), all_fair s rs all rates.1 placed.1)
 
 -- TO8: of a payload
-pub frames-counted : (w : Rules) (t : List ℕ) (region : ℕ) (s : List ℕ) → verdict t ≡ text.Accepted → length s ≤ 65535 → Bytes s
+pub frames-counted : (w : Rules) (t : List ℕ) (region : ℕ) (s : List ℕ) → verdict t ≡ Ok tt → length s ≤ 65535 → Bytes s
     → counted (growth w t region s) ≡ length (rows_of w s)
 frames-counted w t region s accepted short all =
     rows_weight t region s (rows_of w s) accepted (all_fair s (rows_of w s) all (rates_fair w s 0 (bodies s)) (located w s short).placed)
@@ -216,16 +213,16 @@ frames-counted w t region s accepted short all =
 -- ---- of a run
 module _ (firmware : ℕ) (reading : Reading) (t : List ℕ) (region : ℕ) where
   -- what is counted is neither too long nor by a text that is refused
-  counted_by : (s totals : List ℕ) → added_of firmware reading t region s totals ≡ Counted → (verdict t ≡ text.Accepted) × (length s ≤ 65535)
+  counted_by : (s totals : List ℕ) → added_of firmware reading t region s totals ≡ Ok tt → (verdict t ≡ Ok tt) × (length s ≤ 65535)
   counted_by s totals e = go (eqb (region_bits firmware) 0) (verdict t) (leb (length s) 65535) _ refl e
     where
-      go : (unknown : Bool) (v : Verdict) (short : Bool) (r : Added) → leb (length s) 65535 ≡ short
-          → cond unknown (Refused (Firmware firmware)) (judged v (cond short r (Refused (TooLong (length s))))) ≡ Counted
-          → (v ≡ text.Accepted) × (length s ≤ 65535)
+      go : (unknown : Bool) (v : Result (Unit {0}) Refusal) (short : Bool) (r : Result (Unit {0}) Refusal) → leb (length s) 65535 ≡ short
+          → cond unknown (Err (Firmware firmware)) (judged v (cond short r (Err (TooLong (length s))))) ≡ Ok tt
+          → (v ≡ Ok tt) × (length s ≤ 65535)
       go true v short r c q = absurd (let z : ◌≡◌ {A = ℕ} 0 1 = cc in omega arith)
-      go false (text.Refused x) short r c q = absurd (let z : ◌≡◌ {A = ℕ} 0 1 = cc in omega arith)
-      go false text.Accepted false r c q = absurd (let z : ◌≡◌ {A = ℕ} 0 1 = cc in omega arith)
-      go false text.Accepted true r c q = (refl, leb-true (length s) 65535 c)
+      go false (Err x) short r c q = absurd (let z : ◌≡◌ {A = ℕ} 0 1 = cc in omega arith)
+      go false (Ok tt) false r c q = absurd (let z : ◌≡◌ {A = ℕ} 0 1 = cc in omega arith)
+      go false (Ok tt) true r c q = (refl, leb-true (length s) 65535 c)
 
   -- TO8: what the payloads that are not refused add to these counts are their frames
   pub run-counted : (ss : List (List ℕ)) (totals : List ℕ) → Every Bytes ss
@@ -234,23 +231,23 @@ module _ (firmware : ℕ) (reading : Reading) (t : List ℕ) (region : ℕ) wher
   run-counted [] totals all = counted_none
   run-counted (s ∷ ss) totals all = go (added_of firmware reading t region s totals) refl (λ l. run-counted ss l all.1)
     where
-      go : (r : Added) → added_of firmware reading t region s totals ≡ r
+      go : (r : Result (Unit {0}) Refusal) → added_of firmware reading t region s totals ≡ r
           → ((l : List ℕ) → counted (growth_of firmware reading t region (taken firmware reading t region ss l))
           ≡ frames_of firmware reading t region (taken firmware reading t region ss l))
           → counted (growth_of firmware reading t region
           (onto firmware reading t region r s (taken firmware reading t region ss (totals_after (rules_of firmware reading) t region s totals r))))
           ≡ frames_of firmware reading t region
           (onto firmware reading t region r s (taken firmware reading t region ss (totals_after (rules_of firmware reading) t region s totals r)))
-      go Counted e ih =
+      go (Ok tt) e ih =
           let by = counted_by s totals e in
-          let rest = taken firmware reading t region ss (totals_after (rules_of firmware reading) t region s totals Counted) in
+          let rest = taken firmware reading t region ss (totals_after (rules_of firmware reading) t region s totals (Ok tt)) in
           omega (
             arith,
             counted-both (growth (rules_of firmware reading) t region s) (growth_of firmware reading t region rest),
             frames-counted (rules_of firmware reading) t region s by.0 by.1 all.0,
-            ih (totals_after (rules_of firmware reading) t region s totals Counted),
+            ih (totals_after (rules_of firmware reading) t region s totals (Ok tt)),
           )
-      go (Refused x) e ih = ih totals
+      go (Err x) e ih = ih totals
 
   -- TO8: the counts of a capture's totals are the frames of its payloads that are not refused
   pub capture_counted : (ss : List (List ℕ)) → Every Bytes ss

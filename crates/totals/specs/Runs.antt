@@ -1,12 +1,11 @@
 -- TO7 and TO8 (docs/RULES.md): a capture of many payloads, each added by a call of its own; and how the counts stand to the frames.
-use Rattle.std.specs.Prelude.{◌≡◌, List, [], ◌∷◌, ℕ, zero, suc, ◌+◌, length}
+use Rattle.std.specs.Prelude.{◌≡◌, List, [], ◌∷◌, ℕ, zero, suc, ◌+◌, length, Result, Ok, Err}
 use Rattle.refusal.specs.declared.Refusal.TheVariants.{PastLimit}
 use Rattle.frame.specs.declared.Reading.{Reading}
 use Rattle.frame.specs.Frame.{rules_of}
 use Rattle.pti.specs.Payload.{rows_of}
-use Rattle.totals.specs.declared.Added.{Added}
-use Rattle.totals.specs.declared.Added.TheVariants.{Counted, Refused}
 use Rattle.totals.specs.Totals.{beams_at, refused_at, growth, added_of, totals_after}
+use Rattle.refusal.specs.declared.Refusal.{Refusal}
 
 -- the sum of what the places below n hold
 unfoldable pub sum_below : ℕ → (ℕ → ℕ) → ℕ
@@ -28,9 +27,9 @@ module _ (firmware : ℕ) (reading : Reading) (t : List ℕ) (region : ℕ) wher
   after_run [] totals = totals
   after_run (s ∷ ss) totals = after_run ss (after s totals)
 
-  abbrev pub onto : Added → List ℕ → List (List ℕ) → List (List ℕ)
-  onto Counted s ss = s ∷ ss
-  onto (Refused x) s ss = ss
+  abbrev pub onto : Result (Unit {0}) Refusal → List ℕ → List (List ℕ) → List (List ℕ)
+  onto (Ok tt) s ss = s ∷ ss
+  onto (Err x) s ss = ss
 
   -- TO7: the payloads of the run that are not refused
   abbrev pub taken : List (List ℕ) → List ℕ → List (List ℕ)
@@ -50,4 +49,4 @@ module _ (firmware : ℕ) (reading : Reading) (t : List ℕ) (region : ℕ) wher
   -- TO7: 10 comes for none of them
   abbrev pub NoTen : List (List ℕ) → List ℕ → Type 0
   NoTen [] totals = Unit {0}
-  NoTen (s ∷ ss) totals = (added_of firmware reading t region s totals ≡ Refused PastLimit → ⊥) × NoTen ss (after s totals)
+  NoTen (s ∷ ss) totals = (added_of firmware reading t region s totals ≡ Err PastLimit → ⊥) × NoTen ss (after s totals)

@@ -1,5 +1,5 @@
 -- What the steps below `add_payload` answer, over the definitions of the rules.
-use Rattle.std.specs.Prelude.{◌≡◌, cond, List, [], ◌∷◌, ℕ, ◌+◌, ◌*◌, ◌^◌, ◌≤◌, ◌<◌, length, get_or, set, replicate}
+use Rattle.std.specs.Prelude.{◌≡◌, cond, List, [], ◌∷◌, ℕ, ◌+◌, ◌*◌, ◌^◌, ◌≤◌, ◌<◌, length, get_or, set, replicate, Option, Some, None, Result, Ok, Err}
 use Rattle.refusal.specs.declared.Refusal.TheVariants.{PastLimit}
 use Rattle.records.specs.declared.Span.{Span}
 use Rattle.frame.specs.declared.Rules.{Rules}
@@ -8,10 +8,7 @@ use Rattle.frame.specs.Frame.{is_frame, frame_of}
 use Rattle.pti.specs.Payload.{row_of}
 use Rattle.pti.specs.Steps.{bytes_in}
 use Rattle.totals.specs.Totals.{size, frame_counts, within}
-use Rattle.totals.specs.declared.Framed.{Framed}
-use Rattle.totals.specs.declared.Framed.TheVariants.{Is, Nothing}
-use Rattle.totals.specs.declared.Added.{Added}
-use Rattle.totals.specs.declared.Added.TheVariants.{Counted, Refused}
+use Rattle.refusal.specs.declared.Refusal.{Refusal}
 
 -- sums before any frame
 abbrev pub zeros : List ℕ
@@ -43,8 +40,8 @@ plus (x ∷ xs) [] = x ∷ xs
 plus (x ∷ xs) (y ∷ ys) = (x + y) ∷ plus xs ys
 
 -- the sums added to the totals, if all stay within the limit
-pub record AddsSums (totals sums : List ℕ) (r : Added) (totals' : List ℕ) : Type 0 where
-  pub answer : r ≡ cond (within (plus totals sums)) Counted (Refused PastLimit)
+pub record AddsSums (totals sums : List ℕ) (r : Result (Unit {0}) Refusal) (totals' : List ℕ) : Type 0 where
+  pub answer : r ≡ cond (within (plus totals sums)) (Ok tt) (Err PastLimit)
   pub after : totals' ≡ cond (within (plus totals sums)) (plus totals sums) totals
 
 -- the frame's rate is one of four, and its MPDU lies in the payload, in a body that starts at this place
@@ -53,8 +50,8 @@ pub record Lies (s : List ℕ) (body : ℕ) (f : PtiFrame) : Type 0 where
   pub inside : body + f.start.0 + f.length ≤ length s
 
 -- the frame of a body, if it holds one
-abbrev pub framed_in : Rules → List ℕ → Framed
-framed_in w b = cond (is_frame w b) (Is (frame_of w b)) Nothing
+abbrev pub framed_in : Rules → List ℕ → Option PtiFrame
+framed_in w b = cond (is_frame w b) (Some (frame_of w b)) None
 
 -- what the frame in a body counts, if it holds one
 abbrev pub body_counts : Rules → List ℕ → ℕ → List ℕ → Span → List (ℕ × ℕ)

@@ -1,20 +1,16 @@
 -- TO1 to TO5 (docs/RULES.md): the totals of a capture, and what one payload adds to them.
-use Rattle.std.specs.Prelude.{◌≡◌, Bool, true, cond, ◌&&◌, List, [], ◌∷◌, ℕ, suc, ◌+◌, ◌*◌, eqb, leb, length, get_or, take, drop}
+use Rattle.std.specs.Prelude.{◌≡◌, Bool, true, cond, ◌&&◌, List, [], ◌∷◌, ℕ, suc, ◌+◌, ◌*◌, eqb, leb, length, get_or, take, drop, Result, Ok, Err}
 use Rattle.refusal.specs.declared.Refusal.TheVariants.{TooLong, PastLimit, Firmware}
 use Rattle.refusal.specs.Refusal.{most_payload, number_of, carried_by}
-use Rattle.text.specs.declared.Verdict.{Verdict}
-use Rattle.text.specs.declared.Verdict.TheVariants as text
 use Rattle.frame_text.specs.Rules.{verdict}
 use Rattle.frame.specs.declared.Reading.{Reading}
 use Rattle.frame.specs.declared.Rules.{Rules}
 use Rattle.frame.specs.Frame.{region_bits, rules_of}
 use Rattle.pti.specs.Payload.{rows_of}
 use Rattle.header_rules.specs.Table.{most_numbers}
-use Rattle.header.specs.declared.Decoded.{Decoded}
-use Rattle.header.specs.declared.Decoded.TheVariants as header
 use Rattle.header.specs.Decode.{decoded}
-use Rattle.totals.specs.declared.Added.{Added}
-use Rattle.totals.specs.declared.Added.TheVariants.{Counted, Refused}
+use Rattle.header.specs.declared.DecodedHeader.{DecodedHeader}
+use Rattle.refusal.specs.declared.Refusal.{Refusal}
 
 -- ---- TO1: the totals, by their places: the first are counts by key and rate
 
@@ -48,9 +44,9 @@ abbrev pub refused_counts : ℕ → List (ℕ × ℕ)
 refused_counts n = cond (leb 5 n && leb n 7) ((refused_at n, 1) ∷ []) []
 
 -- TO3: by what `decode_header` answers at this rate
-abbrev pub header_counts : ℕ → Decoded → List (ℕ × ℕ)
-header_counts rate (header.Header h) = (key_at h.key rate, 1) ∷ (wrong_at, cond h.right 0 1) ∷ []
-header_counts rate (header.Refused x) = refused_counts (number_of x)
+abbrev pub header_counts : ℕ → Result DecodedHeader Refusal → List (ℕ × ℕ)
+header_counts rate (Ok h) = (key_at h.key rate, 1) ∷ (wrong_at, cond h.right 0 1) ∷ []
+header_counts rate (Err x) = refused_counts (number_of x)
 
 -- TO2: a beam that stands there so often
 abbrev pub beam_counts : ℕ → List (ℕ × ℕ)
@@ -113,35 +109,35 @@ within [] = true
 within (x ∷ xs) = leb x most && within xs
 
 -- TO5, R10: by an accepted text: 4, then 10
-abbrev pub added_in : Rules → List ℕ → ℕ → List ℕ → List ℕ → Added
+abbrev pub added_in : Rules → List ℕ → ℕ → List ℕ → List ℕ → Result (Unit {0}) Refusal
 added_in w t region s totals =
-    cond (leb (length s) most_payload) (cond (within (raised_by w t region s totals)) Counted (Refused PastLimit)) (Refused (TooLong (length s)))
+    cond (leb (length s) most_payload) (cond (within (raised_by w t region s totals)) (Ok tt) (Err PastLimit)) (Err (TooLong (length s)))
 
 -- R1 to R3
-abbrev pub judged : Verdict → Added → Added
-judged text.Accepted r = r
-judged (text.Refused x) r = Refused x
+abbrev pub judged : Result (Unit {0}) Refusal → Result (Unit {0}) Refusal → Result (Unit {0}) Refusal
+judged (Ok tt) r = r
+judged (Err x) r = Err x
 
 -- TO5, R10: the text, then the payload
-abbrev pub added_by : Rules → List ℕ → ℕ → List ℕ → List ℕ → Added
+abbrev pub added_by : Rules → List ℕ → ℕ → List ℕ → List ℕ → Result (Unit {0}) Refusal
 added_by w t region s totals = judged (verdict t) (added_in w t region s totals)
 
 -- TO5, FV2: 13 first
-abbrev pub added_of : ℕ → Reading → List ℕ → ℕ → List ℕ → List ℕ → Added
+abbrev pub added_of : ℕ → Reading → List ℕ → ℕ → List ℕ → List ℕ → Result (Unit {0}) Refusal
 added_of firmware reading t region s totals =
-    cond (eqb (region_bits firmware) 0) (Refused (Firmware firmware)) (added_by (rules_of firmware reading) t region s totals)
+    cond (eqb (region_bits firmware) 0) (Err (Firmware firmware)) (added_by (rules_of firmware reading) t region s totals)
 
 -- TO5: an answer in numbers: 0, or the number of the refusal, and what it carries
-abbrev pub said : Added → ℕ × ℕ
-said Counted = (0, 0)
-said (Refused x) = (number_of x, carried_by x)
+abbrev pub said : Result (Unit {0}) Refusal → ℕ × ℕ
+said (Ok tt) = (0, 0)
+said (Err x) = (number_of x, carried_by x)
 
 -- TO4, R12: the totals after an answer or a refusal
-abbrev pub totals_after : Rules → List ℕ → ℕ → List ℕ → List ℕ → Added → List ℕ
-totals_after w t region s totals Counted = raised_by w t region s totals
-totals_after w t region s totals (Refused x) = totals
+abbrev pub totals_after : Rules → List ℕ → ℕ → List ℕ → List ℕ → Result (Unit {0}) Refusal → List ℕ
+totals_after w t region s totals (Ok tt) = raised_by w t region s totals
+totals_after w t region s totals (Err x) = totals
 
 -- TO4, TO5: what a call of `add_payload` answers and leaves
-pub record Adds (firmware : ℕ) (reading : Reading) (t : List ℕ) (region : ℕ) (s totals : List ℕ) (r : Added) (totals' : List ℕ) : Type 0 where
+pub record Adds (firmware : ℕ) (reading : Reading) (t : List ℕ) (region : ℕ) (s totals : List ℕ) (r : Result (Unit {0}) Refusal) (totals' : List ℕ) : Type 0 where
   pub answer : r ≡ added_of firmware reading t region s totals
   pub after : totals' ≡ totals_after (rules_of firmware reading) t region s totals r

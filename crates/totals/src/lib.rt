@@ -1,27 +1,24 @@
 // The totals of a capture: TO1 to TO5 of docs/RULES.md. One payload at a time is added to totals that the caller lends.
 #![tactic(auto)]
 
-ghost use Rattle.std.specs.Prelude.{◌≡◌, true, cond, not, [], ◌∷◌, ◌≤◌, ◌<◌, length};
-ghost use Rattle.text.specs.declared.Verdict.TheVariants.{Accepted};
+ghost use Rattle.std.specs.Prelude.{◌≡◌, true, cond, not, [], ◌∷◌, ◌≤◌, ◌<◌, length, Ok};
 ghost use Rattle.frame_text.specs.Rules.{verdict};
 ghost use Rattle.radio.specs.Speed.{RateTable};
 ghost use Rattle.refusal.specs.Refusal.{most_payload, number_of};
 ghost use Rattle.header_rules.specs.Table.{most_numbers};
-ghost use Rattle.header.specs.declared.Decoded.TheVariants.{Header};
 ghost use Rattle.header.specs.Decode.{decoded};
 ghost use Rattle.pti.specs.Payload.{rows_of, row_of};
 ghost use Rattle.pti.specs.Steps.{Within};
 ghost use Rattle.totals.specs.Totals.{size, refused_counts, header_counts, beam_counts, frame_counts, within, Adds};
 ghost use Rattle.totals.specs.Steps.{zeros, Room, Tallies, Lies, framed_in, body_counts, tally_rows, plus, AddsSums};
 
-use frame::{PtiFrame, Reading, Rules, Split, frame_of, rules_of, split_body};
+use frame::{PtiFrame, Reading, Rules, frame_of, rules_of, split_body};
 use frame_text::check_frame_text;
-use header::{Decoded, DecodedHeader, identify_accepted};
+use header::{DecodedHeader, identify_accepted};
 use pti::payload::beams_number;
 use radio::speed::RATES;
-use records::{Next, PayloadOffset, Span, next_body};
+use records::{PayloadOffset, Span, next_body};
 use refusal::{MOST_PAYLOAD, Refusal};
-use text::Verdict;
 
 // How many rates there are: a key has a count for each.
 pub const RATE_COUNT: usize = 4;
@@ -44,21 +41,6 @@ pub const TOTALS: usize = 1031;
 // The greatest total.
 pub const MOST: u64 = 9223372036854775807;
 
-// What adding a payload answers.
-#[derive(Clone, Copy)]
-pub enum Added {
-    // Its frames are counted.
-    Counted,
-    Refused(Refusal),
-}
-
-// The frame of a body, if there is one.
-#[derive(Clone, Copy)]
-pub enum Framed {
-    Is(PtiFrame),
-    Nothing,
-}
-
 fn add(sums: &mut [u64; TOTALS], at: usize, n: u16)
     requires { (at < size) × (Room 1 sums.old) }
     ensures { Tallies 1 ((at, n) ∷ []) sums.old sums.new }
@@ -75,7 +57,7 @@ fn wrong_number(right: bool) -> u16
 
 fn count_heading(header: DecodedHeader, rate: u8, sums: &mut [u64; TOTALS])
     requires { (header.key < 256) × (rate < 4) × (Room 2 sums.old) }
-    ensures { Tallies 2 (header_counts rate (Header header)) sums.old sums.new }
+    ensures { Tallies 2 (header_counts rate (Ok header)) sums.old sums.new }
 {
     add(sums, header.key as usize * RATE_COUNT + rate as usize, 1);
     add(sums, WRONG, wrong_number(header.right));
@@ -97,13 +79,13 @@ fn count_refused(refusal: Refusal, sums: &mut [u64; TOTALS])
 
 // Counts the header of an MPDU at a rate, by an accepted text.
 fn count_header(text: &[u8], mpdu: &[u8], region: u64, rate: u8, sums: &mut [u64; TOTALS])
-    requires text_value { verdict text.now ≡ Accepted }
+    requires text_value { verdict text.now ≡ Ok tt }
     requires rate_bound { (rate < 4) × (Room 2 sums.old) }
     ensures { Tallies 2 (header_counts rate (decoded text.now mpdu.now region rate most_numbers)) sums.old sums.new }
 {
     match identify_accepted(text, mpdu, region, rate as u64) {
-        Decoded::Header(header) => count_heading(header, rate, sums),
-        Decoded::Refused(refusal) => count_refused(refusal, sums),
+        Ok(header) => count_heading(header, rate, sums),
+        Err(refusal) => count_refused(refusal, sums),
     }
 }
 
@@ -125,7 +107,7 @@ fn count_frame(
     body: PayloadOffset,
     sums: &mut [u64; TOTALS],
 )
-    requires text_value { verdict text.now ≡ Accepted }
+    requires text_value { verdict text.now ≡ Ok tt }
     requires lies { Lies payload.now body.0 frame }
     requires room { Room 3 sums.old }
     ensures { Tallies 3 (frame_counts text.now region payload.now (row_of 0 body.0 frame)) sums.old sums.new }
@@ -144,16 +126,16 @@ fn count_frame(
 }
 
 // The frame in a body, if it holds one by these rules.
-fn frame_in(rates: &[u8; 512], body: &[u8], rules: Rules) -> Framed
+fn frame_in(rates: &[u8; 512], body: &[u8], rules: Rules) -> Option<PtiFrame>
     requires rate_table { RateTable rates.now }
     requires width_bound { (rules.width ≤ 5) × (length body.now < most_payload) }
     ensures { result ≡ framed_in rules body.now }
 {
-    let Split::Into(parts) = split_body(rates, body, rules) else {
-        return Framed::Nothing;
+    let Some(parts) = split_body(rates, body, rules) else {
+        return None;
     };
     let reading = rules.reading;
-    Framed::Is(frame_of(body, reading, parts))
+    Some(frame_of(body, reading, parts))
 }
 
 // Counts the frame in a body of the payload, if it holds one by these rules.
@@ -167,14 +149,14 @@ fn count_body(
     sums: &mut [u64; TOTALS],
 )
     requires rate_table { RateTable rates.now }
-    requires text_value { verdict text.now ≡ Accepted }
+    requires text_value { verdict text.now ≡ Ok tt }
     requires width_bound { (rules.width ≤ 5) × (Within payload.now span) }
     requires room { Room 3 sums.old }
     ensures { Tallies 3 (body_counts rules text.now region payload.now span) sums.old sums.new }
 {
     let start = span.start.0;
     let end = span.end.0;
-    let Framed::Is(frame) = frame_in(rates, &payload[start..end], rules) else {
+    let Some(frame) = frame_in(rates, &payload[start..end], rules) else {
         return;
     };
     count_frame(text, payload, region, frame, span.start, sums);
@@ -190,14 +172,14 @@ fn count_frames(
     sums: &mut [u64; TOTALS],
 )
     requires rate_table { RateTable rates.now }
-    requires text_value { verdict text.now ≡ Accepted }
+    requires text_value { verdict text.now ≡ Ok tt }
     requires width_bound { (rules.width ≤ 5) × (length payload.now ≤ most_payload) }
     requires sums_value { sums.old ≡ zeros }
     ensures { sums.new ≡ tally_rows (frame_counts text.now region payload.now) zeros (rows_of rules payload.now) }
 {
     let mut at: usize = 1;
     loop {
-        let Next::Body(span) = next_body(payload, at) else {
+        let Some(span) = next_body(payload, at) else {
             return;
         };
         count_body(rates, text, payload, region, rules, span, sums);
@@ -207,7 +189,7 @@ fn count_frames(
 
 // The same, with the rates lent once for all frames.
 fn count_payload(text: &[u8], payload: &[u8], region: u64, rules: Rules, sums: &mut [u64; TOTALS])
-    requires text_value { verdict text.now ≡ Accepted }
+    requires text_value { verdict text.now ≡ Ok tt }
     requires width_bound { (rules.width ≤ 5) × (length payload.now ≤ most_payload) }
     requires sums_value { sums.old ≡ zeros }
     ensures { sums.new ≡ tally_rows (frame_counts text.now region payload.now) zeros (rows_of rules payload.now) }
@@ -247,15 +229,15 @@ fn raise(totals: &mut [u64], sums: &[u64])
 }
 
 // Adds the sums to the totals, if none of them would pass the limit; else refuses by 10.
-fn add_sums(totals: &mut [u64], sums: &[u64]) -> Added
+fn add_sums(totals: &mut [u64], sums: &[u64]) -> Result<(), Refusal>
     requires { (length totals.old ≡ size) × (length sums.now ≡ size) }
     ensures { AddsSums totals.old sums.now result totals.new }
 {
     if passes(&totals[..], sums) {
-        return Added::Refused(Refusal::PastLimit);
+        return Err(Refusal::PastLimit);
     }
     raise(totals, sums);
-    Added::Counted
+    Ok(())
 }
 
 // Adds the frames of a payload to the totals by an accepted text, for many payloads and one text; or refusal 13, 4 or 10.
@@ -266,16 +248,16 @@ pub fn add_accepted(
     reading: Reading,
     payload: &[u8],
     totals: &mut [u64; TOTALS],
-) -> Added
-    requires { verdict text.now ≡ Accepted }
+) -> Result<(), Refusal>
+    requires { verdict text.now ≡ Ok tt }
     ensures { Adds firmware reading text.now region payload.now totals.old result totals.new }
 {
     let rules = rules_of(firmware, reading);
     if rules.width == 0 {
-        return Added::Refused(Refusal::Firmware(firmware));
+        return Err(Refusal::Firmware(firmware));
     }
     if MOST_PAYLOAD < payload.len() {
-        return Added::Refused(Refusal::TooLong(payload.len()));
+        return Err(Refusal::TooLong(payload.len()));
     }
     let mut sums = [0u64; TOTALS];
     count_payload(text, payload, region, rules, &mut sums);
@@ -291,15 +273,15 @@ pub fn add_payload(
     reading: Reading,
     payload: &[u8],
     totals: &mut [u64; TOTALS],
-) -> Added
+) -> Result<(), Refusal>
     ensures { Adds firmware reading text.now region payload.now totals.old result totals.new }
 {
     let rules = rules_of(firmware, reading);
     if rules.width == 0 {
-        return Added::Refused(Refusal::Firmware(firmware));
+        return Err(Refusal::Firmware(firmware));
     }
     match check_frame_text(text) {
-        Verdict::Accepted => add_accepted(text, region, firmware, reading, payload, totals),
-        Verdict::Refused(refusal) => Added::Refused(refusal),
+        Ok(()) => add_accepted(text, region, firmware, reading, payload, totals),
+        Err(refusal) => Err(refusal),
     }
 }

@@ -1,11 +1,10 @@
 // The request on the totals of a capture.
 #![tactic(auto)]
 
-use answer::Answer;
 use answer::table::{BYTE, put_written};
 use libtap::TapAnswer;
 use libtap::captures::{tap_add_payload, tap_print_totals};
-use request::{Bytes, Two, read_bytes, read_two};
+use request::{Two, read_bytes, read_two};
 use text::find;
 use totals::TOTALS;
 use writer::{Buffer, put, put_byte, put_number};
@@ -27,7 +26,7 @@ fn are_bytes(words: &[u8], bytes: &mut [u8]) -> bool {
     loop {
         let rest = &words[at..];
         let e = find(rest, b' ');
-        let Bytes::Are(_) = read_bytes(&rest[..e], bytes) else {
+        let Some(_) = read_bytes(&rest[..e], bytes) else {
             return false;
         };
         if e == rest.len() {
@@ -63,7 +62,7 @@ fn add_all(
     loop {
         let rest = &words[at..];
         let e = find(rest, b' ');
-        let Bytes::Are(n) = read_bytes(&rest[..e], payload) else {
+        let Some(n) = read_bytes(&rest[..e], payload) else {
             return m;
         };
         let added = tap_add_payload(
@@ -113,41 +112,33 @@ fn answer_words(
     bytes: &mut [u8],
     out: &mut Buffer,
     used: usize,
-) -> Answer {
+) -> Option<usize> {
     let e = find(words, b' ');
     if e == words.len() {
-        return Answer::Bad;
+        return None;
     }
-    let Bytes::Are(n) = read_bytes(&words[..e], bytes) else {
-        return Answer::Bad;
+    let Some(n) = read_bytes(&words[..e], bytes) else {
+        return None;
     };
     let mut payload = [0u8; 262144];
     let payloads = &words[e + 1..];
     if are_bytes(payloads, &mut payload) {
-        return Answer::Put(answer_totals(
-            payloads,
-            &bytes[..n],
-            start,
-            by,
-            &mut payload,
-            out,
-            used,
-        ));
+        return Some(answer_totals(payloads, &bytes[..n], start, by, &mut payload, out, used));
     }
-    Answer::Bad
+    None
 }
 
 // `totals START FIRMWARE READING REGION TEXT PAYLOAD ..`
-pub fn totals(words: &[u8], bytes: &mut [u8], out: &mut Buffer, used: usize) -> Answer {
+pub fn totals(words: &[u8], bytes: &mut [u8], out: &mut Buffer, used: usize) -> Option<usize> {
     let Two::Are(start, firmware, at) = read_two(words) else {
-        return Answer::Bad;
+        return None;
     };
     let others = &words[at..];
     let Two::Are(reading, region, from) = read_two(others) else {
-        return Answer::Bad;
+        return None;
     };
     if 1 < reading {
-        return Answer::Bad;
+        return None;
     }
     let by = By {
         firmware: firmware as usize,

@@ -11,7 +11,6 @@ use lib.Seq.{sets, length-sets, length-take-le, get_or-take}
 use borrow.Author.Tests.{eq-eqb, ne_eqb}
 use Rattle.laws.proofs.Lists.{next, done}
 use Rattle.buffer.specs.Buffer.{Writes}
-use Rattle.buffer.specs.declared.Written.TheVariants.{Length, Refused}
 use Rattle.buffer.proofs.Laws.{sets-append, writes_short, writes_room}
 use Rattle.refusal.specs.declared.Refusal.TheVariants.{MoreBytes}
 use Rattle.numerals.specs.Numerals.{room, decimal, Spells}
@@ -20,6 +19,7 @@ use Rattle.totals.specs.Totals.{size, wrong_at}
 use Rattle.totals_text.specs.Text.{item, space, ended, key_word, wrong_word, beams_word, repeats_word, bytes_word, refused_word, key_line, key_lines}
 use Rattle.totals_text.specs.Text.{refused_line, sum_lines, refused_lines, text_of}
 use Rattle.totals_text.specs.Steps.{Appends}
+use Rattle.std.specs.Prelude.{Ok, Err}
 
 -- ---- bytes
 module _ (l b : List ℕ) (at : ℕ) (few : length l ≤ room) where
@@ -165,10 +165,10 @@ module _ (l none none' : List ℕ) (n : ℕ) (counted : Appends 158290 l none 0 
   length_is : n ≡ length l
   length_is = omega (arith, counted.next)
 
-  pub print-short : (b : List ℕ) → length b < n → Writes l b (Refused (MoreBytes n)) b
+  pub print-short : (b : List ℕ) → length b < n → Writes l b (Err (MoreBytes n)) b
   print-short b h = writes_short l b n length_is h
 
-  pub print-all : (b b' : List ℕ) (m : ℕ) → Appends 158290 l b 0 m b' → n ≤ length b → Writes l b (Length n) b'
+  pub print-all : (b b' : List ℕ) (m : ℕ) → Appends 158290 l b 0 m b' → n ≤ length b → Writes l b (Ok n) b'
   print-all b b' m x h = writes_room l b n length_is b' (x.fill (omega (arith, length_is))) h
 
 pub ruleset laws = (

@@ -8,7 +8,7 @@ ghost use Rattle.totals.specs.Totals.{size, wrong_at};
 ghost use Rattle.totals_text.specs.Text.{item, key_line, key_lines, refused_line, sum_lines, refused_lines, text_of};
 ghost use Rattle.totals_text.specs.Steps.{Appends};
 
-use buffer::{Written, put};
+use buffer::put;
 use numerals::{ROOM, decimal};
 use refusal::Refusal;
 use totals::{BEAMS, BYTES, RATE_COUNT, REFUSED, REPEATS, TOTALS, WRONG};
@@ -120,21 +120,21 @@ fn append_totals(totals: &[u64], buffer: &mut [u8]) -> usize
 }
 
 // Writes them if the buffer has room for all of them, which are counted first; else refuses by 12.
-fn write_totals(totals: &[u64], buffer: &mut [u8]) -> Written
+fn write_totals(totals: &[u64], buffer: &mut [u8]) -> Result<usize, Refusal>
     requires { length totals.now ≡ size }
     ensures { Writes (text_of totals.now) buffer.old result buffer.new }
 {
     let mut none = [0u8; 0];
     let length = append_totals(totals, &mut none);
     if buffer.len() < length {
-        return Written::Refused(Refusal::MoreBytes(length));
+        return Err(Refusal::MoreBytes(length));
     }
     append_totals(totals, buffer);
-    Written::Length(length)
+    Ok(length)
 }
 
 // The text of totals into the buffer; answers its length, or refusal 12. A refusal writes nothing, an answer nothing behind the text.
-pub fn print_totals(totals: &[u64; TOTALS], buffer: &mut [u8]) -> Written
+pub fn print_totals(totals: &[u64; TOTALS], buffer: &mut [u8]) -> Result<usize, Refusal>
     ensures { Writes (text_of totals.now) buffer.old result buffer.new }
 {
     write_totals(&totals[..], buffer)

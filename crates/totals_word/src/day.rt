@@ -1,6 +1,5 @@
 // The payloads of captures, added to totals one by one.
-ghost use Rattle.std.specs.Prelude.{◌≡◌, ◌<◌};
-ghost use Rattle.text.specs.declared.Verdict.TheVariants.{Accepted};
+ghost use Rattle.std.specs.Prelude.{◌≡◌, ◌<◌, Ok};
 ghost use Rattle.frame_text.specs.Rules.{verdict};
 ghost use Rattle.files.specs.Capture.{Inside};
 
@@ -8,23 +7,23 @@ use files::capture::{Item, Source, next_item};
 use files::day::{Day, pass_line, refuse_payload, tell_progress};
 use files::input::Reader;
 use files::options::Options;
-use frame::{Parsed, Reading, parse_record, reading_by};
+use frame::{Reading, parse_record, reading_by};
 use readers::region::frame_code;
-use records::{Next, next_body};
+use records::next_body;
 use refusal::Refusal;
 use std::rt::Files;
-use totals::{Added, TOTALS, add_accepted};
+use totals::{TOTALS, add_accepted};
 
 // The F code of the first frame's region, as the table of frames has it.
 fn first_code(payload: &[u8], firmware: usize, reading: Reading) -> u64 {
     let mut at: usize = 1;
     loop {
-        let Next::Body(span) = next_body(payload, at) else {
+        let Some(span) = next_body(payload, at) else {
             return frame_code(0);
         };
         let start = span.start.0;
         let end = span.end.0;
-        if let Parsed::Frame(frame) = parse_record(&payload[start..end], firmware, reading) {
+        if let Ok(frame) = parse_record(&payload[start..end], firmware, reading) {
             return frame_code(frame.region as u64);
         }
         at = end + 2;
@@ -46,13 +45,13 @@ fn add_one(
     totals: &mut [u64; TOTALS],
     day: Day,
 ) -> Day
-    requires { verdict text.now ≡ Accepted }
+    requires { verdict text.now ≡ Ok tt }
 {
     let region = region_of(payload, options);
     let reading = reading_by(options.family);
     match add_accepted(text, region, options.firmware, reading, payload, totals) {
-        Added::Counted => day,
-        Added::Refused(refusal) => refuse_payload(refusal, day),
+        Ok(()) => day,
+        Err(refusal) => refuse_payload(refusal, day),
     }
 }
 
@@ -65,7 +64,7 @@ fn take_payload(
     totals: &mut [u64; TOTALS],
     day: Day,
 ) -> Day
-    requires { verdict text.now ≡ Accepted }
+    requires { verdict text.now ≡ Ok tt }
 {
     let next = day.with_payload();
     tell_progress(options, next);
@@ -83,7 +82,7 @@ fn take_item(
     totals: &mut [u64; TOTALS],
     day: Day,
 ) -> Day
-    requires { verdict text.now ≡ Accepted }
+    requires { verdict text.now ≡ Ok tt }
 {
     match item {
         Item::Payload(count) => take_payload(text, options, count, payload, totals, day),
@@ -106,7 +105,7 @@ pub fn add_capture<R: Files + Input>(
     before: Day,
 ) -> Day
     requires inside { Inside block.old start }
-    requires text_value { verdict text.now ≡ Accepted }
+    requires text_value { verdict text.now ≡ Ok tt }
 {
     let mut source = start;
     let mut day = before;

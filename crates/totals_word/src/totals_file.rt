@@ -1,17 +1,15 @@
 // The word `totals`: the totals of the captures that are named.
-ghost use Rattle.std.specs.Prelude.{◌≡◌};
-ghost use Rattle.text.specs.declared.Verdict.TheVariants.{Accepted};
+ghost use Rattle.std.specs.Prelude.{◌≡◌, Ok};
 ghost use Rattle.frame_text.specs.Rules.{verdict};
 
 use crate::day::add_capture;
 use crate::words_page::put_page;
-use buffer::Written;
 use files::arguments::{argument, argument_count};
 use files::capture::Opened;
 use files::day::{Day, end};
 use files::frame_names::{State, load_frames};
 use files::input::{Reader, is_spent, is_standard, open_name};
-use files::options::{Asked, Options, next_file};
+use files::options::{Options, next_file};
 use output::outcome::{fail, refuse, tell_unreadable};
 use std::rt::{Env, Files};
 use totals::TOTALS;
@@ -25,10 +23,10 @@ const ROOM: usize = 32768;
 fn print_page(totals: &[u64; TOTALS]) {
     let mut page = [0u8; ROOM];
     match print_totals(totals, &mut page) {
-        Written::Length(n) => {
+        Ok(n) => {
             io::write_all(STDOUT_FILENO, &page[..n]);
         }
-        Written::Refused(_) => {}
+        Err(_) => {}
     }
 }
 
@@ -51,7 +49,7 @@ fn add_opened<R: Files + Input>(
     totals: &mut [u64; TOTALS],
     day: Day,
 ) -> Day
-    requires { verdict text.now ≡ Accepted }
+    requires { verdict text.now ≡ Ok tt }
 {
     let mut block = io::buffer();
     let Opened::At(source) = files::capture::open(reader, &mut block) else {
@@ -80,7 +78,7 @@ fn add_file(
     totals: &mut [u64; TOTALS],
     day: Day,
 ) -> Day
-    requires { verdict text.now ≡ Accepted }
+    requires { verdict text.now ≡ Ok tt }
 {
     let mut name = io::buffer();
     let n = argument(rt, k, &mut name);
@@ -104,7 +102,7 @@ fn add_files(
     options: Options,
     totals: &mut [u64; TOTALS],
 ) -> Day
-    requires { verdict text.now ≡ Accepted }
+    requires { verdict text.now ≡ Ok tt }
 {
     let end = argument_count(rt);
     let mut day = Day::new();
@@ -121,7 +119,7 @@ fn add_files(
 }
 
 fn show_by(rt: &(impl Env + Files + Input), text: &[u8], options: Options)
-    requires { verdict text.now ≡ Accepted }
+    requires { verdict text.now ≡ Ok tt }
 {
     let mut totals = [0u64; TOTALS];
     let day = add_files(rt, text, options, &mut totals);
@@ -131,7 +129,7 @@ fn show_by(rt: &(impl Env + Files + Input), text: &[u8], options: Options)
 
 // `tap totals FILE ..`.
 pub fn show_totals(rt: &(impl Env + Files + Input)) {
-    let Asked::Options(options) = files::options::read_some(
+    let Some(options) = files::options::read_some(
         rt,
         b"--definitions\t--words\t--region\t--progress\t--firmware\t--beams",
         b"tap: totals takes one FILE or more, or - for standard input\n",

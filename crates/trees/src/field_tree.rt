@@ -3,10 +3,9 @@ ghost use Rattle.std.specs.Prelude.{◌≤◌};
 
 use crate::node_lines::{MOST_NODES, put_first};
 use crate::ruler::letter;
-use frame_text::{ParamType, Typed, read_type};
+use frame_text::{ParamType, read_type};
 use header_nodes::row_nodes;
 use header_rows::{BITS, NUMBER, PARENT, ROW_WIDTH, START, SYMBOL, VALUE};
-use node_mask::Listed;
 use readers::cells::{cell, depth_of};
 use readers::line_fields::field_of;
 use readers::lines::find_line;
@@ -67,7 +66,7 @@ fn put_head(
 }
 
 fn is_bitmask(kind: &[u8]) -> bool {
-    let Typed::Is(known) = read_type(kind) else {
+    let Some(known) = read_type(kind) else {
         return false;
     };
     match known {
@@ -93,8 +92,8 @@ fn put_mask(
     if is_bitmask(kind) {
         let mut nodes = [0u16; MOST_NODES];
         return match row_nodes(text, mpdu, rows, i, &mut nodes) {
-            Listed::Nodes(n) => put_first(out, at, &nodes, n),
-            Listed::Refused(_) => at,
+            Ok(n) => put_first(out, at, &nodes, n),
+            Err(_) => at,
         };
     }
     at

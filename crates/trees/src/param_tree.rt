@@ -3,8 +3,7 @@ use crate::field_tree::{put_deep, put_range};
 use crate::node_lines::{MOST_NODES, put_first};
 use command_nodes::row_nodes;
 use command_rows::{END, KIND, LACKING, LINE, NUMBER, PARENT, ROW_WIDTH, START, VALUE, VALUED};
-use command_text::{ParamType, Typed, read_type};
-use node_mask::Listed;
+use command_text::{ParamType, read_type};
 use readers::cells::{cell, depth_of};
 use readers::line_fields::field_of;
 use readers::lines::numbered_line;
@@ -116,7 +115,7 @@ fn put_said(
 
 // Is this the name of the type of a Q that may be a mask?
 fn is_bitmask(kind: &[u8]) -> bool {
-    let Typed::Is(known) = read_type(kind) else {
+    let Some(known) = read_type(kind) else {
         return false;
     };
     match known {
@@ -146,8 +145,8 @@ fn put_mask(
     if is_bitmask(field_of(numbered_line(text, cell(rows, ROW_WIDTH, i, LINE)), 2)) {
         let mut nodes = [0u16; MOST_NODES];
         return match row_nodes(text, payload, rows, i, &mut nodes) {
-            Listed::Nodes(n) => put_first(out, at, &nodes, n),
-            Listed::Refused(_) => at,
+            Ok(n) => put_first(out, at, &nodes, n),
+            Err(_) => at,
         };
     }
     at

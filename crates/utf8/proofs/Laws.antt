@@ -2,7 +2,6 @@
 use mathlib.Core.Path.{◌≡◌, refl, sym, ap}
 use mathlib.Core.Bool.{Bool, true, false, ◌&&◌, ◌||◌}
 use mathlib.Core.List.{List, [], ◌∷◌}
-use mathlib.Core.Option.{Option, none, some}
 use Prim.Native.Nat.{ℕ, zero, suc, ◌+◌, ◌-◌, ◌≤◌, ◌<◌, max}
 use native.Mathlib.Omega.{arith}
 use native.Mathlib.Numerals.{add-one}
@@ -16,6 +15,7 @@ use Rattle.utf8.specs.declared.Lead.{Lead}
 use Rattle.utf8.specs.declared.Lead.TheVariants.{Then, Never}
 use Rattle.utf8.specs.Table.{Row, table, within, fits, fits_one, agree, longest, begins, cut}
 use Rattle.utf8.specs.Lead.{rest, tails, told}
+use Rattle.std.specs.Prelude.{Option, Some, None}
 
 pub and_false : (b : Bool) → b && false ≡ false
 and_false true = refl
@@ -46,7 +46,7 @@ rising lo r rs rows a =
     }
 
 record Low (rows : List Row) (x : ℕ) (xs : List ℕ) : Type 0 where
-  rest_is : rest rows x ≡ none
+  rest_is : rest rows x ≡ None
   size_is : longest rows (x ∷ xs) ≡ 0
   well_is : begins rows (x ∷ xs) ≡ false
   form_is : fits_one rows (x ∷ xs) ≡ false
@@ -69,16 +69,16 @@ low ((r ∷ rs) ∷ rows) lo x xs a h =
 
 -- what the first byte says decides the first piece
 abbrev pub size_by : Option Row → List ℕ → ℕ
-size_by none xs = 0
-size_by (some rs) xs = suc (agree rs xs)
+size_by None xs = 0
+size_by (Some rs) xs = suc (agree rs xs)
 
 abbrev pub well_by : Option Row → List ℕ → Bool
-well_by none xs = false
-well_by (some rs) xs = eqb (suc (agree rs xs)) (suc (length rs))
+well_by None xs = false
+well_by (Some rs) xs = eqb (suc (agree rs xs)) (suc (length rs))
 
 abbrev pub form_by : Option Row → List ℕ → Bool
-form_by none xs = false
-form_by (some rs) xs = fits rs xs
+form_by None xs = false
+form_by (Some rs) xs = fits rs xs
 
 pub record Led (rows : List Row) (x : ℕ) (xs : List ℕ) : Type 0 where
   pub size_by_lem : longest rows (x ∷ xs) ≡ size_by (rest rows x) xs
@@ -116,7 +116,7 @@ others_of (r ∷ rs) = rs
 -- a byte that begins row n is no less than the first that begins one, and has to be followed as row n says
 record Begun (rows : List Row) (lo x n : ℕ) : Type 0 where
   above : lo ≤ x
-  others : rest rows x ≡ some (others_of (get_or rows n []))
+  others : rest rows x ≡ Some (others_of (get_or rows n []))
 
 begun : (rows : List Row) (lo x n : ℕ) → apart lo rows ≡ true → (first_of (get_or rows n [])).0 ≤ x → x ≤ (first_of (get_or rows n [])).1
     → Begun rows lo x n
@@ -131,7 +131,7 @@ begun ((r ∷ rs) ∷ rows) lo x (suc n) a l u =
     record { above = omega arith; others = rw (lt-leb x r.1 (omega arith)) i.others }
 
 module _ (b : ℕ) where
-  row : (n : ℕ) → (first_of (get_or table n [])).0 ≤ b → b ≤ (first_of (get_or table n [])).1 → rest table b ≡ some (others_of (get_or table n []))
+  row : (n : ℕ) → (first_of (get_or table n [])).0 ≤ b → b ≤ (first_of (get_or table n [])).1 → rest table b ≡ Some (others_of (get_or table n []))
   row n l u = (begun table 0 b n refl l u).others
 
   pub lead_00 : b ≤ 0x7f → rest table b ≡ told (Then 0 0x80 0xbf)
@@ -220,11 +220,11 @@ pub cut-never : (s : List ℕ) (r : Lead) → 1 ≤ length s → rest table (get
 unfolding cut
 cut-never [] r n t e = absurd (omega arith)
 cut-never (x ∷ xs) r n t e =
-    let q : rest table x ≡ none = rw e at t in
+    let q : rest table x ≡ None = rw e at t in
     rw ((by_lead x xs).size_by_lem, (by_lead x xs).well_by_lem, q)
 
 -- the first piece of a byte that begins a row, by how many bytes behind it fit
-pub cut_some : (x : ℕ) (xs : List ℕ) (rs : Row) → rest table x ≡ some rs
+pub cut_some : (x : ℕ) (xs : List ℕ) (rs : Row) → rest table x ≡ Some rs
     → cut (x ∷ xs) ≡ record { size = suc (agree rs xs); well = eqb (suc (agree rs xs)) (suc (length rs)) }
 unfolding cut
 cut_some x xs rs q =
@@ -236,7 +236,7 @@ cut-told : (s : List ℕ) (r : Lead) (n lo hi k : ℕ) → rest table (get_or s 
     → cut s ≡ record { size = k + 1; well = eqb (suc k) (suc n) }
 cut-told [] r n lo hi k t e f h = absurd (omega arith)
 cut-told (x ∷ xs) r n lo hi k t e f h =
-    let q : rest table x ≡ some (tails n lo hi) = rw e at t in
+    let q : rest table x ≡ Some (tails n lo hi) = rw e at t in
     let a : agree (tails n lo hi) xs ≡ k = rw (take_all (length (x ∷ xs) - 1) xs (omega arith)) at (sym f) in
     rw (cut_some x xs (tails n lo hi) q, a, length-tails, add-one)
 

@@ -3,7 +3,6 @@
 use mathlib.Core.Path.{◌≡◌, refl, sym, ap, ◌∙◌}
 use mathlib.Core.Bool.{Bool, true, false, cond, ◌&&◌}
 use mathlib.Core.List.{List, [], ◌∷◌, ◌++◌}
-use mathlib.Core.Option.{Option, none, some}
 use Prim.Native.Nat.{ℕ, zero, suc, ◌≤◌}
 use native.Mathlib.Omega.{arith}
 use lib.Dec.{leb, eqb}
@@ -13,6 +12,7 @@ use Rattle.laws.proofs.Bools.{and_left, and_right}
 use Rattle.utf8.specs.Table.{Row, table, within, fits, well_formed, agree, cut}
 use Rattle.utf8.specs.Lead.{rest}
 use Rattle.utf8.proofs.Laws.{by_lead, cut_some, and_false}
+use Rattle.std.specs.Prelude.{Option, Some, None}
 
 impossible : {A : Type 0} → true ≡ false → A
 impossible e = absurd (let z : ◌≡◌ {A = ℕ} 0 1 = cc in omega arith)
@@ -21,15 +21,15 @@ cut_nil : (cut []).size ≡ 1
 unfolding cut
 cut_nil = refl
 
-cut-none : (x : ℕ) (xs : List ℕ) → rest table x ≡ none → cut (x ∷ xs) ≡ record { size = 1; well = false }
+cut-none : (x : ℕ) (xs : List ℕ) → rest table x ≡ None → cut (x ∷ xs) ≡ record { size = 1; well = false }
 unfolding cut
 cut-none x xs q = rw ((by_lead x xs).size_by_lem, (by_lead x xs).well_by_lem, q)
 
-form_some : (x : ℕ) (xs : List ℕ) (rs : Row) → rest table x ≡ some rs → well_formed (x ∷ xs) ≡ fits rs xs
+form_some : (x : ℕ) (xs : List ℕ) (rs : Row) → rest table x ≡ Some rs → well_formed (x ∷ xs) ≡ fits rs xs
 unfolding well_formed
 form_some x xs rs q = rw ((by_lead x xs).form_by_lem, q)
 
-form-none : (x : ℕ) (xs : List ℕ) → rest table x ≡ none → well_formed (x ∷ xs) ≡ false
+form-none : (x : ℕ) (xs : List ℕ) → rest table x ≡ None → well_formed (x ∷ xs) ≡ false
 unfolding well_formed
 form-none x xs q = rw ((by_lead x xs).form_by_lem, q)
 
@@ -84,16 +84,16 @@ pub cut-sized : (x : ℕ) (xs : List ℕ) → Sized (x ∷ xs)
 cut-sized x xs = go (rest table x) refl
   where
     go : (o : Option Row) → rest table x ≡ o → Sized (x ∷ xs)
-    go none q = record { some_size = rw (cut-none x xs q) (omega arith); in_size = rw (cut-none x xs q) (omega arith) }
-    go (some rs) q = record { some_size = rw (cut_some x xs rs q) (omega arith); in_size = rw (cut_some x xs rs q) (omega (arith, agree-le rs xs)) }
+    go None q = record { some_size = rw (cut-none x xs q) (omega arith); in_size = rw (cut-none x xs q) (omega arith) }
+    go (Some rs) q = record { some_size = rw (cut_some x xs rs q) (omega arith); in_size = rw (cut_some x xs rs q) (omega (arith, agree-le rs xs)) }
 
 -- ---- a piece that is well is a well-formed sequence
 pub well_is : (x : ℕ) (xs : List ℕ) → (cut (x ∷ xs)).well ≡ true → well_formed (take (cut (x ∷ xs)).size (x ∷ xs)) ≡ true
 well_is x xs e = go (rest table x) refl
   where
     go : (o : Option Row) → rest table x ≡ o → well_formed (take (cut (x ∷ xs)).size (x ∷ xs)) ≡ true
-    go none q = impossible (sym (rw (cut-none x xs q) at e))
-    go (some rs) q =
+    go None q = impossible (sym (rw (cut-none x xs q) at e))
+    go (Some rs) q =
         let f : eqb (suc (agree rs xs)) (suc (length rs)) ≡ true = rw (cut_some x xs rs q) at e in
         let a : agree rs xs ≡ length rs = omega (arith, eqb-true (suc (agree rs xs)) (suc (length rs)) f) in
         rw (cut_some x xs rs q, form_some x (take (agree rs xs) xs) rs q, a) (agree-fits rs xs a)
@@ -103,8 +103,8 @@ pub well_front : (x : ℕ) (p l : List ℕ) → well_formed (x ∷ p) ≡ true �
 well_front x p l e = go (rest table x) refl
   where
     go : (o : Option Row) → rest table x ≡ o → cut (x ∷ (p ++ l)) ≡ record { size = suc (length p); well = true }
-    go none q = impossible (sym (rw (form-none x p q) at e))
-    go (some rs) q =
+    go None q = impossible (sym (rw (form-none x p q) at e))
+    go (Some rs) q =
         let f : fits rs p ≡ true = rw (form_some x p rs q) at e in
         let i : (agree rs (p ++ l) ≡ length p) × (length rs ≡ length p) = fits-agree rs p l f in
         rw (cut_some x (p ++ l) rs q, i.0, i.1, eq-eqb (suc (length p)) (suc (length p)) refl)
@@ -125,11 +125,11 @@ cut_most [] (suc n) w h e = absurd (omega arith)
 cut_most (x ∷ xs) (suc n) w h e = go (rest table x) refl
   where
     go : (o : Option Row) → rest table x ≡ o → suc n ≤ (cut (x ∷ xs)).size
-    go none q = impossible (sym (rw (form-none x (take n xs ++ w) q) at e))
-    go (some rs) q = rw (cut_some x xs rs q) (omega (arith, fits-most rs n xs w (omega arith) (rw (form_some x (take n xs ++ w) rs q) at e)))
+    go None q = impossible (sym (rw (form-none x (take n xs ++ w) q) at e))
+    go (Some rs) q = rw (cut_some x xs rs q) (omega (arith, fits-most rs n xs w (omega arith) (rw (form_some x (take n xs ++ w) rs q) at e)))
 
 -- ---- two bytes or more are a front of a well-formed sequence
--- no byte of a row may be 0, and each may be some
+-- no byte of a row may be 0, and each may be Some
 abbrev sound : Row → Bool
 sound [] = true
 sound (r ∷ rs) = (leb 1 r.0 && leb r.0 r.1) && sound rs
@@ -153,16 +153,16 @@ sound_all [] = true
 sound_all ([] ∷ rows) = false
 sound_all ((r ∷ rs) ∷ rows) = sound rs && sound_all rows
 
-sound_some : (rows : List Row) (x : ℕ) (rs : Row) → sound_all rows ≡ true → rest rows x ≡ some rs → sound rs ≡ true
+sound_some : (rows : List Row) (x : ℕ) (rs : Row) → sound_all rows ≡ true → rest rows x ≡ Some rs → sound rs ≡ true
 sound_some [] x rs s q = absurd (let z : ◌≡◌ {A = ℕ} 0 1 = cc in omega arith)
 sound_some ([] ∷ rows) x rs s q = impossible (sym s)
 sound_some ((r ∷ ts) ∷ rows) x rs s q = go (within r x) q (sound_some rows x rs (and_right (sound ts) (sound_all rows) s))
   where
-    go : (t : Bool) → cond t (some ts) (rest rows x) ≡ some rs → (rest rows x ≡ some rs → sound rs ≡ true) → sound rs ≡ true
+    go : (t : Bool) → cond t (Some ts) (rest rows x) ≡ Some rs → (rest rows x ≡ Some rs → sound rs ≡ true) → sound rs ≡ true
     go true e i = let z : ts ≡ rs = cc in rw z at (and_left (sound ts) (sound_all rows) s)
     go false e i = i e
 
-table_sound : (x : ℕ) (rs : Row) → rest table x ≡ some rs → sound rs ≡ true
+table_sound : (x : ℕ) (rs : Row) → rest table x ≡ Some rs → sound rs ≡ true
 table_sound x rs q = sound_some table x rs refl q
 
 -- the least bytes that a row admits
@@ -191,8 +191,8 @@ front_of [] h = absurd (omega (arith, cut_nil))
 front_of (x ∷ xs) h = go (rest table x) refl
   where
     go : (o : Option Row) → rest table x ≡ o → (w : List ℕ) × (well_formed (take (cut (x ∷ xs)).size (x ∷ xs) ++ w) ≡ true)
-    go none q = absurd (omega (arith, rw (cut-none x xs q) at h))
-    go (some rs) q = (
+    go None q = absurd (omega (arith, rw (cut-none x xs q) at h))
+    go (Some rs) q = (
       least (drop (agree rs xs) rs),
       rw (
         cut_some x xs rs q,
@@ -213,5 +213,5 @@ pub cut-zeros : (x : ℕ) (xs : List ℕ) (n : ℕ) → cut (x ∷ (xs ++ replic
 cut-zeros x xs n = go (rest table x) refl
   where
     go : (o : Option Row) → rest table x ≡ o → cut (x ∷ (xs ++ replicate n 0)) ≡ cut (x ∷ xs)
-    go none q = rw (cut-none x xs q, cut-none x (xs ++ replicate n 0) q)
-    go (some rs) q = rw (cut_some x xs rs q, cut_some x (xs ++ replicate n 0) rs q, agree-zeros rs xs n (table_sound x rs q))
+    go None q = rw (cut-none x xs q, cut-none x (xs ++ replicate n 0) q)
+    go (Some rs) q = rw (cut_some x xs rs q, cut_some x (xs ++ replicate n 0) rs q, agree-zeros rs xs n (table_sound x rs q))

@@ -3,12 +3,9 @@
 
 ghost use Rattle.std.specs.Prelude.{◌≤◌, length};
 
-use answer::Answer;
 use answer::table::{BYTE, MOST_BYTES, put_written};
 use libtap::values::{tap_command_value, tap_header_value};
-use request::row::{
-    CommandAsked, CommandRow, HeaderAsked, HeaderRow, read_command_row, read_header_row,
-};
+use request::row::{CommandRow, HeaderRow, read_command_row, read_header_row};
 use writer::Buffer;
 
 // The first bytes are the text, those behind them up to the end the MPDU.
@@ -42,13 +39,13 @@ fn show_header(
 }
 
 // `headervalue CAP ROW REGION SPEED TEXT MPDU`
-pub fn headervalue(words: &[u8], bytes: &mut [u8], out: &mut Buffer, used: usize) -> Answer {
-    let HeaderAsked::Is(asked) = read_header_row(words, MOST_BYTES, bytes) else {
-        return Answer::Bad;
+pub fn headervalue(words: &[u8], bytes: &mut [u8], out: &mut Buffer, used: usize) -> Option<usize> {
+    let Some(asked) = read_header_row(words, MOST_BYTES, bytes) else {
+        return None;
     };
     let room = asked.cap;
     let mut buffer = [BYTE; 196608];
-    Answer::Put(show_header(bytes, asked, &mut buffer[..room], out, used))
+    Some(show_header(bytes, asked, &mut buffer[..room], out, used))
 }
 
 // The first bytes are the text, those behind them up to the end the payload.
@@ -81,11 +78,16 @@ fn show_command(
 }
 
 // `commandvalue MODE CAP ROW TEXT PAYLOAD`
-pub fn commandvalue(words: &[u8], bytes: &mut [u8], out: &mut Buffer, used: usize) -> Answer {
-    let CommandAsked::Is(asked) = read_command_row(words, MOST_BYTES, bytes) else {
-        return Answer::Bad;
+pub fn commandvalue(
+    words: &[u8],
+    bytes: &mut [u8],
+    out: &mut Buffer,
+    used: usize,
+) -> Option<usize> {
+    let Some(asked) = read_command_row(words, MOST_BYTES, bytes) else {
+        return None;
     };
     let room = asked.cap;
     let mut buffer = [BYTE; 196608];
-    Answer::Put(show_command(bytes, asked, &mut buffer[..room], out, used))
+    Some(show_command(bytes, asked, &mut buffer[..room], out, used))
 }

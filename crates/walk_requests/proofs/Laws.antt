@@ -12,12 +12,9 @@ use Rattle.command_rules.specs.Rows as command
 use Rattle.request.proofs.Laws.{two_laws, request_laws}
 use Rattle.answer.specs.Table.{Ample}
 use Rattle.libtap.proofs.Standing.{standing_laws}
-use Rattle.walk_requests.specs.declared.Table.{Table}
-use Rattle.walk_requests.specs.declared.Table.TheVariants.{Of}
 use Rattle.walk_requests.specs.declared.Request.{Request}
-use Rattle.walk_requests.specs.declared.Asked.{Asked}
-use Rattle.walk_requests.specs.declared.Asked.TheVariants as asked
 use Rattle.walk_requests.specs.Walks.{Tables, Inside, Asks}
+use Rattle.std.specs.Prelude.{Option, Some}
 
 -- ---- a request
 -- the numbers of a table
@@ -31,7 +28,7 @@ module _ (cap width : ℕ) (few : cap ≤ 16384) (narrow : width ≤ 10) where
   pub table_few : cap * width ≤ 163840
   table_few = most
 
-module _ (words : List ℕ) (r : Table) (numbers at : ℕ) (told : Tables words r) (is : r ≡ Of numbers at) where
+module _ (words : List ℕ) (r : Option (ℕ × ℕ)) (numbers at : ℕ) (told : Tables words r) (is : r ≡ Some (numbers, at)) where
   table : (numbers ≤ 163840) × (at ≤ length words)
   table = rw is at told
 
@@ -44,7 +41,7 @@ module _ (words : List ℕ) (r : Table) (numbers at : ℕ) (told : Tables words 
   pub table-words : at ≤ length words
   table-words = table.1
 
-module _ (held : List ℕ) (r : Asked) (q : Request) (told : Asks held r) (is : r ≡ asked.Header q) where
+module _ (held : List ℕ) (r : Option Request) (q : Request) (told : Asks held r) (is : r ≡ Some q) where
   inside : Inside held q.numbers q.n q.end
   inside = rw is at told
 

@@ -8,18 +8,11 @@ ghost use Rattle.command_rules.specs.Rows.{row_width as commandWidth};
 ghost use Rattle.walk_requests.specs.Walks.{Tables, Asks};
 
 use answer::table::{MOST_ROWS, fill, put_refused, put_touched};
-use answer::{Answer, put_named, put_numbers, put_value};
+use answer::{put_named, put_numbers, put_value};
 use libtap::commands::{TapParams, tap_decode_params};
 use libtap::headers::{TapHeader, tap_decode_header};
-use request::{Both, Leading, Two, read_both, read_leading, read_two};
+use request::{Two, read_both, read_leading, read_two};
 use writer::{Buffer, put_number};
-
-// How many numbers a table has, and where the other words start.
-#[derive(Clone, Copy)]
-enum Table {
-    Of(usize, usize),
-    Not,
-}
 
 // A request for a header: how many numbers the table has, where the MPDU starts behind the text, and where it ends.
 #[derive(Clone, Copy)]
@@ -40,41 +33,35 @@ struct CommandAsked {
     end: usize,
 }
 
-#[derive(Clone, Copy)]
-enum Asked {
-    Header(Request),
-    Not,
-}
-
 // `CAP` of rows so wide
-fn read_table(words: &[u8], width: usize) -> Table
+fn read_table(words: &[u8], width: usize) -> Option<(usize, usize)>
     requires { width ≤ 10 }
     ensures { Tables words.now result }
 {
-    let Leading::Is(cap, at) = read_leading(words) else {
-        return Table::Not;
+    let Some((cap, at)) = read_leading(words) else {
+        return None;
     };
     if MOST_ROWS < cap {
-        return Table::Not;
+        return None;
     }
-    Table::Of(cap as usize * width, at)
+    Some((cap as usize * width, at))
 }
 
 // `CAP REGION SPEED TEXT MPDU`
-fn read_asked(words: &[u8], bytes: &mut [u8]) -> Asked
+fn read_asked(words: &[u8], bytes: &mut [u8]) -> Option<Request>
     ensures { Asks bytes.new result }
 {
-    let Table::Of(numbers, at) = read_table(words, header_rows::ROW_WIDTH) else {
-        return Asked::Not;
+    let Some((numbers, at)) = read_table(words, header_rows::ROW_WIDTH) else {
+        return None;
     };
     let others = &words[at..];
     let Two::Are(region, speed, from) = read_two(others) else {
-        return Asked::Not;
+        return None;
     };
-    let Both::Are(n, end) = read_both(&others[from..], bytes) else {
-        return Asked::Not;
+    let Some((n, end)) = read_both(&others[from..], bytes) else {
+        return None;
     };
-    Asked::Header(Request {
+    Some(Request {
         numbers,
         region,
         speed,
@@ -90,14 +77,14 @@ pub fn header(
     rows: &mut [u64],
     out: &mut Buffer,
     used: usize,
-) -> Answer
+) -> Option<usize>
     requires { Ample rows.old }
 {
-    let Asked::Header(request) = read_asked(words, bytes) else {
-        return Answer::Bad;
+    let Some(request) = read_asked(words, bytes) else {
+        return None;
     };
     let numbers = request.numbers;
-    Answer::Put(answer_header(bytes, request, &mut rows[..numbers], out, used))
+    Some(answer_header(bytes, request, &mut rows[..numbers], out, used))
 }
 
 // `CAP TEXT PAYLOAD`, of `commandby` or of `command`
@@ -109,14 +96,14 @@ fn answer_asked(
     rows: &mut [u64],
     out: &mut Buffer,
     used: usize,
-) -> Answer
+) -> Option<usize>
     requires { Ample rows.old }
 {
-    let Table::Of(numbers, at) = read_table(words, command_rows::ROW_WIDTH) else {
-        return Answer::Bad;
+    let Some((numbers, at)) = read_table(words, command_rows::ROW_WIDTH) else {
+        return None;
     };
-    let Both::Are(n, end) = read_both(&words[at..], bytes) else {
-        return Answer::Bad;
+    let Some((n, end)) = read_both(&words[at..], bytes) else {
+        return None;
     };
     let asked = CommandAsked {
         by,
@@ -124,7 +111,7 @@ fn answer_asked(
         n,
         end,
     };
-    Answer::Put(answer_command(bytes, asked, &mut rows[..numbers], out, used))
+    Some(answer_command(bytes, asked, &mut rows[..numbers], out, used))
 }
 
 // `command CAP TEXT PAYLOAD`
@@ -134,7 +121,7 @@ pub fn command(
     rows: &mut [u64],
     out: &mut Buffer,
     used: usize,
-) -> Answer
+) -> Option<usize>
     requires { Ample rows.old }
 {
     answer_asked(words, false, false, bytes, rows, out, used)
@@ -147,14 +134,14 @@ pub fn commandby(
     rows: &mut [u64],
     out: &mut Buffer,
     used: usize,
-) -> Answer
+) -> Option<usize>
     requires { Ample rows.old }
 {
-    let Leading::Is(mode, at) = read_leading(words) else {
-        return Answer::Bad;
+    let Some((mode, at)) = read_leading(words) else {
+        return None;
     };
     if 1 < mode {
-        return Answer::Bad;
+        return None;
     }
     answer_asked(&words[at..], true, mode == 1, bytes, rows, out, used)
 }

@@ -17,15 +17,14 @@ use Rattle.xml_tags.specs.Tags.{stops, turn, placed, chunks, name_in, is_end, is
 use Rattle.xml_tags.specs.Steps.{UpTo, Inside}
 use Rattle.xml_tags.specs.declared.Tag.{Tag}
 use Rattle.xml_tags.specs.declared.Tag.TheVariants.{Bad, Shut, Open}
-use Rattle.xml_tags.specs.declared.Fault.{Fault}
-use Rattle.xml_tags.specs.declared.Fault.TheVariants.{Fine, At}
 use Rattle.xml_tags.proofs.Chunks.{chunks_some}
 use Rattle.xml_document.specs.Document.{moved, fault_at, judge, is_declaration, declared, start, verdict}
+use Rattle.std.specs.Prelude.{Option, Some, None}
 
 -- ---- a place that is inside stays inside
-more : (m n : ℕ) (f : Fault) → m ≤ n → UpTo m f → UpTo n f
-more m n Fine h u = tt
-more m n (At p) h u = omega arith
+more : (m n : ℕ) (f : Option ℕ) → m ≤ n → UpTo m f → UpTo n f
+more m n None h u = tt
+more m n (Some p) h u = omega arith
 
 within : (m n : ℕ) (t : Tag) → m ≤ n → Inside m t → Inside n t
 within m n (Bad p) h u = omega arith
@@ -42,7 +41,7 @@ fault-inside : (es : List (List ℕ)) (place : ℕ) (ps : List (List ℕ)) → U
 fault-inside es place [] = omega arith
 fault-inside es place (t ∷ []) = by (is_end t)
   where
-    by : (b : Bool) → UpTo (place + length t) (cond b Fine (At place))
+    by : (b : Bool) → UpTo (place + length t) (cond b None (Some place))
     by true = tt
     by false = omega arith
 fault-inside es place (p ∷ v ∷ []) = omega arith
@@ -54,7 +53,7 @@ fault-inside es place (p ∷ v ∷ q ∷ ps) =
 
     by : (a b : Bool) → UpTo (place + length p + length v + 2 + length (joined 34 (q ∷ ps))) (fault es (place + length p + length v + 2) (q ∷ ps))
         → UpTo (place + length (joined 34 (p ∷ v ∷ q ∷ ps)))
-        (cond a (cond b (fault es (place + length p + length v + 2) (q ∷ ps)) (At (place + length p + 1))) (At place))
+        (cond a (cond b (fault es (place + length p + length v + 2) (q ∷ ps)) (Some (place + length p + 1))) (Some place))
     by true true u =
         more (place + length p + length v + 2 + length (joined 34 (q ∷ ps))) (place + length (joined 34 (p ∷ v ∷ q ∷ ps)))
         (fault es (place + length p + length v + 2) (q ∷ ps)) (omega (arith, long)) u
@@ -82,10 +81,10 @@ judged-inside : (k : ℕ) (es : List (List ℕ)) (place inside : ℕ) (ps : List
     → Inside m (judged k es place inside ps)
 judged-inside k es place inside ps m h u = by (fault es inside ps) (whole es ps) u
   where
-    by : (f : Fault) (b : Bool) → UpTo m f → Inside m (unless f (cond b (Open k) (Bad place)))
-    by Fine true u = tt
-    by Fine false u = h
-    by (At n) b u = u
+    by : (f : Option ℕ) (b : Bool) → UpTo m f → Inside m (unless f (cond b (Open k) (Bad place)))
+    by None true u = tt
+    by None false u = h
+    by (Some n) b u = u
 
 opened_inside : (place : ℕ) (l : List ℕ) → Inside (place + 1 + length l) (opened place l)
 opened_inside place l = by (ltb (element_of (word l)) count)
@@ -148,7 +147,7 @@ judge-inside : (d place : ℕ) (cs : List (List ℕ)) → UpTo (place + length (
 judge-inside d place [] = omega arith
 judge-inside d place (c ∷ []) = by (eqb d behind && eqb (lead c) (length c))
   where
-    by : (b : Bool) → UpTo (place + length c) (cond b Fine (At (place + lead c)))
+    by : (b : Bool) → UpTo (place + length c) (cond b None (Some (place + lead c)))
     by true = tt
     by false = omega (arith, lead-inside c)
 judge-inside d place (c ∷ e ∷ cs) = by (eqb (moved d c (tag_of c)) nowhere) (judge-inside (moved d c (tag_of c)) (place + length c + 1) (e ∷ cs))
@@ -160,7 +159,7 @@ judge-inside d place (c ∷ e ∷ cs) = by (eqb (moved d c (tag_of c)) nowhere) 
 
     by : (b : Bool) → UpTo (place + length c + 1 + length (joined 62 (e ∷ cs))) (judge (moved d c (tag_of c)) (place + length c + 1) (e ∷ cs))
         → UpTo (place + length (joined 62 (c ∷ e ∷ cs)))
-        (cond b (At (fault_at place c (tag_of c))) (judge (moved d c (tag_of c)) (place + length c + 1) (e ∷ cs)))
+        (cond b (Some (fault_at place c (tag_of c))) (judge (moved d c (tag_of c)) (place + length c + 1) (e ∷ cs)))
     by true u = omega (arith, tag_at (tag_of c) (tag_inside c), two_long 62 c e cs)
     by false u =
         more (place + length c + 1 + length (joined 62 (e ∷ cs))) (place + length (joined 62 (c ∷ e ∷ cs)))

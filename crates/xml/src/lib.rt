@@ -1,39 +1,36 @@
 // A frame text from the XML that other makers exchange: X11 of docs/RULES.md.
 #![tactic(auto)]
 
-ghost use Rattle.std.specs.Prelude.{◌≡◌};
-ghost use Rattle.xml_tags.specs.declared.Fault.TheVariants.{Fine};
+ghost use Rattle.std.specs.Prelude.{◌≡◌, None};
 ghost use Rattle.xml_document.specs.Document.{verdict, text_of};
 ghost use Rattle.xml.specs.Call.{Turns, Copies};
 
-use buffer::{Written, write};
+use buffer::write;
 use frame_text::check_frame_text;
 use refusal::Refusal;
-use text::Verdict;
 use xml_document::check;
 use xml_draft::ROOM;
 use xml_reader::put_text;
-use xml_tags::Fault;
 
 // Writes a text into the buffer, if the check accepts it and the buffer has room.
-fn copy(text: &[u8], buffer: &mut [u8]) -> Written
+fn copy(text: &[u8], buffer: &mut [u8]) -> Result<usize, Refusal>
     ensures { Copies text.now buffer.old result buffer.new }
 {
     match check_frame_text(text) {
-        Verdict::Accepted => write(text, buffer),
-        Verdict::Refused(refusal) => Written::Refused(refusal),
+        Ok(()) => write(text, buffer),
+        Err(refusal) => Err(refusal),
     }
 }
 
 // The same for the text that a document says, with which nothing is wrong.
-fn copy_text(xml: &[u8], buffer: &mut [u8]) -> Written
-    requires { verdict xml.now ≡ Fine }
+fn copy_text(xml: &[u8], buffer: &mut [u8]) -> Result<usize, Refusal>
+    requires { verdict xml.now ≡ None }
     ensures { Copies (text_of xml.now) buffer.old result buffer.new }
 {
     let mut room = [0u8; ROOM];
     let n = put_text(xml, &mut room);
     if ROOM < n {
-        return Written::Refused(Refusal::Limit(0));
+        return Err(Refusal::Limit(0));
     }
     copy(&room[..n], buffer)
 }
@@ -41,11 +38,11 @@ fn copy_text(xml: &[u8], buffer: &mut [u8]) -> Written
 // Writes the frame text that XML says into the buffer, in plain form, and answers its length. Refuses by 14 with the place of the first byte that is
 // outside of what is read; then by 1, 2 or 3 as the text that would be written is refused; then by 12. A refusal writes nothing, an answer nothing behind
 // the text.
-pub fn xml_to_frame_text(xml: &[u8], buffer: &mut [u8]) -> Written
+pub fn xml_to_frame_text(xml: &[u8], buffer: &mut [u8]) -> Result<usize, Refusal>
     ensures { Turns xml.now buffer.old result buffer.new }
 {
     match check(xml) {
-        Fault::At(place) => Written::Refused(Refusal::Xml(place)),
-        Fault::Fine => copy_text(xml, buffer),
+        Some(place) => Err(Refusal::Xml(place)),
+        None => copy_text(xml, buffer),
     }
 }

@@ -15,10 +15,9 @@ use Rattle.text.specs.Text.{field, fields, missing}
 use Rattle.append.specs.Append.{Room, Laid}
 use Rattle.append.proofs.Laws.{Leaves, leaves_start, leaves_more, leaves_room, leaves_done, laid_none, laid_both, room-first, room-second}
 use Rattle.xml_schema.specs.Schema.{form_of, name_of, optional_words, optional_number, hex_number, flag, further_flag, is_dropped, Follows}
-use Rattle.xml_schema.specs.declared.Next.{Next}
-use Rattle.xml_schema.specs.declared.Next.TheVariants.{Last, Entry}
 use Rattle.xml_spelling.specs.Spelling.{escaped, hexed, flagged}
 use Rattle.xml_attributes.specs.Attributes.{value_for, is_absent, label, written, field_after, digit_after, attributes}
+use Rattle.std.specs.Prelude.{Option, Some, None}
 
 -- ---- a digit
 pub digit-none : (s : List ℕ) (j : ℕ) → length s ≤ j → 0 ≡ get_or s j 0
@@ -216,17 +215,17 @@ module _ (row : List ℕ) (fs : List (List ℕ)) (first : ℕ) (b b₀ : List �
   pub listing-digit : length row ≤ 300 → j < 1000
   listing-digit h = omega (arith, inv.inside, inv.digit_low)
 
-  module _ (n : Next) (follows : Follows (take (length row - place) (drop place row)) n) where
+  module _ (n : Option (ℕ × ℕ)) (follows : Follows (take (length row - place) (drop place row)) n) where
     follows_now : Follows (drop place row) n
     follows_now = rw tail at follows
 
-    pub listing_done : n ≡ Last → Laid (attributes (drop 1 (fields row)) fs first 1) b₀ at₀ at b
+    pub listing_done : n ≡ None → Laid (attributes (drop 1 (fields row)) fs first 1) b₀ at₀ at b
     unfolding attributes
     listing_done e =
         let none : drop 1 (fields (drop place row)) ≡ [] = rw e at follows_now in
         leaves_done (attributes (drop 1 (fields row)) fs first 1) b b₀ at at₀ (rw none at inv.leaves)
 
-    module _ (a len : ℕ) (e : n ≡ Entry a len) where
+    module _ (a len : ℕ) (e : n ≡ Some (a, len)) where
       entry_now : (1 ≤ a) × (a + len ≤ length (drop place row))
           × (drop 1 (fields (drop place row)) ≡ take len (drop a (drop place row)) ∷ drop 1 (fields (drop a (drop place row))))
       entry_now = rw e at follows_now

@@ -12,7 +12,7 @@ use numerals::less;
 use readers::line_fields::field_of;
 use text::is_missing;
 use xml_schema::{
-    FLAG, FURTHER_FLAG, HEX_NUMBER, Next, OPTIONAL_NUMBER, OPTIONAL_WORDS, PAST_DIGITS, form_of,
+    FLAG, FURTHER_FLAG, HEX_NUMBER, OPTIONAL_NUMBER, OPTIONAL_WORDS, PAST_DIGITS, form_of,
     name_start, next_entry,
 };
 use xml_spelling::{append_escaped, append_flag, append_hex};
@@ -144,10 +144,10 @@ pub fn append_attributes(
     loop {
         let rest = &row[place..];
         match next_entry(rest) {
-            Next::Last => {
+            None => {
                 return next;
             }
-            Next::Entry(a, len) => {
+            Some((a, len)) => {
                 let end = a + len;
                 let entry = &rest[a..end];
                 next = append_attribute(buffer, next, entry, line, k, j);

@@ -20,12 +20,11 @@ use Rattle.xml_tags.specs.Tags.{chunks, tag_end, fault, whole, unless, judged, o
 use Rattle.xml_tags.specs.Steps.{Inside}
 use Rattle.xml_tags.specs.declared.Tag.{Tag}
 use Rattle.xml_tags.specs.declared.Tag.TheVariants.{Bad, Shut, Open}
-use Rattle.xml_tags.specs.declared.Fault.{Fault}
-use Rattle.xml_tags.specs.declared.Fault.TheVariants.{Fine, At}
 use Rattle.xml_tags.proofs.Chunks.{chunks-last, chunks-more, chunks_some}
 use Rattle.xml_tags.proofs.Laws.{last_at, tag_short}
 use Rattle.xml_document.specs.Document.{deeper, shallower, enter, leave, moved, fault_at, last_fault, judge, is_declaration, declared, start, verdict}
 use Rattle.xml_document.specs.Steps.{is_bad, Glimpsed, Goes}
+use Rattle.std.specs.Prelude.{Option, Some, None}
 
 -- ---- into a Param, and out of one
 module _ (d : ℕ) where
@@ -152,13 +151,13 @@ at_fits place n c (Shut k) i q s = absurd (let z : ◌≡◌ {A = ℕ} 0 1 = cc 
 at_fits place n c (Open k) i q s = absurd (let z : ◌≡◌ {A = ℕ} 0 1 = cc in omega arith)
 
 module _ (d place : ℕ) (c : List ℕ) (l : ℕ) (e : l ≡ lead c) where
-  pub last-fine : d ≡ 14 → l ≡ length c → Fine ≡ last_fault d place c
+  pub last-fine : d ≡ 14 → l ≡ length c → None ≡ last_fault d place c
   last-fine q u = rw (eq-eqb d 14 q, ← e, eq-eqb l (length c) u)
 
-  pub last_more : d ≡ 14 → (l ≡ length c → ⊥) → At (place + l) ≡ last_fault d place c
+  pub last_more : d ≡ 14 → (l ≡ length c → ⊥) → Some (place + l) ≡ last_fault d place c
   last_more q u = rw (eq-eqb d 14 q, ← e, ne_eqb l (length c) u)
 
-  pub last_open : (d ≡ 14 → ⊥) → At (place + l) ≡ last_fault d place c
+  pub last_open : (d ≡ 14 → ⊥) → Some (place + l) ≡ last_fault d place c
   last_open q = rw (ne_eqb d 14 q, ← e)
 
 pub ruleset place_laws = (at_bad, at_shut, at_open, at_fits, last-fine, last_more, last_open)
@@ -232,7 +231,7 @@ pub record Sofar (x : List ℕ) (d at : ℕ) : Type 0 where
 
 pub judge_next : (d place : ℕ) (c : List ℕ) (cs : List (List ℕ)) → 1 ≤ length cs
     → judge d place (c ∷ cs)
-    ≡ cond (eqb (moved d c (tag_of c)) 15) (At (fault_at place c (tag_of c))) (judge (moved d c (tag_of c)) (place + length c + 1) cs)
+    ≡ cond (eqb (moved d c (tag_of c)) 15) (Some (fault_at place c (tag_of c))) (judge (moved d c (tag_of c)) (place + length c + 1) cs)
 judge_next d place c [] h = absurd (omega arith)
 judge_next d place c (b ∷ cs) h = refl
 
@@ -244,7 +243,7 @@ module _ (x : List ℕ) (d at : ℕ) (so : Sofar x d at) (e : ℕ) (at-e : e ≡
   e_is : e ≡ tag_end false (drop at x)
   e_is = rw tail at at-e
 
-  pub check_last : e ≡ length (take (length x - at) (drop at x)) → (r : Fault) → r ≡ last_fault d at (take (length x - at) (drop at x))
+  pub check_last : e ≡ length (take (length x - at) (drop at x)) → (r : Option ℕ) → r ≡ last_fault d at (take (length x - at) (drop at x))
       → r ≡ verdict x
   check_last l r is =
       let l' : e ≡ length (drop at x) = rw tail at l in
@@ -262,7 +261,7 @@ module _ (x : List ℕ) (d at : ℕ) (so : Sofar x d at) (e : ℕ) (at-e : e ≡
     parted = rw (add_assoc, ← drop-drop, e_is) (chunks-more false (drop at x) (rw (← e_is, length-drop) room))
 
     on : verdict x ≡ cond (eqb (moved d (take e (drop at x)) (tag_of (take e (drop at x)))) 15)
-        (At (fault_at at (take e (drop at x)) (tag_of (take e (drop at x)))))
+        (Some (fault_at at (take e (drop at x)) (tag_of (take e (drop at x)))))
         (judge (moved d (take e (drop at x)) (tag_of (take e (drop at x)))) (at + length (take e (drop at x)) + 1) (chunks false (drop (at + e + 1) x)))
     on = so.same-verdict ∙ ap (judge d at) parted
         ∙ judge_next d at (take e (drop at x)) (chunks false (drop (at + e + 1) x)) (chunks_some false (drop (at + e + 1) x))
@@ -277,7 +276,7 @@ module _ (x : List ℕ) (d at : ℕ) (so : Sofar x d at) (e : ℕ) (at-e : e ≡
       to_is = rw tail at to
 
       pub check_bad : n ≡ 15 → (p : ℕ)
-          → p ≡ fault_at at (take e (take (length x - at) (drop at x))) (tag_of (take e (take (length x - at) (drop at x)))) → At p ≡ verdict x
+          → p ≡ fault_at at (take e (take (length x - at) (drop at x))) (tag_of (take e (take (length x - at) (drop at x)))) → Some p ≡ verdict x
       check_bad z p is =
           let i : p ≡ fault_at at (take e (drop at x)) (tag_of (take e (drop at x))) = rw tail at is in
           sym (on ∙ rw (← to_is, eq-eqb n 15 z, i))
@@ -301,10 +300,10 @@ module _ (place k : ℕ) (es : List (List ℕ)) (inside : ℕ) (ps : List (List 
   judged_sound : is_bad (judged k es place inside ps) ≡ false → Open k ≡ judged k es place inside ps
   judged_sound = by (fault es inside ps) (whole es ps)
     where
-      by : (f : Fault) (w : Bool) → is_bad (unless f (cond w (Open k) (Bad place))) ≡ false → Open k ≡ unless f (cond w (Open k) (Bad place))
-      by (At n) w h = absurd (let z : ◌≡◌ {A = ℕ} 0 1 = cc in omega arith)
-      by Fine true h = refl
-      by Fine false h = absurd (let z : ◌≡◌ {A = ℕ} 0 1 = cc in omega arith)
+      by : (f : Option ℕ) (w : Bool) → is_bad (unless f (cond w (Open k) (Bad place))) ≡ false → Open k ≡ unless f (cond w (Open k) (Bad place))
+      by (Some n) w h = absurd (let z : ◌≡◌ {A = ℕ} 0 1 = cc in omega arith)
+      by None true h = refl
+      by None false h = absurd (let z : ◌≡◌ {A = ℕ} 0 1 = cc in omega arith)
 
 module _ (place : ℕ) (l : List ℕ) where
   opened_sound : is_bad (opened place l) ≡ false → Open (element_of (word l)) ≡ opened place l

@@ -1,5 +1,5 @@
 -- X1, X4 and X7 to X10 (docs/RULES.md): a document, its faults, and the text that it says.
-use Rattle.std.specs.Prelude.{ℕ, ◌+◌, ◌-◌, ◌%◌, Bool, false, cond, not, ◌&&◌, ◌||◌, List, [], ◌∷◌, ◌++◌, length, get_or, take, drop, leb, eqb}
+use Rattle.std.specs.Prelude.{ℕ, ◌+◌, ◌-◌, ◌%◌, Bool, false, cond, not, ◌&&◌, ◌||◌, List, [], ◌∷◌, ◌++◌, length, get_or, take, drop, leb, eqb, Option, Some, None}
 use Rattle.text.specs.Text.{same}
 use Rattle.frame_kept.specs.Letters.{letter_f, letter_b, letter_h, letter_p, letter_v, letter_d, letter_e}
 use Rattle.xml_schema.specs.Schema.{root, param, letter_of, has_line, entries_of, before, behind, nowhere, parent_of}
@@ -7,8 +7,6 @@ use Rattle.xml_values.specs.Scan.{is_white, lead}
 use Rattle.xml_tags.specs.Tags.{chunks, tag_of, pieces_of, last, closed, fields_of}
 use Rattle.xml_tags.specs.declared.Tag.{Tag}
 use Rattle.xml_tags.specs.declared.Tag.TheVariants.{Bad, Shut, Open}
-use Rattle.xml_tags.specs.declared.Fault.{Fault}
-use Rattle.xml_tags.specs.declared.Fault.TheVariants.{Fine, At}
 
 -- ---- where we are: in an element that is no Param, its number; in a Param of level 0 to 7 under a BaseHeader, 16 to 23; under a Header, 24 to 31
 
@@ -33,7 +31,7 @@ moved d c (Bad n) = nowhere
 moved d c (Shut k) = leave d k
 moved d c (Open k) = cond (closed c) (leave (enter d k) k) (enter d k)
 
--- ---- is it within what is read: Fine, or where the first fault is
+-- ---- is it within what is read: None, or where the first fault is
 
 -- X8: the place of the fault in a tag that stands at a place: its `<`, if the tag itself is right
 abbrev pub fault_at : ℕ → List ℕ → Tag → ℕ
@@ -42,14 +40,14 @@ fault_at place c (Shut k) = place + lead c
 fault_at place c (Open k) = place + lead c
 
 -- X8: what stands behind the last tag, at a place: white space, if the root has ended
-abbrev pub last_fault : ℕ → ℕ → List ℕ → Fault
-last_fault d place c = cond (eqb d behind && eqb (lead c) (length c)) Fine (At (place + lead c))
+abbrev pub last_fault : ℕ → ℕ → List ℕ → Option ℕ
+last_fault d place c = cond (eqb d behind && eqb (lead c) (length c)) None (Some (place + lead c))
 
-abbrev pub judge : ℕ → ℕ → List (List ℕ) → Fault
-judge d place [] = At place
+abbrev pub judge : ℕ → ℕ → List (List ℕ) → Option ℕ
+judge d place [] = Some place
 judge d place (c ∷ []) = last_fault d place c
 judge d place (c ∷ e ∷ cs) =
-    cond (eqb (moved d c (tag_of c)) nowhere) (At (fault_at place c (tag_of c))) (judge (moved d c (tag_of c)) (place + length c + 1) (e ∷ cs))
+    cond (eqb (moved d c (tag_of c)) nowhere) (Some (fault_at place c (tag_of c))) (judge (moved d c (tag_of c)) (place + length c + 1) (e ∷ cs))
 
 -- ---- the declaration
 
@@ -67,7 +65,7 @@ abbrev pub start : List ℕ → ℕ
 start x = declared (chunks false x)
 
 -- X1, X8: the verdict on a document
-abbrev pub verdict : List ℕ → Fault
+abbrev pub verdict : List ℕ → Option ℕ
 verdict x = judge before (start x) (chunks false (drop (start x) x))
 
 -- ---- what it says: a line for each element that has one, in document order

@@ -1,9 +1,8 @@
 -- What the functions on a document's tags answer.
-use Rattle.std.specs.Prelude.{ℕ, ◌≤◌, ◌≡◌, Bool, true, false, List, length, drop}
+use Rattle.std.specs.Prelude.{ℕ, ◌≤◌, ◌≡◌, Bool, true, false, List, length, drop, None}
 use Rattle.xml_tags.specs.Tags.{chunks, tag_of}
 use Rattle.xml_tags.specs.declared.Tag.{Tag}
 use Rattle.xml_tags.specs.declared.Tag.TheVariants.{Bad, Shut, Open}
-use Rattle.xml_tags.specs.declared.Fault.TheVariants.{Fine}
 use Rattle.xml_document.specs.Document.{moved, judge}
 
 abbrev pub is_bad : Tag → Bool
@@ -22,4 +21,4 @@ Goes d c n = is_bad (tag_of c) ≡ false → n ≡ moved d c (tag_of c)
 -- at a place of the document x, which is in d, a tag begins, and from there on nothing is wrong
 pub record Standing (x : List ℕ) (d at : ℕ) : Type 0 where
   pub inside : at ≤ length x
-  pub fine : judge d at (chunks false (drop at x)) ≡ Fine
+  pub fine : judge d at (chunks false (drop at x)) ≡ None

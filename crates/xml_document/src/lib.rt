@@ -9,7 +9,7 @@ ghost use Rattle.xml_document.specs.Steps.{Glimpsed, Goes};
 
 use text::is_same;
 use xml_schema::{BEFORE, BEHIND, NOWHERE, PARAM, ROOT, element_of, parent_of};
-use xml_tags::{Fault, Tag, is_closed, read_tag, tag_end};
+use xml_tags::{Tag, is_closed, read_tag, tag_end};
 use xml_values::{is_white, lead, word_len};
 
 // ---- where we are
@@ -128,18 +128,18 @@ fn fault_at(place: usize, c: &[u8]) -> usize
 }
 
 // What stands behind the last tag, at a place: white space, if the root has ended.
-fn last_fault(d: usize, c: &[u8], place: usize) -> Fault
+fn last_fault(d: usize, c: &[u8], place: usize) -> Option<usize>
     requires { place + length c.now < 2 ^ 64 }
     ensures { result ≡ last_fault d place c.now }
 {
     let l = lead(c);
     if d == BEHIND {
         if l == c.len() {
-            return Fault::Fine;
+            return None;
         }
-        return Fault::At(place + l);
+        return Some(place + l);
     }
-    Fault::At(place + l)
+    Some(place + l)
 }
 
 // Is the tag c a declaration?
@@ -173,7 +173,7 @@ pub fn start_of(x: &[u8]) -> usize
 }
 
 // Is the document within what is read? If not, where is its first fault?
-pub fn check(x: &[u8]) -> Fault
+pub fn check(x: &[u8]) -> Option<usize>
     ensures { result ≡ verdict x.now }
 {
     let mut d = BEFORE;
@@ -186,7 +186,7 @@ pub fn check(x: &[u8]) -> Fault
         }
         let n = moved(d, &rest[..e]);
         if n == NOWHERE {
-            return Fault::At(fault_at(at, &rest[..e]));
+            return Some(fault_at(at, &rest[..e]));
         }
         d = n;
         at = at + e + 1;

@@ -20,16 +20,13 @@ use Rattle.buffer.proofs.Laws.{sets-append}
 use Rattle.numerals.specs.Numerals.{room, decimal, Spells}
 use Rattle.numerals.proofs.Laws.{digits_are}
 use Rattle.xml_schema.specs.Schema.{form_of, name_of, Follows}
-use Rattle.xml_schema.specs.declared.Next.{Next}
-use Rattle.xml_schema.specs.declared.Next.TheVariants.{Last, Entry}
 use Rattle.xml_schema.proofs.Laws.{entry_last, entry_is, entry_laws}
 use Rattle.xml_values.specs.Values.{entity, meant, parts, plainly, undo, unsigned, strip, numeral, in_decimal, digit_for, says, unsaid}
-use Rattle.xml_values.specs.declared.Numeral.{Numeral}
-use Rattle.xml_values.specs.declared.Numeral.TheVariants.{Is, Not}
 use Rattle.xml_values.proofs.Laws.{piece_last, piece_more, piece_in, piece_less}
 use Rattle.xml_tags.specs.Tags.{has, told, part, fields_of}
 use Rattle.xml_tags.specs.Steps.{Spans}
 use Rattle.xml_draft.specs.Draft.{Laid, Going}
+use Rattle.std.specs.Prelude.{Option, Some, None}
 
 -- ---- bytes behind bytes
 pub laid_none : (t : List ℕ) (n : ℕ) → Laid t t n n []
@@ -158,11 +155,11 @@ module _ (t u : List ℕ) (n r : ℕ) (v : List ℕ) where
       → Laid t u n r (decimal number)
   decimal-laid number a out s l = rw (digits_are 2 (decimal number) a out s) at l
 
-  pub numeral-laid : (g : Numeral) → g ≡ numeral v → (number : ℕ) → g ≡ Is number → Laid t u n r (decimal number)
+  pub numeral-laid : (g : Option ℕ) → g ≡ numeral v → (number : ℕ) → g ≡ Some number → Laid t u n r (decimal number)
       → Laid t u n r (in_decimal (numeral v))
   numeral-laid g e number q l = rw (← e, q) l
 
-  pub numeral_unlaid : (g : Numeral) → g ≡ numeral v → g ≡ Not → Laid t t n n (in_decimal (numeral v))
+  pub numeral_unlaid : (g : Option ℕ) → g ≡ numeral v → g ≡ None → Laid t t n n (in_decimal (numeral v))
   numeral_unlaid g e q = rw (← e, q) (laid_none t n)
 
 pub decimal-start : (number a : ℕ) (out : List ℕ) → Spells 2 (decimal number) a out → a ≤ length out
@@ -246,12 +243,12 @@ pub ruleset attribute_laws = (attribute_dropped, attribute-further, attribute-fi
 -- ---- the fields of a line
 module _ (t₀ : List ℕ) (n₀ : ℕ) (row : List ℕ) (ps : List (List ℕ)) (t : List ℕ) (n at : ℕ)
     (go : Going t₀ n₀ (fields_of (drop 1 (fields row)) ps) t n (fields_of (drop 1 (fields (drop at row))) ps))
-    (r : Next) (is : Follows (take (length row - at) (drop at row)) r) where
-  pub fields-last : r ≡ Last → Laid t₀ t n₀ n (fields_of (drop 1 (fields row)) ps)
+    (r : Option (ℕ × ℕ)) (is : Follows (take (length row - at) (drop at row)) r) where
+  pub fields-last : r ≡ None → Laid t₀ t n₀ n (fields_of (drop 1 (fields row)) ps)
   fields-last q =
       going_done t₀ n₀ (fields_of (drop 1 (fields row)) ps) t n (fields_of (drop 1 (fields (drop at row))) ps) go (rw (entry_last row at r is q))
 
-  pub fields-more : (a len : ℕ) → r ≡ Entry a len → (u : List ℕ) (m : ℕ)
+  pub fields-more : (a len : ℕ) → r ≡ Some (a, len) → (u : List ℕ) (m : ℕ)
       → Laid t u n m (part (form_of (take (a + len - a) (drop a (take (length row - at) (drop at row)))))
       (name_of (take (a + len - a) (drop a (take (length row - at) (drop at row))))) ps)
       → Going t₀ n₀ (fields_of (drop 1 (fields row)) ps) u m (fields_of (drop 1 (fields (drop (at + a) row))) ps)

@@ -13,11 +13,11 @@ ghost use Rattle.xml_draft.specs.Draft.{Laid};
 use numerals::{ROOM as DIGITS, decimal};
 use text::{MOST_BYTES, find};
 use xml_schema::{
-    FURTHER_FLAG, HEX_NUMBER, NUMBER, Next, OPTIONAL_NUMBER, OPTIONAL_WORDS, PAST_DIGITS, WORDS,
-    form_of, name_start, next_entry,
+    FURTHER_FLAG, HEX_NUMBER, NUMBER, OPTIONAL_NUMBER, OPTIONAL_WORDS, PAST_DIGITS, WORDS, form_of,
+    name_start, next_entry,
 };
 use xml_tags::{has, value_of};
-use xml_values::{Numeral, count_start, digit_for, entity, read_numeral};
+use xml_values::{count_start, digit_for, entity, read_numeral};
 
 // Room for every definition text.
 pub const ROOM: usize = MOST_BYTES;
@@ -116,8 +116,8 @@ fn put_numeral(out: &mut [u8; ROOM], n: usize, v: &[u8]) -> usize
     ensures { Laid out.old out.new n result (in_decimal (numeral v.now)) }
 {
     match read_numeral(v) {
-        Numeral::Is(number) => put_decimal(out, n, number),
-        Numeral::Not => n,
+        Some(number) => put_decimal(out, n, number),
+        None => n,
     }
 }
 
@@ -187,10 +187,10 @@ pub fn put_fields(out: &mut [u8; ROOM], n: usize, row: &[u8], body: &[u8]) -> us
     loop {
         let rest = &row[at..];
         match next_entry(rest) {
-            Next::Last => {
+            None => {
                 return next;
             }
-            Next::Entry(a, len) => {
+            Some((a, len)) => {
                 let end = a + len;
                 next = put_attribute(out, next, &rest[a..end], body);
                 at += a;

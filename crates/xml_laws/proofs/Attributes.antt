@@ -14,11 +14,11 @@ use Rattle.xml_schema.specs.Schema.{form_of, name_of, form_in, words, optional_w
 use Rattle.xml_values.specs.Scan.{is_white, lead, skip, is_letter, word_len, word, after}
 use Rattle.xml_values.specs.Values.{valid, says, unsaid}
 use Rattle.xml_tags.specs.Tags.{name_in, is_name, is_end, has, value_of, is_new, fault, whole, told, part, fields_of}
-use Rattle.xml_tags.specs.declared.Fault.TheVariants.{Fine, At}
 use Rattle.xml_attributes.specs.Attributes.{value_for, is_absent, label, attribute, field_after, digit_after, attributes}
 use Rattle.xml_laws.proofs.Values.{undo-escaped, quotes_escaped, loose-escaped, words-escaped}
 use Rattle.xml_laws.proofs.Values.{decimal-says, decimal-valid, hex-valid, hex-says, quotes_hexed}
 use Rattle.xml_laws.proofs.Values.{is_bit, flag-says, flag-valid, quotes_flagged, given-escaped, not_is, without-append}
+use Rattle.std.specs.Prelude.{Some, None}
 
 -- ---- what a field must be for its attribute, by the form
 abbrev pub fits_at : ℕ → List (List ℕ) → ℕ → ℕ → Bool
@@ -256,7 +256,7 @@ value-more n p v [] h = absurd (omega arith)
 value-more n p v (q ∷ ps) h = refl
 
 fault-more : (es : List (List ℕ)) (place : ℕ) (p v : List ℕ) (ps : List (List ℕ)) → 1 ≤ length ps → fault es place (p ∷ v ∷ ps)
-    ≡ cond (is_new es p ps) (cond (valid (form_in es (name_in p)) v) (fault es (place + length p + length v + 2) ps) (At (place + length p + 1))) (At place)
+    ≡ cond (is_new es p ps) (cond (valid (form_in es (name_in p)) v) (fault es (place + length p + length v + 2) ps) (Some (place + length p + 1))) (Some place)
 fault-more es place p v [] h = absurd (omega arith)
 fault-more es place p v (q ∷ ps) h = refl
 
@@ -347,7 +347,7 @@ module _ (fs : List (List ℕ)) (end : List ℕ) (all : List (List ℕ)) where
   -- no fault is among them
   pub fault-none : (es : List (List ℕ)) (k j place : ℕ) → sound es ≡ true → fitting fs es k j ≡ true → agreeing all es ≡ true
       → is_end end ≡ true
-      → fault all place (pieces fs end es k j) ≡ Fine
+      → fault all place (pieces fs end es k j) ≡ None
   fault-none [] k j place s f a d = rw d
   fault-none (e ∷ es) k j place s f a d = go (is_absent (form_of e) fs k) refl
       (λ (p : ℕ). fault-none es (field_after (form_of e) k) (digit_after (form_of e) j) p
@@ -355,10 +355,10 @@ module _ (fs : List (List ℕ)) (end : List ℕ) (all : List (List ℕ)) where
       (and_right (eqb (form_in all (name_of e)) (form_of e)) (agreeing all es) a) d)
     where
       go : (t : Bool) → is_absent (form_of e) fs k ≡ t
-          → ((p : ℕ) → fault all p (pieces fs end es (field_after (form_of e) k) (digit_after (form_of e) j)) ≡ Fine)
+          → ((p : ℕ) → fault all p (pieces fs end es (field_after (form_of e) k) (digit_after (form_of e) j)) ≡ None)
           → fault all place
           (cond t (pieces fs end es (field_after (form_of e) k) (digit_after (form_of e) j))
-          (labelled (name_of e) ∷ value_for (form_of e) fs k j ∷ pieces fs end es (field_after (form_of e) k) (digit_after (form_of e) j))) ≡ Fine
+          (labelled (name_of e) ∷ value_for (form_of e) fs k j ∷ pieces fs end es (field_after (form_of e) k) (digit_after (form_of e) j))) ≡ None
       go true q ih = ih place
       go false q ih =
           let r : Reads (form_of e) fs k j =

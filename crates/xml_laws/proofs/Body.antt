@@ -2,7 +2,6 @@
 use mathlib.Core.Path.{◌≡◌, refl, sym, ap, ◌∙◌}
 use mathlib.Core.Bool.{Bool, true, false, cond, not, ◌&&◌}
 use mathlib.Core.List.{List, [], ◌∷◌, ◌++◌, append_assoc, append-nil}
-use mathlib.Core.Option.{Option, none, some}
 use Prim.Native.Nat.{ℕ, zero, suc, ◌+◌, ◌-◌, ◌%◌, ◌≤◌}
 use native.Mathlib.Omega.{arith}
 use lib.Dec.{eqb, ltb}
@@ -13,14 +12,11 @@ use Rattle.text.specs.Text.{lines, fields, field, decimal, up_to, worth, value}
 use Rattle.text.specs.Print.{joined}
 use Rattle.text.specs.Place.{kind_of}
 use Rattle.text.specs.Judge.{judge}
-use Rattle.text.specs.declared.Verdict.TheVariants.{Accepted}
 use Rattle.text.proofs.Printing.{joined-split}
 use Rattle.text.proofs.Tests.{value_of, or_left, or_right}
 use Rattle.text.proofs.Reading.{accepted_line}
 use Rattle.frame_text.specs.Form.{Record, frequency, base, header, param, validation, set, entry, Header, Param, form, said, of_type, type_of}
 use Rattle.frame_text.specs.Form.{frequency_form, base_form, header_form, param_numbers, param_words, param_form, validation_form, set_form, entry_form}
-use Rattle.frame_text.specs.declared.Typed.{Typed}
-use Rattle.frame_text.specs.declared.Typed.TheVariants.{Is, Not}
 use Rattle.frame_text.specs.Rules.{rules, owner, over, lost, inside, parent, holds_params}
 use Rattle.plain_form.specs.PlainForm.{stands, farther, misplaced}
 use Rattle.xml_schema.specs.Schema.{table, entries_of, has_line, letter_of}
@@ -34,6 +30,8 @@ use Rattle.xml_laws.proofs.Lines.{Fitted, fitted_f, fitted-b, fitted_h, fitted_p
 use Rattle.xml_laws.proofs.Document.{Says, climb, Climbs, says-closings, says-shut, says-start}
 use Rattle.xml_laws.proofs.Document.{deep, inside-owner, inside-set, climbs_to, climbs_out, climbs_root}
 use Rattle.xml_laws.proofs.Document.{owner as home, depth-deep, enter-first, enter_next, leads_next, level-deep}
+use Rattle.std.specs.Prelude.{Option, Some, None, Ok}
+use Rattle.frame_text.specs.declared.ParamType.{ParamType}
 
 -- ---- what is known of the fields that say a record
 abbrev pub View : List (List ℕ) → Record → Type 0
@@ -45,17 +43,17 @@ View fs (validation path value) = (kind_of fs ≡ 0x56) × (validation_form fs �
 View fs (set name) = (kind_of fs ≡ 0x44) × (set_form fs ≡ true)
 View fs (entry key text) = (kind_of fs ≡ 0x45) × (entry_form fs ≡ true)
 
-said_view : (fs : List (List ℕ)) (r s : Record) (b : Bool) → (b ≡ true → View fs s) → said b (some s) ≡ some r → View fs r
+said_view : (fs : List (List ℕ)) (r s : Record) (b : Bool) → (b ≡ true → View fs s) → said b (Some s) ≡ Some r → View fs r
 said_view fs r s true f e = let q : s ≡ r = cc in rw (← q) (f refl)
 said_view fs r s false f e = absurd (let z : ◌≡◌ {A = ℕ} 0 1 = cc in omega arith)
 
-param_view : (fs : List (List ℕ)) (r : Record) → kind_of fs ≡ 0x50 → (b : Bool) → param_form fs ≡ b → (t : Typed)
-    → said b (of_type fs t) ≡ some r → View fs r
-param_view fs r k true q (Is type) e = said_view fs r _ true (λ w. (k, q, refl)) e
-param_view fs r k true q Not e = absurd (let z : ◌≡◌ {A = ℕ} 0 1 = cc in omega arith)
+param_view : (fs : List (List ℕ)) (r : Record) → kind_of fs ≡ 0x50 → (b : Bool) → param_form fs ≡ b → (t : Option ParamType)
+    → said b (of_type fs t) ≡ Some r → View fs r
+param_view fs r k true q (Some type) e = said_view fs r _ true (λ w. (k, q, refl)) e
+param_view fs r k true q None e = absurd (let z : ◌≡◌ {A = ℕ} 0 1 = cc in omega arith)
 param_view fs r k false q t e = absurd (let z : ◌≡◌ {A = ℕ} 0 1 = cc in omega arith)
 
-pub view_of : (fs : List (List ℕ)) (r : Record) → form fs ≡ some r → View fs r
+pub view_of : (fs : List (List ℕ)) (r : Record) → form fs ≡ Some r → View fs r
 view_of fs r e =
     go (eqb (kind_of fs) 0x46) (eqb (kind_of fs) 0x42) (eqb (kind_of fs) 0x48) (eqb (kind_of fs) 0x50) (eqb (kind_of fs) 0x56) (eqb (kind_of fs) 0x44)
     (eqb (kind_of fs) 0x45) refl refl refl refl refl refl refl
@@ -73,7 +71,7 @@ view_of fs r e =
     go false false false false false false true p q s t u v w =
         said_view fs r _ (entry_form fs) (λ y. (eqb-true (kind_of fs) 0x45 w, y)) (rw (p, q, s, t, u, v, w) at e)
     go false false false false false false false p q s t u v w =
-        absurd (let y : ◌≡◌ {A = Option Record} none (some r) = rw (p, q, s, t, u, v, w) at e in let z : ◌≡◌ {A = ℕ} 0 1 = cc in omega arith)
+        absurd (let y : ◌≡◌ {A = Option Record} None (Some r) = rw (p, q, s, t, u, v, w) at e in let z : ◌≡◌ {A = ℕ} 0 1 = cc in omega arith)
 
 -- ---- a line, from the place d
 says-element : (d d' e k n lev : ℕ) (fs : List (List ℕ)) (l rest : List ℕ) (ls : List (List ℕ)) → Element k
@@ -420,7 +418,7 @@ pub ordered_line : (b : Bool) (m n : ℕ) → cond b m (suc n) ≡ 0 → (b ≡ 
 ordered_line true m n e = (refl, e)
 ordered_line false m n e = absurd (omega arith)
 
-pub says-body : (before : List Record) (n m : ℕ) (ls : List (List ℕ)) → Kept before → judge rules before n ls ≡ Accepted
+pub says-body : (before : List Record) (n m : ℕ) (ls : List (List ℕ)) → Kept before → judge rules before n ls ≡ Ok tt
     → misplaced (far_of before) (suc m) ls ≡ 0 → Says (place_of before) (0x0a ∷ body (place_of before) ls) (front ls)
 unfolding body
 says-body before n m [] kept good ordered = says_last before kept

@@ -9,7 +9,6 @@ use borrow.Author.Tests.{le-leb, lt-leb, ne_eqb}
 use Rattle.xml_schema.specs.Schema.{has_line, letter_of, entries_of}
 use Rattle.xml_tags.specs.Tags.{chunks, tag_of, pieces_of, closed, fields_of}
 use Rattle.xml_tags.specs.declared.Tag.TheVariants.{Shut, Open}
-use Rattle.xml_tags.specs.declared.Fault.TheVariants.{Fine}
 use Rattle.xml_tags.proofs.Chunks.{chunks_some}
 use Rattle.xml_document.specs.Document.{shallower, enter, leave, moved, judge, level, with_line, items}
 use Rattle.xml_attributes.specs.Attributes.{attributes}
@@ -17,11 +16,12 @@ use Rattle.xml_elements.specs.Elements.{name_for, blanks, head, depth, innermost
 use Rattle.xml_elements.specs.Elements.{leads_to, element}
 use Rattle.xml_laws.proofs.Attributes.{fitting, line_from}
 use Rattle.xml_laws.proofs.Tags.{Element, element_is, shut_tag, shut_quiet, quiet, chunk_of, open_tag, open_fields, open_quiet, open_closed, open_left}
+use Rattle.std.specs.Prelude.{None}
 
 -- from d on, x has no fault and says these lines
 pub record Says (d : ℕ) (x : List ℕ) (ls : List (List ℕ)) : Type 0 where
   pub lines : items d (chunks false x) ≡ ls
-  pub fine : (place : ℕ) → judge d place (chunks false x) ≡ Fine
+  pub fine : (place : ℕ) → judge d place (chunks false x) ≡ None
 
 items_step : (d : ℕ) (c : List ℕ) (cs : List (List ℕ)) → 1 ≤ length cs
     → items d (c ∷ cs) ≡ with_line d c (tag_of c) (items (moved d c (tag_of c)) cs)

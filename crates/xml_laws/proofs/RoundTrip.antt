@@ -12,7 +12,6 @@ use Rattle.text.specs.Text.{lines, fields}
 use Rattle.text.specs.Print.{joined}
 use Rattle.text.specs.Place.{kind_of}
 use Rattle.text.specs.Judge.{judge}
-use Rattle.text.specs.declared.Verdict.TheVariants.{Accepted}
 use Rattle.text.proofs.Printing.{joined-split}
 use Rattle.text.proofs.Passing.{kind_byte}
 use Rattle.text.proofs.Tests.{or_left, or_right}
@@ -23,7 +22,6 @@ use Rattle.plain_form.specs.PlainForm.{stands, farther, misplaced, out_of_order,
 use Rattle.xml_schema.specs.Schema.{elements, table, has_line}
 use Rattle.xml_tags.specs.Tags.{chunks, tag_of}
 use Rattle.xml_tags.specs.declared.Tag.TheVariants.{Open}
-use Rattle.xml_tags.specs.declared.Fault.TheVariants.{Fine}
 use Rattle.xml_tags.proofs.Chunks.{chunks_some}
 use Rattle.xml_document.specs.Document as document
 use Rattle.xml_document.specs.Document.{letter, owns, owned, arranged, ended, text_of, start, declared, is_declaration}
@@ -34,6 +32,7 @@ use Rattle.xml_laws.proofs.Document.{Says, one_more}
 use Rattle.xml_laws.proofs.Body.{View, view_of, Step, step_of, far_of, in_header}
 use Rattle.xml_laws.proofs.Body.{Kept, front, says-body, set_of_lem, from_of, not_false, not_three, ordered_line}
 use Rattle.xml_laws.proofs.Plain.{Ordered, ordered-none, ordered_f, ordered-b, ordered_h, ordered_d, ordered_p, ordered_v, ordered_e}
+use Rattle.std.specs.Prelude.{None, Ok}
 
 -- ---- the lines of a text in plain form
 letter_of_lem : (l : List ℕ) (k : ℕ) → kind_of (fields l) ≡ k → (k ≡ 0 → ⊥) → letter l ≡ k
@@ -82,7 +81,7 @@ ordered_step before (entry key text) l g kept v o s t h =
     let own : owner before ≡ 0x44 = eqb-true (owner before) 0x44 (not_false (eqb (owner before) 0x44) s) in
     rw (set_of_lem before kept own).1 (ordered_e l g (letter_of_lem l 0x45 v.0 (λ e. omega arith)) h)
 
-ordered-lines : (before : List Record) (n m : ℕ) (ls : List (List ℕ)) → Kept before → judge rules before n ls ≡ Accepted
+ordered-lines : (before : List Record) (n m : ℕ) (ls : List (List ℕ)) → Kept before → judge rules before n ls ≡ Ok tt
     → misplaced (far_of before) (suc m) ls ≡ 0
     → Ordered (far_of before) (front ls)
 ordered-lines before n m [] kept good ordered = ordered-none (far_of before)
@@ -107,18 +106,18 @@ first-owns (validation path value) l v s = absurd (let z : ◌≡◌ {A = ℕ} 0
 first-owns (set name) l v s = rw (letter_of_lem l 0x44 v.0 (λ e. omega arith))
 first-owns (entry key text) l v s = absurd (let z : ◌≡◌ {A = ℕ} 0 1 = cc in omega arith)
 
-none_owned : (n : ℕ) (ls : List (List ℕ)) → judge rules [] n ls ≡ Accepted → owned (front ls) ≡ []
+none_owned : (n : ℕ) (ls : List (List ℕ)) → judge rules [] n ls ≡ Ok tt → owned (front ls) ≡ []
 none_owned n [] good = refl
 none_owned n (l ∷ []) good = refl
 none_owned n (l ∷ k ∷ ks) good =
     let a = accepted_line rules [] n (form (fields l)) _ good in
     rw (first-owns a.said l (view_of (fields l) a.said a.is) a.owned)
 
-pub lines-arranged : (n : ℕ) (ls : List (List ℕ)) → judge rules [] n ls ≡ Accepted → misplaced 0 1 ls ≡ 0 → arranged (front ls) ≡ front ls
+pub lines-arranged : (n : ℕ) (ls : List (List ℕ)) → judge rules [] n ls ≡ Ok tt → misplaced 0 1 ls ≡ 0 → arranged (front ls) ≡ front ls
 lines-arranged n ls good ordered = rw (none_owned n ls good) at (ordered-lines [] n 0 ls tt good ordered).whole
 
 -- the lines of an accepted text, ended, are the text
-lines-ended : (before : List Record) (n : ℕ) (ls : List (List ℕ)) → judge rules before n ls ≡ Accepted → ended (front ls) ≡ joined 0x0a ls
+lines-ended : (before : List Record) (n : ℕ) (ls : List (List ℕ)) → judge rules before n ls ≡ Ok tt → ended (front ls) ≡ joined 0x0a ls
 lines-ended before n [] good = refl
 lines-ended before n ([] ∷ []) good = refl
 lines-ended before n ((x ∷ xs) ∷ []) good = absurd (let z : ◌≡◌ {A = ℕ} 0 1 = cc in omega arith)
@@ -168,8 +167,8 @@ module _ (t : List ℕ) where
   root-says : (ls : List (List ℕ)) → Says 0 (0x0a ∷ body 0 (lines t)) ls → Says 13 rest ls
   root-says ls s = one_more 13 0 root_tag (0x0a ∷ body 0 (lines t)) ls ls refl (rw root_tag_lem) (λ e. omega arith) (rw (root_tag_lem, root_line)) s
 
-  module _ (good : verdict t ≡ Accepted) (plain : is_plain t ≡ true) where
-    judged : judge rules [] 1 (lines t) ≡ Accepted
+  module _ (good : verdict t ≡ Ok tt) (plain : is_plain t ≡ true) where
+    judged : judge rules [] 1 (lines t) ≡ Ok tt
     judged = accepted-lines rules t good
 
     ordered : misplaced 0 1 (lines t) ≡ 0
@@ -179,7 +178,7 @@ module _ (t : List ℕ) where
     says = root-says (front (lines t)) (says-body [] 1 0 (lines t) tt judged ordered)
 
     -- X15: the XML that is written is within what is read
-    pub xml_fine : document.verdict (xml_of t) ≡ Fine
+    pub xml_fine : document.verdict (xml_of t) ≡ None
     xml_fine = ap (λ (x : List ℕ). document.judge 13 (start (xml_of t)) (chunks false x)) behind ∙ says.fine (start (xml_of t))
 
     -- X15: and says the text
@@ -192,9 +191,9 @@ module _ (t : List ℕ) where
         ∙ joined-split 0x0a t
 
 -- X15: XML that is read and whose text is accepted, to text and to XML again, says the same text, and has no fault
-module _ (x : List ℕ) (fine : document.verdict x ≡ Fine) (good : verdict (text_of x) ≡ Accepted) where
+module _ (x : List ℕ) (fine : document.verdict x ≡ None) (good : verdict (text_of x) ≡ Ok tt) where
   pub xml_text_xml : text_of (xml_of (text_of x)) ≡ text_of x
   xml_text_xml = text_xml_text (text_of x) good (text-plain x fine)
 
-  pub again-fine : document.verdict (xml_of (text_of x)) ≡ Fine
+  pub again-fine : document.verdict (xml_of (text_of x)) ≡ None
   again-fine = xml_fine (text_of x) good (text-plain x fine)

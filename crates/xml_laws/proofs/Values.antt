@@ -18,8 +18,8 @@ use Rattle.numerals.specs.Numerals as numerals
 use Rattle.numerals.specs.Numerals.{glyph, spelled}
 use Rattle.xml_values.specs.Values.{plainly, undo, all_named, loose, is_words, unsigned, is_count, strip, digit_of, run, worth_in}
 use Rattle.xml_values.specs.Values.{numeral, is_numeral, in_decimal, trues, falses, digit_for}
-use Rattle.xml_values.specs.declared.Numeral.TheVariants.{Is}
 use Rattle.xml_spelling.specs.Spelling.{escape_of, escaped, hexed, flagged}
+use Rattle.std.specs.Prelude.{Some}
 
 -- ---- words: a byte and how it is written, by the byte
 module _ (Q : ℕ → List ℕ → Type 0) (rest : List ℕ)
@@ -269,7 +269,7 @@ unfolding spelled
 some_spelt n = rw (and_false (eqb n 0)) (long-append (spelled 16 65 19 0 (n / 16)) (glyph 65 (n % 16)))
 
 -- what is written in hexadecimal is that number
-numeral-hexed : (s : List ℕ) (n : ℕ) → Spelt s n → 1 ≤ length s → n ≤ 65535 → numeral (0x30 ∷ 0x78 ∷ s) ≡ Is n
+numeral-hexed : (s : List ℕ) (n : ℕ) → Spelt s n → 1 ≤ length s → n ≤ 65535 → numeral (0x30 ∷ 0x78 ∷ s) ≡ Some n
 numeral-hexed s n spelt some low =
     rw
     (unsigned-run s spelt.all, spelt.all, le-leb 1 (length s) some, done s (length s) (omega arith), spelt.is, le-leb n 4294967295 (omega arith))
@@ -313,7 +313,7 @@ decimal_back l e =
     let low : worth 0 l ≤ 65535 = leb-true (worth 0 l) 65535 (and_right (decimal l) (leb (worth 0 l) 65535) e) in
     tens 19 (suc (worth 0 l)) (worth 0 l) (omega arith) (omega arith) ∙ shown_back l (and_left (decimal l) (leb (worth 0 l) 65535) e)
 
-numeral_is : (l : List ℕ) → up_to 65535 l ≡ true → numeral (hexed l) ≡ Is (worth 0 l)
+numeral_is : (l : List ℕ) → up_to 65535 l ≡ true → numeral (hexed l) ≡ Some (worth 0 l)
 numeral_is l e =
     let low : worth 0 l ≤ 65535 = leb-true (worth 0 l) 65535 (and_right (decimal l) (leb (worth 0 l) 65535) e) in
     rw (value_of 65535 l e) (numeral-hexed (spelled 16 65 20 1 (worth 0 l)) (worth 0 l) (hex_spelt 20 1 (worth 0 l) (omega arith)) (some_spelt (worth 0 l)) low)

@@ -20,15 +20,14 @@ use Rattle.xml_tags.specs.Tags.{chunks, name_in, has, value_of, is_new, fault, w
 use Rattle.xml_tags.specs.Tags.{part, fields_of}
 use Rattle.xml_tags.specs.declared.Tag.{Tag}
 use Rattle.xml_tags.specs.declared.Tag.TheVariants.{Bad, Shut, Open}
-use Rattle.xml_tags.specs.declared.Fault.{Fault}
-use Rattle.xml_tags.specs.declared.Fault.TheVariants.{Fine, At}
 use Rattle.xml_document.specs.Document.{enter, moved, start, level, line_of, with_line, items, items_of, letter, owns, picked}
 use Rattle.xml_document.specs.Document.{owned, blocks}
 use Rattle.xml_document.specs.Document.{arranged, ended, text_of}
 use Rattle.xml_plain.proofs.Values.{whole_line, both, says-whole, unsaid-whole}
+use Rattle.std.specs.Prelude.{Option, Some, None}
 
 -- ---- an attribute that is there has a value that it may have
-fault-valid : (es : List (List ℕ)) (place : ℕ) (ps : List (List ℕ)) (n : List ℕ) → fault es place ps ≡ Fine → has n ps ≡ true
+fault-valid : (es : List (List ℕ)) (place : ℕ) (ps : List (List ℕ)) (n : List ℕ) → fault es place ps ≡ None → has n ps ≡ true
     → valid (form_in es n) (value_of n ps) ≡ true
 fault-valid es place [] n f h = absurd (let z : ◌≡◌ {A = ℕ} 0 1 = cc in omega arith)
 fault-valid es place (t ∷ []) n f h = absurd (let z : ◌≡◌ {A = ℕ} 0 1 = cc in omega arith)
@@ -38,9 +37,9 @@ fault-valid es place (p ∷ v ∷ q ∷ ps) n f h =
     (fault-valid es (place + length p + length v + 2) (q ∷ ps) n)
   where
     by : (a : Bool) → same (name_in p) n ≡ a → (b c : Bool) → valid (form_in es (name_in p)) v ≡ c
-        → cond b (cond c (fault es (place + length p + length v + 2) (q ∷ ps)) (At (place + length p + 1))) (At place) ≡ Fine
+        → cond b (cond c (fault es (place + length p + length v + 2) (q ∷ ps)) (Some (place + length p + 1))) (Some place) ≡ None
         → (a || has n (q ∷ ps)) ≡ true
-        → (fault es (place + length p + length v + 2) (q ∷ ps) ≡ Fine → has n (q ∷ ps) ≡ true
+        → (fault es (place + length p + length v + 2) (q ∷ ps) ≡ None → has n (q ∷ ps) ≡ true
         → valid (form_in es n) (value_of n (q ∷ ps)) ≡ true)
         → valid (form_in es n) (cond a v (value_of n (q ∷ ps))) ≡ true
     by a s false c k f h ih = absurd (let z : ◌≡◌ {A = ℕ} 0 1 = cc in omega arith)
@@ -54,7 +53,7 @@ abbrev agrees : List (List ℕ) → List (List ℕ) → Bool
 agrees all [] = true
 agrees all (e ∷ es) = eqb (form_in all (name_of e)) (form_of e) && agrees all es
 
-module _ (all : List (List ℕ)) (place : ℕ) (ps : List (List ℕ)) (fine : fault all place ps ≡ Fine) where
+module _ (all : List (List ℕ)) (place : ℕ) (ps : List (List ℕ)) (fine : fault all place ps ≡ None) where
   told-whole : (f : ℕ) (n : List ℕ) → form_in all n ≡ f → is_dropped f ≡ false → whole_line (told f n ps) ≡ true
   told-whole f n e d = by (has n ps) refl
     where
@@ -160,7 +159,7 @@ level-whole k e = by (eqb k 4)
     by true = rw (ne_eqb (48 + e % 8) 10 (λ q. omega arith))
     by false = refl
 
-line_of_lem : (k e place : ℕ) (ps : List (List ℕ)) → fault (entries_of k) place ps ≡ Fine → Line (line_of k e ps)
+line_of_lem : (k e place : ℕ) (ps : List (List ℕ)) → fault (entries_of k) place ps ≡ None → Line (line_of k e ps)
 line_of_lem k e place ps f = record {
   end = rw (letter-whole k) (both (level k e) (fields_of (entries_of k) ps) (level-whole k e) (fields-whole (entries_of k) place ps f (entries_of k) (agreed k)));
   kind = lettered k e ps;
@@ -169,7 +168,7 @@ line_of_lem k e place ps f = record {
 -- ---- a start tag
 pub record Opens (c : List ℕ) (k : ℕ) : Type 0 where
   pub place : ℕ
-  pub fine : fault (entries_of k) place (pieces_of c) ≡ Fine
+  pub fine : fault (entries_of k) place (pieces_of c) ≡ None
 
 open_tag : (c : List ℕ) (k : ℕ) → tag_of c ≡ Open k → Opens c k
 open_tag c k q = by (eqb (get_or (skip c) 0 0) 0x3c) (eqb (get_or (skip c) 1 0) 0x2f) (ltb (element_of (word (drop 1 (skip c)))) count) q
@@ -178,11 +177,11 @@ open_tag c k q = by (eqb (get_or (skip c) 0 0) 0x3c) (eqb (get_or (skip c) 1 0) 
     shut true q = let z : ◌≡◌ {A = ℕ} 0 1 = cc in omega arith
     shut false q = let z : ◌≡◌ {A = ℕ} 0 1 = cc in omega arith
 
-    start_is : (j place : ℕ) (f : Fault) (w : Bool) → fault (entries_of j) place (pieces_of c) ≡ f
+    start_is : (j place : ℕ) (f : Option ℕ) (w : Bool) → fault (entries_of j) place (pieces_of c) ≡ f
         → unless f (cond w (Open j) (Bad (lead c))) ≡ Open k → Opens c k
-    start_is j place Fine true e q = let z : j ≡ k = cc in record { place = place; fine = rw z at e }
-    start_is j place Fine false e q = absurd (let z : ◌≡◌ {A = ℕ} 0 1 = cc in omega arith)
-    start_is j place (At n) w e q = absurd (let z : ◌≡◌ {A = ℕ} 0 1 = cc in omega arith)
+    start_is j place None true e q = let z : j ≡ k = cc in record { place = place; fine = rw z at e }
+    start_is j place None false e q = absurd (let z : ◌≡◌ {A = ℕ} 0 1 = cc in omega arith)
+    start_is j place (Some n) w e q = absurd (let z : ◌≡◌ {A = ℕ} 0 1 = cc in omega arith)
 
     by : (a b d : Bool)
         → cond a (cond b (shutting (lead c) (drop 2 (skip c)))

@@ -14,9 +14,8 @@ use Rattle.xml_values.specs.Scan.{lead, skip, white, word_len, word, after}
 use Rattle.xml_tags.specs.Tags.{chunks, closed, fault, whole, unless, judged, opened, shutting, tag_of, pieces_of}
 use Rattle.xml_tags.specs.declared.Tag.{Tag}
 use Rattle.xml_tags.specs.declared.Tag.TheVariants.{Bad, Shut, Open}
-use Rattle.xml_tags.specs.declared.Fault.{Fault}
-use Rattle.xml_tags.specs.declared.Fault.TheVariants.{Fine, At}
 use Rattle.xml_document.specs.Document.{enter, leave, moved, fault_at, judge, start, verdict, line_of, with_line, items, items_of, letter, owns}
+use Rattle.std.specs.Prelude.{Option, Some, None}
 
 -- ---- lines under the line that owns them
 -- may a line of the letter w stand where the last line that owns what follows has the letter o
@@ -210,10 +209,10 @@ named c = by (eqb (get_or (skip c) 0 0) 0x3c) (eqb (get_or (skip c) 1 0) 0x2f)
     shut l true false q = tt
     shut l false b q = tt
 
-    start_is : (k : ℕ) → k < 13 → (g : Fault) (w : Bool) → Names (unless g (cond w (Open k) (Bad (lead c))))
-    start_is k h Fine true = h
-    start_is k h Fine false = tt
-    start_is k h (At n) w = tt
+    start_is : (k : ℕ) → k < 13 → (g : Option ℕ) (w : Bool) → Names (unless g (cond w (Open k) (Bad (lead c))))
+    start_is k h None true = h
+    start_is k h None false = tt
+    start_is k h (Some n) w = tt
 
     open_is : (l : List ℕ) (a : Bool) → ltb (element_of (word l)) 13 ≡ a
         → Names (cond a (judged (element_of (word l)) (entries_of (element_of (word l))) (lead c) (lead c + 1 + word_len l) (split 0x22 (after l)))
@@ -229,12 +228,12 @@ named c = by (eqb (get_or (skip c) 0 0) 0x3c) (eqb (get_or (skip c) 1 0) 0x2f)
     by false b = tt
 
 -- ---- the lines of a document
-judge-on : (d place : ℕ) (c e : List ℕ) (cs : List (List ℕ)) → judge d place (c ∷ e ∷ cs) ≡ Fine
-    → (eqb (moved d c (tag_of c)) 15 ≡ false) × (judge (moved d c (tag_of c)) (place + length c + 1) (e ∷ cs) ≡ Fine)
+judge-on : (d place : ℕ) (c e : List ℕ) (cs : List (List ℕ)) → judge d place (c ∷ e ∷ cs) ≡ None
+    → (eqb (moved d c (tag_of c)) 15 ≡ false) × (judge (moved d c (tag_of c)) (place + length c + 1) (e ∷ cs) ≡ None)
 judge-on d place c e cs h = by (eqb (moved d c (tag_of c)) 15) h
   where
-    by : (b : Bool) → cond b (At (fault_at place c (tag_of c))) (judge (moved d c (tag_of c)) (place + length c + 1) (e ∷ cs)) ≡ Fine
-        → (b ≡ false) × (judge (moved d c (tag_of c)) (place + length c + 1) (e ∷ cs) ≡ Fine)
+    by : (b : Bool) → cond b (Some (fault_at place c (tag_of c))) (judge (moved d c (tag_of c)) (place + length c + 1) (e ∷ cs)) ≡ None
+        → (b ≡ false) × (judge (moved d c (tag_of c)) (place + length c + 1) (e ∷ cs) ≡ None)
     by true h = absurd (let z : ◌≡◌ {A = ℕ} 0 1 = cc in omega arith)
     by false h = (refl, h)
 
@@ -259,14 +258,14 @@ one_tag d o f c (Open k) few m ls go = by (eqb (letter_of k) 45) refl
         let s : Follows o (letter_of k) (enter d k) (leave (enter d k) k) = start_line d o f k few n q in
         (s.may, go (next o (letter_of k)) (at_end_lem (next o (letter_of k)) (closed c) s.inside s.behind))
 
-items-under : (d o place : ℕ) (cs : List (List ℕ)) → fits d o ≡ true → judge d place cs ≡ Fine → Under o (items d cs)
+items-under : (d o place : ℕ) (cs : List (List ℕ)) → fits d o ≡ true → judge d place cs ≡ None → Under o (items d cs)
 items-under d o place [] f h = tt
 items-under d o place (c ∷ []) f h = tt
 items-under d o place (c ∷ e ∷ cs) f h =
-    let s : (eqb (moved d c (tag_of c)) 15 ≡ false) × (judge (moved d c (tag_of c)) (place + length c + 1) (e ∷ cs) ≡ Fine) = judge-on d place c e cs h in
+    let s : (eqb (moved d c (tag_of c)) 15 ≡ false) × (judge (moved d c (tag_of c)) (place + length c + 1) (e ∷ cs) ≡ None) = judge-on d place c e cs h in
     one_tag d o f c (tag_of c) (named c) s.0 (items (moved d c (tag_of c)) (e ∷ cs))
     (λ p g. items-under (moved d c (tag_of c)) p (place + length c + 1) (e ∷ cs) g s.1)
 
 -- X7, X9: each line of the elements stands under the line that owns it
-pub document-under : (x : List ℕ) → verdict x ≡ Fine → Under 0 (items_of x)
+pub document-under : (x : List ℕ) → verdict x ≡ None → Under 0 (items_of x)
 document-under x h = items-under before 0 (start x) (chunks false (drop (start x) x)) refl h

@@ -11,10 +11,10 @@ use Rattle.text.specs.Text.{fields}
 use Rattle.text.specs.Place.{kind_of}
 use Rattle.text.specs.Print.{Every}
 use Rattle.plain_form.specs.PlainForm.{stands, farther, misplaced, out_of_order, is_plain}
-use Rattle.xml_tags.specs.declared.Fault.TheVariants.{Fine}
 use Rattle.xml_document.specs.Document.{verdict, items_of, letter, owns, picked, owned, blocks, arranged, text_of}
 use Rattle.xml_plain.proofs.Lines.{Line, document-lines, text-lines}
 use Rattle.xml_plain.proofs.Owners.{allowed, next, Under, document-under}
+use Rattle.std.specs.Prelude.{None}
 
 -- ---- lines in order
 -- how far lines have come, and whether each may stand where it does
@@ -226,7 +226,7 @@ in_place n k (l ∷ m ∷ ms) g =
     (and_right (stands n (kind_of (fields l))) (good (farther n (kind_of (fields l))) (m ∷ ms)) g))
 
 -- X10, X12: the text that a document says is in plain form, if nothing is wrong with the document
-pub text-plain : (x : List ℕ) → verdict x ≡ Fine → is_plain (text_of x) ≡ true
+pub text-plain : (x : List ℕ) → verdict x ≡ None → is_plain (text_of x) ≡ true
 text-plain x h =
     let o : out_of_order (text_of x) ≡ 0 =
     ap (misplaced 0 1) (text-lines x)

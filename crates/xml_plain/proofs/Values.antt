@@ -16,8 +16,7 @@ use Rattle.numerals.specs.Numerals.{glyph, spelled}
 use Rattle.xml_schema.specs.Schema.{words, optional_words, number, optional_number, hex_number, is_dropped}
 use Rattle.xml_values.specs.Values.{entity, parts, plainly, undo, loose, is_words, unsigned, is_count, strip, numeral, is_numeral, in_decimal}
 use Rattle.xml_values.specs.Values.{trues, falses, is_among, digit_for, valid, says, unsaid}
-use Rattle.xml_values.specs.declared.Numeral.{Numeral}
-use Rattle.xml_values.specs.declared.Numeral.TheVariants.{Is, Not}
+use Rattle.std.specs.Prelude.{Option, Some, None}
 
 -- has l no line end
 abbrev pub whole_line : List ℕ → Bool
@@ -106,9 +105,9 @@ spelled-whole (suc most) base least n = by (eqb n 0 && eqb least 0) (spelled-who
     by true q = refl
     by false q = both (spelled base 65 most (least - 1) (n / base)) (glyph 65 (n % base) ∷ []) q (rw (glyph-other (n % base)))
 
-numeral-whole : (g : Numeral) → whole_line (in_decimal g) ≡ true
-numeral-whole (Is n) = spelled-whole 20 10 1 n
-numeral-whole Not = refl
+numeral-whole : (g : Option ℕ) → whole_line (in_decimal g) ≡ true
+numeral-whole (Some n) = spelled-whole 20 10 1 n
+numeral-whole None = refl
 
 -- ---- flags
 flag-whole : (v : List ℕ) → whole_line (digit_for v ∷ []) ≡ true

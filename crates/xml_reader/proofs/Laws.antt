@@ -22,7 +22,6 @@ use Rattle.xml_values.specs.Scan.{lead, skip, word_len, after}
 use Rattle.xml_tags.specs.Tags.{chunks, tag_end, tag_of, pieces_of, fields_of}
 use Rattle.xml_tags.specs.declared.Tag.{Tag}
 use Rattle.xml_tags.specs.declared.Tag.TheVariants.{Bad, Shut, Open}
-use Rattle.xml_tags.specs.declared.Fault.TheVariants.{Fine, At}
 use Rattle.xml_tags.proofs.Chunks.{chunks-last, chunks-more, chunks_some}
 use Rattle.xml_document.specs.Document.{enter, moved, fault_at, judge, start, verdict, level, line_of, with_line, items, items_of, owns, picked}
 use Rattle.xml_document.specs.Document.{owned, blocks, ended, text_of}
@@ -31,8 +30,7 @@ use Rattle.xml_document.proofs.Laws.{judge_next}
 use Rattle.xml_draft.specs.Draft.{Laid, Going}
 use Rattle.xml_draft.proofs.Laws.{laid_none, laid_then, going_start, going_on, going_done}
 use Rattle.xml_reader.specs.Pass.{items_at, line_bytes, picked_at, halts, bytes_of, Tagged, owned_at, blocks_at, block_bytes}
-use Rattle.xml_reader.specs.declared.Wrote.{Wrote}
-use Rattle.xml_reader.specs.declared.Wrote.TheVariants.{Stop, On}
+use Rattle.std.specs.Prelude.{Option, Some, None}
 
 -- ---- where the attributes stand
 module _ (c : List ℕ) (l : ℕ) (at-l : l ≡ lead c) where
@@ -117,26 +115,26 @@ module _ (t : List ℕ) (n d : ℕ) (c : List ℕ) (w : ℕ) (good : is_bad (tag
   the_tag : g ≡ tag_of c
   the_tag = is good
 
-  pub tagged_bad : (p : ℕ) → g ≡ Bad p → Tagged t t n d c w (tag_of c) (On n)
+  pub tagged_bad : (p : ℕ) → g ≡ Bad p → Tagged t t n d c w (tag_of c) (Some n)
   tagged_bad p q = rw (← the_tag, q) (refl, laid_none t n)
 
-  pub tagged-shut : (k : ℕ) → g ≡ Shut k → Tagged t t n d c w (tag_of c) (On n)
+  pub tagged-shut : (k : ℕ) → g ≡ Shut k → Tagged t t n d c w (tag_of c) (Some n)
   tagged-shut k q = rw (← the_tag, q) (refl, laid_none t n)
 
   module _ (k : ℕ) (q : g ≡ Open k) (l : ℕ) (is-l : l ≡ letter_of k) (x : Bool) (stop : x ≡ owns l) where
     stop_now : owns (letter_of k) ≡ x
     stop_now = sym (rw is-l at stop)
 
-    pub tagged_stop : x ≡ true → Tagged t t n d c w (tag_of c) Stop
+    pub tagged_stop : x ≡ true → Tagged t t n d c w (tag_of c) None
     tagged_stop e = rw (← the_tag, q) (stop_now ∙ e, refl)
 
     module _ (e : x ≡ false) where
-      pub tagged_line : (u : List ℕ) (m : ℕ) → l ≡ w → Laid t u n m (line_bytes d k c) → Tagged t u n d c w (tag_of c) (On m)
+      pub tagged_line : (u : List ℕ) (m : ℕ) → l ≡ w → Laid t u n m (line_bytes d k c) → Tagged t u n d c w (tag_of c) (Some m)
       tagged_line u m f laid =
           let z : bytes_of w d c (tag_of c) ≡ line_bytes d k c = ap (bytes_of w d c) (sym the_tag ∙ q) ∙ rw (← is-l, eq-eqb l w f) in
           (ap halts (sym the_tag ∙ q) ∙ stop_now ∙ e, rw z laid)
 
-      pub tagged-other : (l ≡ w → ⊥) → Tagged t t n d c w (tag_of c) (On n)
+      pub tagged-other : (l ≡ w → ⊥) → Tagged t t n d c w (tag_of c) (Some n)
       tagged-other f = rw (← the_tag, q) (stop_now ∙ e, rw (← is-l, ne_eqb l w f) (laid_none t n))
 
 pub ruleset tag_laws = (owner_f, owner-b, owner_h, owner_d, owner-not, tagged_bad, tagged-shut, tagged_stop, tagged_line, tagged-other)
@@ -236,8 +234,8 @@ module _ (x : List ℕ) (d at : ℕ) (st : Standing x d at) (e : ℕ) (at-e : e 
     chunk_long : length chunk ≡ e
     chunk_long = length-take-le e (take (length x - at) (drop at x)) in_e
 
-    judged-on : cond (eqb (moved d chunk (tag_of chunk)) 15) (At (fault_at at chunk (tag_of chunk)))
-        (judge (moved d chunk (tag_of chunk)) (at + length chunk + 1) (chunks false (drop (at + e + 1) x))) ≡ Fine
+    judged-on : cond (eqb (moved d chunk (tag_of chunk)) 15) (Some (fault_at at chunk (tag_of chunk)))
+        (judge (moved d chunk (tag_of chunk)) (at + length chunk + 1) (chunks false (drop (at + e + 1) x))) ≡ None
     judged-on =
         sym (ap (judge d at) parted ∙ judge_next d at chunk (chunks false (drop (at + e + 1) x)) (chunks_some false (drop (at + e + 1) x))) ∙ st.fine
 
@@ -245,20 +243,20 @@ module _ (x : List ℕ) (d at : ℕ) (st : Standing x d at) (e : ℕ) (at-e : e 
     pub chunk_good : is_bad (tag_of chunk) ≡ false
     chunk_good = by (tag_of chunk) judged-on
       where
-        by : (t : Tag) → cond (eqb (moved d chunk t) 15) (At (fault_at at chunk t))
-            (judge (moved d chunk t) (at + length chunk + 1) (chunks false (drop (at + e + 1) x))) ≡ Fine
+        by : (t : Tag) → cond (eqb (moved d chunk t) 15) (Some (fault_at at chunk t))
+            (judge (moved d chunk t) (at + length chunk + 1) (chunks false (drop (at + e + 1) x))) ≡ None
             → is_bad t ≡ false
         by (Bad n) h = absurd (let z : ◌≡◌ {A = ℕ} 0 1 = cc in omega arith)
         by (Shut k) h = refl
         by (Open k) h = refl
 
-    fine-on : judge (moved d chunk (tag_of chunk)) (at + e + 1) (chunks false (drop (at + e + 1) x)) ≡ Fine
+    fine-on : judge (moved d chunk (tag_of chunk)) (at + e + 1) (chunks false (drop (at + e + 1) x)) ≡ None
     fine-on = rw chunk_long at (by (eqb (moved d chunk (tag_of chunk)) 15) judged-on)
       where
         by : (b : Bool)
-            → cond b (At (fault_at at chunk (tag_of chunk)))
-            (judge (moved d chunk (tag_of chunk)) (at + length chunk + 1) (chunks false (drop (at + e + 1) x))) ≡ Fine
-            → judge (moved d chunk (tag_of chunk)) (at + length chunk + 1) (chunks false (drop (at + e + 1) x)) ≡ Fine
+            → cond b (Some (fault_at at chunk (tag_of chunk)))
+            (judge (moved d chunk (tag_of chunk)) (at + length chunk + 1) (chunks false (drop (at + e + 1) x))) ≡ None
+            → judge (moved d chunk (tag_of chunk)) (at + length chunk + 1) (chunks false (drop (at + e + 1) x)) ≡ None
         by true h = absurd (let z : ◌≡◌ {A = ℕ} 0 1 = cc in omega arith)
         by false h = h
 
@@ -309,14 +307,14 @@ module _ (t₀ t x : List ℕ) (w d₀ at₀ n₀ d at n : ℕ) (p : Picking t�
         ap (λ ls. ended (picked w ls)) (items-on x d at p.standing e at-e in_e more)
         ∙ picked_tag w d it (tag_of it) (items_at x (moved d it (tag_of it)) (at + e + 1)) plain (chunk_good x d at p.standing e at-e in_e more)
 
-    module _ (u : List ℕ) (g : Wrote) (said : Tagged t u n d it w (tag_of it) g) where
-      pub picking_stop : g ≡ Stop → Laid t₀ u n₀ n (picked_at w x d₀ at₀)
+    module _ (u : List ℕ) (g : Option ℕ) (said : Tagged t u n d it w (tag_of it) g) where
+      pub picking_stop : g ≡ None → Laid t₀ u n₀ n (picked_at w x d₀ at₀)
       picking_stop q =
           let h : (halts (tag_of it) ≡ true) × (u ≡ t) = rw q at said in
           let z : picked_at w x d at ≡ [] = picked-on ∙ rw h.0 in
           rw h.1 (going_done t₀ n₀ (picked_at w x d₀ at₀) t n (picked_at w x d at) p.going z)
 
-      pub picking_more : (m : ℕ) → g ≡ On m → (d' : ℕ) → Goes d it d' → Picking t₀ u x w d₀ at₀ n₀ d' (at + e + 1) m
+      pub picking_more : (m : ℕ) → g ≡ Some m → (d' : ℕ) → Goes d it d' → Picking t₀ u x w d₀ at₀ n₀ d' (at + e + 1) m
       picking_more m q d' to =
           let h : (halts (tag_of it) ≡ false) × Laid t u n m (bytes_of w d it (tag_of it)) = rw q at said in
           let k : d' ≡ moved d it (tag_of it) = chunk_to x d at p.standing e at-e in_e more d' to in
@@ -414,7 +412,7 @@ module _ (t₀ t x : List ℕ) (w at₀ n₀ d at n : ℕ) (p : Blocking t₀ t 
 pub ruleset blocking_laws = (blocking_start, blocking_standing, blocking_last, blocking_more, chunk_laws)
 
 -- ---- the text
-pub text_standing : (x : List ℕ) (at : ℕ) → at ≡ start x → at ≤ length x → verdict x ≡ Fine → Standing x 13 at
+pub text_standing : (x : List ℕ) (at : ℕ) → at ≡ start x → at ≤ length x → verdict x ≡ None → Standing x 13 at
 text_standing x at e h v = record { inside = h; fine = rw e v }
 
 pub text-laid : (x : List ℕ) (at : ℕ) → at ≡ start x → (t a b c u : List ℕ) (f g h r : ℕ) → Laid t a 0 f (blocks_at 70 x 13 at)

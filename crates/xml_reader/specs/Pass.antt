@@ -1,5 +1,5 @@
 -- X10 (docs/RULES.md): the text of a document by passes over its tags, and what the functions of a pass answer.
-use Rattle.std.specs.Prelude.{ℕ, ◌≡◌, Bool, true, false, cond, List, [], ◌∷◌, ◌++◌, drop, eqb}
+use Rattle.std.specs.Prelude.{ℕ, ◌≡◌, Bool, true, false, cond, List, [], ◌∷◌, ◌++◌, drop, eqb, Option, Some, None}
 use Rattle.frame_kept.specs.Letters.{letter_p, letter_v, letter_e}
 use Rattle.xml_schema.specs.Schema.{letter_of}
 use Rattle.xml_tags.specs.Tags.{chunks, tag_of, pieces_of}
@@ -7,8 +7,6 @@ use Rattle.xml_tags.specs.declared.Tag.{Tag}
 use Rattle.xml_tags.specs.declared.Tag.TheVariants.{Bad, Shut, Open}
 use Rattle.xml_document.specs.Document.{enter, moved, line_of, items, owns, picked, blocks, ended}
 use Rattle.xml_draft.specs.Draft.{Laid}
-use Rattle.xml_reader.specs.declared.Wrote.{Wrote}
-use Rattle.xml_reader.specs.declared.Wrote.TheVariants.{Stop, On}
 
 -- the lines of the tags of x from `at` on, where the first stands in d
 abbrev pub items_at : List ℕ → ℕ → ℕ → List (List ℕ)
@@ -34,9 +32,9 @@ bytes_of w d c (Bad n) = []
 bytes_of w d c (Shut k) = []
 bytes_of w d c (Open k) = cond (eqb (letter_of k) w) (line_bytes d k c) []
 
-abbrev pub Tagged : List ℕ → List ℕ → ℕ → ℕ → List ℕ → ℕ → Tag → Wrote → Type 0
-Tagged t u n d c w tag Stop = (halts tag ≡ true) × (u ≡ t)
-Tagged t u n d c w tag (On m) = (halts tag ≡ false) × Laid t u n m (bytes_of w d c tag)
+abbrev pub Tagged : List ℕ → List ℕ → ℕ → ℕ → List ℕ → ℕ → Tag → Option ℕ → Type 0
+Tagged t u n d c w tag None = (halts tag ≡ true) × (u ≡ t)
+Tagged t u n d c w tag (Some m) = (halts tag ≡ false) × Laid t u n m (bytes_of w d c tag)
 
 -- ---- what a line owns: three passes
 abbrev pub owned_at : List ℕ → ℕ → ℕ → List ℕ

@@ -1,12 +1,11 @@
 // The text that a document says, written by passes over its tags: X9 and X10 of docs/RULES.md.
 #![tactic(auto)]
 
-ghost use Rattle.std.specs.Prelude.{◌≡◌, false, [], ◌∷◌, ◌++◌, ◌≤◌, eqb, length, drop};
+ghost use Rattle.std.specs.Prelude.{◌≡◌, false, [], ◌∷◌, ◌++◌, ◌≤◌, eqb, length, drop, None};
 ghost use Rattle.text.specs.Text.{split};
 ghost use Rattle.xml_values.specs.Scan.{skip, after};
 ghost use Rattle.xml_schema.specs.Schema.{letter_of, no_letter, entries_of, quote, before};
 ghost use Rattle.xml_tags.specs.Tags.{tag_of, fields_of};
-ghost use Rattle.xml_tags.specs.declared.Fault.TheVariants.{Fine};
 ghost use Rattle.xml_document.specs.Document.{verdict, moved, level, line_of, owns, text_of};
 ghost use Rattle.xml_document.specs.Steps.{is_bad, Standing};
 ghost use Rattle.xml_draft.specs.Draft.{Laid};
@@ -17,13 +16,6 @@ use xml_draft::{ROOM, put_byte, put_fields};
 use xml_schema::{BEFORE, PARAM, TABLE, letter_of, row_of};
 use xml_tags::{Tag, tag_end};
 use xml_values::{lead, word_len};
-
-// What a pass does at a tag: it ends, or it goes on behind what is written.
-#[derive(Clone, Copy)]
-pub enum Wrote {
-    Stop,
-    On(usize),
-}
 
 // ---- a line
 
@@ -101,22 +93,22 @@ fn is_owner(w: u8) -> bool
 }
 
 // Writes the line of the tag c, if it starts an element of the letter w.
-fn put_tag(out: &mut [u8; ROOM], n: usize, d: usize, c: &[u8], w: u8) -> Wrote
+fn put_tag(out: &mut [u8; ROOM], n: usize, d: usize, c: &[u8], w: u8) -> Option<usize>
     requires { is_bad (tag_of c.now) ≡ false }
     ensures { let c = c.entry.now in Tagged out.old out.new n d c w (tag_of c) result }
 {
     match glance(c) {
-        Tag::Bad(_) => Wrote::On(n),
-        Tag::Shut(_) => Wrote::On(n),
+        Tag::Bad(_) => Some(n),
+        Tag::Shut(_) => Some(n),
         Tag::Open(k) => {
             let letter = letter_of(k);
             if is_owner(letter) {
-                return Wrote::Stop;
+                return None;
             }
             if letter == w {
-                return Wrote::On(put_tag_line(out, n, d, k, c));
+                return Some(put_tag_line(out, n, d, k, c));
             }
-            Wrote::On(n)
+            Some(n)
         }
     }
 }
@@ -136,10 +128,10 @@ fn put_picked(x: &[u8], d: usize, at: usize, w: u8, out: &mut [u8; ROOM], n: usi
             return next;
         }
         match put_tag(out, next, here, &rest[..e], w) {
-            Wrote::Stop => {
+            None => {
                 return next;
             }
-            Wrote::On(m) => {
+            Some(m) => {
                 next = m;
             }
         }
@@ -211,7 +203,7 @@ fn put_blocks(x: &[u8], at: usize, w: u8, out: &mut [u8; ROOM], n: usize) -> usi
 
 // Writes the text that the document says, as far as there is room; answers its length, or some number past the room.
 pub fn put_text(x: &[u8], out: &mut [u8; ROOM]) -> usize
-    requires { verdict x.now ≡ Fine }
+    requires { verdict x.now ≡ None }
     ensures { Laid out.old out.new 0 result (text_of x.now) }
 {
     let at = start_of(x);

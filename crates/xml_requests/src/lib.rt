@@ -1,10 +1,9 @@
 // The requests on a frame text as XML, and on XML as a frame text.
 #![tactic(auto)]
 
-use answer::Answer;
 use answer::table::{BYTE, MOST_BYTES, put_written};
 use libtap::xml_texts::{tap_frame_text_to_xml, tap_xml_to_frame_text};
-use request::{Bytes, Leading, read_bytes, read_leading};
+use request::{read_bytes, read_leading};
 use writer::Buffer;
 
 // The XML of a text, or a refusal, after which nothing may have been written to the buffer.
@@ -40,17 +39,17 @@ pub fn turned(
     bytes: &mut [u8],
     out: &mut Buffer,
     used: usize,
-) -> Answer {
-    let Leading::Is(cap, at) = read_leading(words) else {
-        return Answer::Bad;
+) -> Option<usize> {
+    let Some((cap, at)) = read_leading(words) else {
+        return None;
     };
     if MOST_BYTES < cap {
-        return Answer::Bad;
+        return None;
     }
-    let Bytes::Are(n) = read_bytes(&words[at..], bytes) else {
-        return Answer::Bad;
+    let Some(n) = read_bytes(&words[at..], bytes) else {
+        return None;
     };
     let room = cap as usize;
     let mut buffer = [BYTE; 196608];
-    Answer::Put(answer_turned(is_xml, &bytes[..n], &mut buffer[..room], out, used))
+    Some(answer_turned(is_xml, &bytes[..n], &mut buffer[..room], out, used))
 }

@@ -17,8 +17,7 @@ use Rattle.text.specs.declared.Part.{Part}
 use Rattle.text.proofs.Laws.{split-last, split-more, front_count}
 use Rattle.readers.specs.Fields.{IsField}
 use Rattle.xml_schema.specs.Schema.{table, row_of, letter_of, form_of, name_of, form_in, nowhere, parents, parent_of, Follows}
-use Rattle.xml_schema.specs.declared.Next.{Next}
-use Rattle.xml_schema.specs.declared.Next.TheVariants.{Last, Entry}
+use Rattle.std.specs.Prelude.{Option, Some, None}
 
 -- ---- an entry
 pub form-none : (e : List ℕ) → length e ≡ 0 → 0 ≡ form_of e
@@ -37,7 +36,7 @@ name_is e n a r is q = let i : r ≡ same n (drop a e) = rw tail at is in rw q a
 
 -- ---- what stands behind the first field
 module _ (row : List ℕ) (e : ℕ) (at-e : e ≡ cut 9 row) (in_e : e ≤ length row) where
-  pub next_last : e ≡ length row → Follows row Last
+  pub next_last : e ≡ length row → Follows row None
   next_last l = rw (split-last 9 row (sym at-e ∙ l))
 
   module _ (more : e ≡ length row → ⊥) (n : ℕ) (at_n : n ≡ cut 9 (take (length row - (e + 1)) (drop (e + 1) row)))
@@ -58,7 +57,7 @@ module _ (row : List ℕ) (e : ℕ) (at-e : e ≡ cut 9 row) (in_e : e ≤ lengt
         (λ e. rw (split-more 9 l (rw (← q) e), q))
         (eq-or-lt_of_le h)
 
-    pub next_entry : Follows row (Entry (e + 1) n)
+    pub next_entry : Follows row (Some ((e + 1), n))
     next_entry = (omega arith, room, behind ∙ begins (drop (e + 1) row) n at_n' (rw tail at in-n))
 
 -- ---- the place of an element
@@ -79,14 +78,14 @@ pub parent-none : (k : ℕ) → 13 ≤ k → 15 ≡ parent_of k
 parent-none k h = past parents k nowhere h
 
 -- ---- one entry after another: the field at `at` is behind us
-module _ (row : List ℕ) (at : ℕ) (r : Next) (is : Follows (take (length row - at) (drop at row)) r) where
+module _ (row : List ℕ) (at : ℕ) (r : Option (ℕ × ℕ)) (is : Follows (take (length row - at) (drop at row)) r) where
   is_now : Follows (drop at row) r
   is_now = rw tail at is
 
-  pub entry_last : r ≡ Last → drop 1 (fields (drop at row)) ≡ []
+  pub entry_last : r ≡ None → drop 1 (fields (drop at row)) ≡ []
   entry_last q = rw q at is_now
 
-  module _ (a len : ℕ) (q : r ≡ Entry a len) where
+  module _ (a len : ℕ) (q : r ≡ Some (a, len)) where
     entry_now : (1 ≤ a) × (a + len ≤ length (drop at row))
         × (drop 1 (fields (drop at row)) ≡ take len (drop a (drop at row)) ∷ drop 1 (fields (drop a (drop at row))))
     entry_now = rw q at is_now
@@ -117,11 +116,11 @@ pub ruleset entry_laws = (entry_fits, entry_end, entry_inside, entry_at_fits, en
 
 -- ---- the form of an attribute
 module _ (row n : List ℕ) (at : ℕ) (inv : form_in (drop 1 (fields row)) n ≡ form_in (drop 1 (fields (drop at row))) n)
-    (r : Next) (is : Follows (take (length row - at) (drop at row)) r) where
-  pub form-last : r ≡ Last → 0 ≡ form_in (drop 1 (fields row)) n
+    (r : Option (ℕ × ℕ)) (is : Follows (take (length row - at) (drop at row)) r) where
+  pub form-last : r ≡ None → 0 ≡ form_in (drop 1 (fields row)) n
   form-last q = rw (inv, entry_last row at r is q)
 
-  module _ (a len : ℕ) (q : r ≡ Entry a len) (x : Bool)
+  module _ (a len : ℕ) (q : r ≡ Some (a, len)) (x : Bool)
       (named : x ≡ same n (name_of (take (a + len - a) (drop a (take (length row - at) (drop at row)))))) where
     form-on : form_in (drop 1 (fields row)) n
         ≡ cond x (form_of (take (a + len - a) (drop a (take (length row - at) (drop at row))))) (form_in (drop 1 (fields (drop (at + a) row))) n)

@@ -1,9 +1,7 @@
 -- X3 (docs/RULES.md): the elements and attributes of the schema, as one table.
-use Rattle.std.specs.Prelude.{ℕ, ◌+◌, ◌≤◌, ◌≡◌, Bool, cond, not, ◌||◌, List, [], ◌∷◌, ltb, eqb, length, get_or, take, drop}
+use Rattle.std.specs.Prelude.{ℕ, ◌+◌, ◌≤◌, ◌≡◌, Bool, cond, not, ◌||◌, List, [], ◌∷◌, ltb, eqb, length, get_or, take, drop, Option, Some, None}
 use Rattle.text.specs.Text.{split, lines, fields, same}
 use Rattle.text.specs.Scan.{word_in}
-use Rattle.xml_schema.specs.declared.Next.{Next}
-use Rattle.xml_schema.specs.declared.Next.TheVariants.{Last, Entry}
 
 -- X3: the names of the elements, in the order of their numbers: `FrameDefinition RadioFrequency BaseHeader Header Param`,
 -- `Validation DefineSet Define HomeId Source HeaderType IsLTX SequenceNumber`
@@ -104,9 +102,9 @@ form_in [] n = 0
 form_in (e ∷ es) n = cond (same n (name_of e)) (form_of e) (form_in es n)
 
 -- what stands behind the first field of a row
-abbrev pub Follows : List ℕ → Next → Type 0
-Follows row Last = drop 1 (fields row) ≡ []
-Follows row (Entry a n) = (1 ≤ a) × (a + n ≤ length row) × (drop 1 (fields row) ≡ take n (drop a row) ∷ drop 1 (fields (drop a row)))
+abbrev pub Follows : List ℕ → Option (ℕ × ℕ) → Type 0
+Follows row None = drop 1 (fields row) ≡ []
+Follows row (Some (a, n)) = (1 ≤ a) × (a + n ≤ length row) × (drop 1 (fields row) ≡ take n (drop a row) ∷ drop 1 (fields (drop a row)))
 
 -- ---- the forms of a value
 -- X3: words, which may be missing or not

@@ -71,13 +71,6 @@ E\txKey\twText\t2Name
 -\t0Ref
 -\t0Ref";
 
-// What stands behind the first field of a row: nothing, or an entry that begins at a place and has so many bytes.
-#[derive(Clone, Copy)]
-pub enum Next {
-    Last,
-    Entry(usize, usize),
-}
-
 // The number of the element that n names.
 pub fn element_of(n: &[u8]) -> usize
     ensures { result ≡ element_of n.now }
@@ -130,15 +123,15 @@ pub fn letter_of(k: usize) -> u8
 }
 
 // What stands behind the first field of a row?
-pub fn next_entry(row: &[u8]) -> Next
+pub fn next_entry(row: &[u8]) -> Option<(usize, usize)>
     ensures { Follows row.now result }
 {
     let e = find(row, 9);
     if e == row.len() {
-        return Next::Last;
+        return None;
     }
     let len = find(&row[e + 1..], 9);
-    Next::Entry(e + 1, len)
+    Some((e + 1, len))
 }
 
 // Is n the name in an entry?
@@ -157,10 +150,10 @@ pub fn form_in(row: &[u8], n: &[u8]) -> u8
     loop {
         let rest = &row[at..];
         match next_entry(rest) {
-            Next::Last => {
+            None => {
                 return 0;
             }
-            Next::Entry(a, len) => {
+            Some((a, len)) => {
                 let end = a + len;
                 let entry = &rest[a..end];
                 if is_entry(entry, n) {

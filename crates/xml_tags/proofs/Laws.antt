@@ -18,8 +18,6 @@ use Rattle.text.proofs.Laws.{split-last, split-more, front_count}
 use Rattle.text.proofs.Printing.{split-long}
 use Rattle.readers.specs.Fields.{IsField}
 use Rattle.xml_schema.specs.Schema.{elements, table, entries_of, element_of, form_of, name_of, form_in, is_optional, Follows}
-use Rattle.xml_schema.specs.declared.Next.{Next}
-use Rattle.xml_schema.specs.declared.Next.TheVariants.{Last as NoEntry, Entry}
 use Rattle.xml_schema.proofs.Laws.{entry_last, entry_is, entry_laws, row_end, row_fits, row_is}
 use Rattle.xml_values.specs.Scan.{lead, skip, white, word_len, word, after}
 use Rattle.xml_values.specs.Values.{valid}
@@ -28,12 +26,11 @@ use Rattle.xml_tags.specs.Tags.{tag_of, last, closed}
 use Rattle.xml_tags.specs.Steps.{Lone, Halved, Spans, grade, UpTo, Inside}
 use Rattle.xml_tags.specs.declared.Tag.{Tag}
 use Rattle.xml_tags.specs.declared.Tag.TheVariants.{Bad, Shut, Open}
-use Rattle.xml_tags.specs.declared.Fault.{Fault}
-use Rattle.xml_tags.specs.declared.Fault.TheVariants.{Fine, At}
 use Rattle.xml_tags.specs.declared.Grade.{Grade}
 use Rattle.xml_tags.specs.declared.Grade.TheVariants.{Right, WrongName, WrongValue}
 use Rattle.xml_tags.specs.declared.Pair.{Pair}
 use Rattle.xml_tags.specs.declared.Pair.TheVariants.{Last, Odd, Two}
+use Rattle.std.specs.Prelude.{Option, Some, None}
 
 -- ---- the end of a tag
 module _ (s : List ℕ) (q : Bool) (i : ℕ) (inv : tag_end false s ≡ i + tag_end q (drop i s)) where
@@ -312,17 +309,17 @@ pub ruleset grade_laws = (new_unnamed, new_unknown, new_again, new_is, grade-cou
 
 -- ---- the first fault
 -- what follows the grade of the attribute a with the value v, which stands at place before ps
-abbrev go_on : List (List ℕ) → ℕ → Grade → List ℕ → List ℕ → List (List ℕ) → Fault
+abbrev go_on : List (List ℕ) → ℕ → Grade → List ℕ → List ℕ → List (List ℕ) → Option ℕ
 go_on es place Right a v ps = fault es (place + length a + length v + 2) ps
-go_on es place WrongName a v ps = At place
-go_on es place WrongValue a v ps = At (place + length a + 1)
+go_on es place WrongName a v ps = Some place
+go_on es place WrongValue a v ps = Some (place + length a + 1)
 
 fault_step : (es : List (List ℕ)) (place : ℕ) (ps : List (List ℕ)) → 1 ≤ length ps → (a v : List ℕ)
     → fault es place (a ∷ v ∷ ps) ≡ go_on es place (grade es a v ps) a v ps
 fault_step es place [] h a v = absurd (omega arith)
 fault_step es place (y ∷ ys) h a v = by (is_new es a (y ∷ ys)) (valid (form_in es (name_in a)) v)
   where
-    by : (b c : Bool) → cond b (cond c (fault es (place + length a + length v + 2) (y ∷ ys)) (At (place + length a + 1))) (At place)
+    by : (b c : Bool) → cond b (cond c (fault es (place + length a + length v + 2) (y ∷ ys)) (Some (place + length a + 1))) (Some place)
         ≡ go_on es place (cond b (cond c Right WrongValue) WrongName) a v (y ∷ ys)
     by true true = refl
     by true false = refl
@@ -341,13 +338,13 @@ module _ (es : List (List ℕ)) (body : List ℕ) (inside at : ℕ)
     end_now : x ≡ is_end (drop at body)
     end_now = rw tail at end
 
-    pub fault_end : x ≡ true → Fine ≡ fault es inside (split 34 body)
+    pub fault_end : x ≡ true → None ≡ fault es inside (split 34 body)
     fault_end t = rw (inv, one_piece, ← end_now, t)
 
-    pub fault-tail : x ≡ false → At (inside + at) ≡ fault es inside (split 34 body)
+    pub fault-tail : x ≡ false → Some (inside + at) ≡ fault es inside (split 34 body)
     fault-tail t = rw (inv, one_piece, ← end_now, t)
 
-  pub fault-odd : p ≡ Odd → At (inside + at) ≡ fault es inside (split 34 body)
+  pub fault-odd : p ≡ Odd → Some (inside + at) ≡ fault es inside (split 34 body)
   fault-odd q = let h : Lone (split 34 (drop at body)) = rw q at is_now in rw (inv, h.are)
 
   module _ (e f : ℕ) (q : p ≡ Two e f) (g : Grade)
@@ -377,10 +374,10 @@ module _ (es : List (List ℕ)) (body : List ℕ) (inside at : ℕ)
         (take f (drop (e + 1) (drop at body))) in
         inv ∙ ap (fault es (inside + at)) two_now.1 ∙ rw (← said_now) at s
 
-    pub fault-name : g ≡ WrongName → At (inside + at) ≡ fault es inside (split 34 body)
+    pub fault-name : g ≡ WrongName → Some (inside + at) ≡ fault es inside (split 34 body)
     fault-name t = sym (rw t at fault-on)
 
-    pub fault-value : g ≡ WrongValue → At (inside + at + e + 1) ≡ fault es inside (split 34 body)
+    pub fault-value : g ≡ WrongValue → Some (inside + at + e + 1) ≡ fault es inside (split 34 body)
     fault-value t = sym (rw a_long at (rw t at fault-on))
 
     pub fault-more : g ≡ Right → fault es inside (split 34 body) ≡ fault es (inside + (at + e + f + 2)) (split 34 (drop (at + e + f + 2) body))
@@ -438,11 +435,11 @@ module _ (e : List ℕ) (ps : List (List ℕ)) (f : ℕ) (form : f ≡ form_of e
 
 -- one entry after another: the field at `at` is behind us
 module _ (row : List ℕ) (ps : List (List ℕ)) (at : ℕ) (inv : whole (drop 1 (fields row)) ps ≡ whole (drop 1 (fields (drop at row))) ps)
-    (r : Next) (is : Follows (take (length row - at) (drop at row)) r) where
-  pub whole-last : r ≡ NoEntry → true ≡ whole (drop 1 (fields row)) ps
+    (r : Option (ℕ × ℕ)) (is : Follows (take (length row - at) (drop at row)) r) where
+  pub whole-last : r ≡ None → true ≡ whole (drop 1 (fields row)) ps
   whole-last q = rw (inv, entry_last row at r is q)
 
-  module _ (a len : ℕ) (q : r ≡ Entry a len) (x : Bool)
+  module _ (a len : ℕ) (q : r ≡ Some (a, len)) (x : Bool)
       (held : x ≡ is_optional (form_of (take (a + len - a) (drop a (take (length row - at) (drop at row)))))
       || has (name_of (take (a + len - a) (drop a (take (length row - at) (drop at row))))) ps) where
     whole-on : whole (drop 1 (fields row)) ps ≡ x && whole (drop 1 (fields (drop (at + a) row))) ps
@@ -504,20 +501,20 @@ pub start_is : (k : ℕ) (p : Part) → IsField 10 k table p → (place inside :
     → r ≡ judged k (entries_of k) place inside ps
 start_is k p is place inside ps r e = e ∙ ap (λ fs. judged k (drop 1 fs) place inside ps) (row_is k p is)
 
-module _ (k : ℕ) (es : List (List ℕ)) (place inside : ℕ) (ps : List (List ℕ)) (g : Fault) (is-g : g ≡ fault es inside ps) where
-  pub judged-fault : (n : ℕ) → g ≡ At n → Bad n ≡ judged k es place inside ps
+module _ (k : ℕ) (es : List (List ℕ)) (place inside : ℕ) (ps : List (List ℕ)) (g : Option ℕ) (is-g : g ≡ fault es inside ps) where
+  pub judged-fault : (n : ℕ) → g ≡ Some n → Bad n ≡ judged k es place inside ps
   judged-fault n u = rw (← is-g, u)
 
-  module _ (u : g ≡ Fine) (y : Bool) (is_y : y ≡ whole es ps) where
+  module _ (u : g ≡ None) (y : Bool) (is_y : y ≡ whole es ps) where
     pub judged_is : y ≡ true → Open k ≡ judged k es place inside ps
     judged_is v = rw (← is-g, u, ← is_y, v)
 
     pub judged_lacks : y ≡ false → Bad place ≡ judged k es place inside ps
     judged_lacks v = rw (← is-g, u, ← is_y, v)
 
-pub up_to_bad : (m n : ℕ) (g : Fault) → UpTo m g → g ≡ At n → n ≤ m
-up_to_bad m n Fine h q = absurd (let z : ◌≡◌ {A = ℕ} 0 1 = cc in omega arith)
-up_to_bad m n (At k) h q = let z : k ≡ n = cc in rw (← z) h
+pub up_to_bad : (m n : ℕ) (g : Option ℕ) → UpTo m g → g ≡ Some n → n ≤ m
+up_to_bad m n None h q = absurd (let z : ◌≡◌ {A = ℕ} 0 1 = cc in omega arith)
+up_to_bad m n (Some k) h q = let z : k ≡ n = cc in rw (← z) h
 
 inside-more : (m n : ℕ) (t : Tag) → m ≤ n → Inside m t → Inside n t
 inside-more m n (Bad k) h i = omega arith

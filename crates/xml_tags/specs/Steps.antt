@@ -1,5 +1,5 @@
 -- What the functions on a tag and its attributes answer.
-use Rattle.std.specs.Prelude.{ℕ, ◌+◌, ◌≤◌, ◌≡◌, cond, List, [], ◌∷◌, length, take, drop}
+use Rattle.std.specs.Prelude.{ℕ, ◌+◌, ◌≤◌, ◌≡◌, cond, List, [], ◌∷◌, length, take, drop, Option, Some, None}
 use Rattle.text.specs.Text.{split}
 use Rattle.text.specs.declared.Part.{Part}
 use Rattle.xml_schema.specs.Schema.{form_in, quote}
@@ -7,8 +7,6 @@ use Rattle.xml_values.specs.Values.{valid}
 use Rattle.xml_tags.specs.Tags.{name_in, value_of, is_new}
 use Rattle.xml_tags.specs.declared.Tag.{Tag}
 use Rattle.xml_tags.specs.declared.Tag.TheVariants.{Bad, Shut, Open}
-use Rattle.xml_tags.specs.declared.Fault.{Fault}
-use Rattle.xml_tags.specs.declared.Fault.TheVariants.{Fine, At}
 use Rattle.xml_tags.specs.declared.Pair.{Pair}
 use Rattle.xml_tags.specs.declared.Pair.TheVariants.{Last, Odd, Two}
 use Rattle.xml_tags.specs.declared.Grade.{Grade}
@@ -36,9 +34,9 @@ abbrev pub grade : List (List ℕ) → List ℕ → List ℕ → List (List ℕ)
 grade es p v ps = cond (is_new es p ps) (cond (valid (form_in es (name_in p)) v) Right WrongValue) WrongName
 
 -- a place of at most m
-abbrev pub UpTo : ℕ → Fault → Type 0
-UpTo m Fine = Unit {0}
-UpTo m (At n) = n ≤ m
+abbrev pub UpTo : ℕ → Option ℕ → Type 0
+UpTo m None = Unit {0}
+UpTo m (Some n) = n ≤ m
 
 abbrev pub Inside : ℕ → Tag → Type 0
 Inside m (Bad n) = n ≤ m

@@ -1,13 +1,11 @@
 -- X4 and X8 (docs/RULES.md): the tags of a document, and the attributes of a tag.
-use Rattle.std.specs.Prelude.{ℕ, suc, ◌+◌, Bool, true, false, cond, not, ◌&&◌, ◌||◌, List, [], ◌∷◌, ◌++◌, length, get_or, drop, leb, ltb, eqb}
+use Rattle.std.specs.Prelude.{ℕ, suc, ◌+◌, Bool, true, false, cond, not, ◌&&◌, ◌||◌, List, [], ◌∷◌, ◌++◌, length, get_or, drop, leb, ltb, eqb, Option, Some, None}
 use Rattle.text.specs.Text.{onto, split, same}
 use Rattle.xml_schema.specs.Schema.{count, element_of, entries_of, form_of, name_of, form_in, further_flag, is_optional, is_dropped, quote}
 use Rattle.xml_values.specs.Scan.{lead, skip, white, word_len, word, after}
 use Rattle.xml_values.specs.Values.{valid, says, unsaid}
 use Rattle.xml_tags.specs.declared.Tag.{Tag}
 use Rattle.xml_tags.specs.declared.Tag.TheVariants.{Bad, Shut, Open}
-use Rattle.xml_tags.specs.declared.Fault.{Fault}
-use Rattle.xml_tags.specs.declared.Fault.TheVariants.{Fine, At}
 
 -- ---- tags: what `>` ends outside double quotes, from the white space before it on
 
@@ -70,14 +68,14 @@ is_new es p ps = is_name p && (not (eqb (form_in es (name_in p)) 0) && not (has 
 
 -- X8: the first fault among attributes that stand at a place: at the white space before a name that is not known, not formed so or comes again, or before a
 -- tag that ends otherwise; at the first byte of a value that the attribute may not have
-abbrev pub fault : List (List ℕ) → ℕ → List (List ℕ) → Fault
-fault es place [] = At place
-fault es place (t ∷ []) = cond (is_end t) Fine (At place)
-fault es place (p ∷ v ∷ []) = At place
+abbrev pub fault : List (List ℕ) → ℕ → List (List ℕ) → Option ℕ
+fault es place [] = Some place
+fault es place (t ∷ []) = cond (is_end t) None (Some place)
+fault es place (p ∷ v ∷ []) = Some place
 fault es place (p ∷ v ∷ q ∷ ps) =
     cond (is_new es p (q ∷ ps))
-    (cond (valid (form_in es (name_in p)) v) (fault es (place + length p + length v + 2) (q ∷ ps)) (At (place + length p + 1)))
-    (At place)
+    (cond (valid (form_in es (name_in p)) v) (fault es (place + length p + length v + 2) (q ∷ ps)) (Some (place + length p + 1)))
+    (Some place)
 
 -- X4: is each attribute there that may not be missing
 abbrev pub whole : List (List ℕ) → List (List ℕ) → Bool
@@ -87,9 +85,9 @@ whole (e ∷ es) ps = (is_optional (form_of e) || has (name_of e) ps) && whole e
 -- ---- a tag
 
 -- X8: a tag with a fault in it, else what it is
-abbrev pub unless : Fault → Tag → Tag
-unless Fine t = t
-unless (At n) t = Bad n
+abbrev pub unless : Option ℕ → Tag → Tag
+unless None t = t
+unless (Some n) t = Bad n
 
 -- X8: the start of element k, by its entries: its `<` stands at a place, and its attributes from `inside` on
 abbrev pub judged : ℕ → List (List ℕ) → ℕ → ℕ → List (List ℕ) → Tag

@@ -9,7 +9,7 @@ ghost use Rattle.xml_tags.specs.Steps.{Halved, Spans, grade, UpTo, Inside};
 
 use text::{Part, find, is_same};
 use xml_schema::{
-    COUNT, FLAG, FURTHER_FLAG, Next, OPTIONAL_NUMBER, OPTIONAL_WORDS, TABLE, element_of, form_in,
+    COUNT, FLAG, FURTHER_FLAG, OPTIONAL_NUMBER, OPTIONAL_WORDS, TABLE, element_of, form_in,
     form_of, name_start, next_entry, row_of,
 };
 use xml_values::{is_blank, is_valid, lead, word_len};
@@ -20,13 +20,6 @@ pub enum Tag {
     Bad(usize),
     Shut(usize),
     Open(usize),
-}
-
-// The first fault, if there is one.
-#[derive(Clone, Copy)]
-pub enum Fault {
-    Fine,
-    At(usize),
 }
 
 // What stands at the front of the attributes of a tag: the end of the tag; a name with no value that ends; a name of so many bytes and a value of so many.
@@ -246,7 +239,7 @@ fn is_end(r: &[u8]) -> bool
 }
 
 // The first fault in the body of a tag, by the row of its element, where the body stands from inside on.
-fn fault_of(row: &[u8], body: &[u8], inside: usize) -> Fault
+fn fault_of(row: &[u8], body: &[u8], inside: usize) -> Option<usize>
     requires { inside + length body.now < 2 ^ 64 }
     ensures { let body = body.entry.now in
         (result ≡ fault (drop 1 (fields row.now)) inside (split quote body)) × UpTo (inside + length body) result }
@@ -257,22 +250,22 @@ fn fault_of(row: &[u8], body: &[u8], inside: usize) -> Fault
         match front(r) {
             Pair::Last => {
                 if is_end(r) {
-                    return Fault::Fine;
+                    return None;
                 }
-                return Fault::At(inside + at);
+                return Some(inside + at);
             }
             Pair::Odd => {
-                return Fault::At(inside + at);
+                return Some(inside + at);
             }
             Pair::Two(e, f) => match grade_of(row, r, e, f) {
                 Grade::Right => {
                     at = at + e + f + 2;
                 }
                 Grade::WrongName => {
-                    return Fault::At(inside + at);
+                    return Some(inside + at);
                 }
                 Grade::WrongValue => {
-                    return Fault::At(inside + at + e + 1);
+                    return Some(inside + at + e + 1);
                 }
             },
         }
@@ -312,10 +305,10 @@ fn is_whole(row: &[u8], body: &[u8]) -> bool
     loop {
         let rest = &row[at..];
         match next_entry(rest) {
-            Next::Last => {
+            None => {
                 return true;
             }
-            Next::Entry(a, len) => {
+            Some((a, len)) => {
                 let end = a + len;
                 if is_held(&rest[a..end], body) {
                     at += a;
@@ -336,8 +329,8 @@ fn judge_tag(k: usize, row: &[u8], body: &[u8], place: usize, inside: usize) -> 
         (result ≡ judged k (drop 1 (fields row.now)) place inside (split quote body)) × Inside (inside + length body) result }
 {
     match fault_of(row, body, inside) {
-        Fault::At(n) => Tag::Bad(n),
-        Fault::Fine => {
+        Some(n) => Tag::Bad(n),
+        None => {
             if is_whole(row, body) {
                 Tag::Open(k)
             } else {

@@ -19,8 +19,7 @@ use Rattle.text.proofs.Laws.{split-last, split-more, front_count, without_all, w
 use Rattle.xml_values.specs.Scan.{is_white, lead, skip, white, is_letter, word_len}
 use Rattle.xml_values.specs.Values.{entity, meant, is_named, named, all_named, loose, is_words, unsigned, is_count, strip, digit_of, run, worth_in}
 use Rattle.xml_values.specs.Values.{Capped, numeral_in, is_hex, numeral, is_numeral, is_among, trues, falses, digit_for, valid}
-use Rattle.xml_values.specs.declared.Numeral.{Numeral}
-use Rattle.xml_values.specs.declared.Numeral.TheVariants.{Is, Not}
+use Rattle.std.specs.Prelude.{Option, Some, None}
 
 -- ---- white bytes and letters at the front
 module _ (s : List ℕ) (i : ℕ) (inv : lead s ≡ i + lead (drop i s)) where
@@ -388,7 +387,7 @@ module _ (base v d : ℕ) (few : base ≤ 16) (low : v ≤ 4294967295) where
   worth-sum-fits h = omega (arith, worth-room)
 
 module _ (base : ℕ) (s : List ℕ) (n : ℕ) (is : n ≡ run base s) where
-  pub numeral-none : n < 1 → Not ≡ numeral_in base s
+  pub numeral-none : n < 1 → None ≡ numeral_in base s
   numeral-none h = rw (← is, lt-leb 1 n h)
 
   module _ (some : 1 ≤ n) (b : Bool) (blank : b ≡ white (take (length s - n) (drop n s))) where
@@ -398,19 +397,19 @@ module _ (base : ℕ) (s : List ℕ) (n : ℕ) (is : n ≡ run base s) where
     some_now : leb 1 (run base s) ≡ true
     some_now = le-leb 1 (run base s) (rw is at some)
 
-    pub numeral_stray : b ≡ false → Not ≡ numeral_in base s
+    pub numeral_stray : b ≡ false → None ≡ numeral_in base s
     numeral_stray t = rw (some_now, ← blank_now, t)
 
     module _ (t : b ≡ true) (v : ℕ) (worth : Capped (worth_in base 0 s) v) where
       by : (w : ℕ) → Capped w v → (c : Bool) → leb w 4294967295 ≡ c
-          → (v ≤ 4294967295 → Is v ≡ cond c (Is w) Not) × (4294967295 < v → Not ≡ cond c (Is w) Not)
-      by w k true q = let l : w ≤ 4294967295 = leb-true w 4294967295 q in (λ h. ap Is (k.low l), λ h. absurd (let z : v ≡ w = k.low l in omega arith))
+          → (v ≤ 4294967295 → Some v ≡ cond c (Some w) None) × (4294967295 < v → None ≡ cond c (Some w) None)
+      by w k true q = let l : w ≤ 4294967295 = leb-true w 4294967295 q in (λ h. ap Some (k.low l), λ h. absurd (let z : v ≡ w = k.low l in omega arith))
       by w k false q = let l : 4294967295 < w = leb-false w 4294967295 q in (λ h. absurd (let z : 4294967295 < v = k.over l in omega arith), λ h. refl)
 
-      pub numeral_is : v ≤ 4294967295 → Is v ≡ numeral_in base s
+      pub numeral_is : v ≤ 4294967295 → Some v ≡ numeral_in base s
       numeral_is h = (by (worth_in base 0 s) worth (leb (worth_in base 0 s) 4294967295) refl).0 h ∙ rw (some_now, ← blank_now, t)
 
-      pub numeral-over : 4294967295 < v → Not ≡ numeral_in base s
+      pub numeral-over : 4294967295 < v → None ≡ numeral_in base s
       numeral-over h = (by (worth_in base 0 s) worth (leb (worth_in base 0 s) 4294967295) refl).1 h ∙ rw (some_now, ← blank_now, t)
 
 pub hex-short : (l : List ℕ) → length l < 2 → false ≡ is_hex l
@@ -432,11 +431,11 @@ module _ (l : List ℕ) where
   pub hex-capital : get_or l 0 0 ≡ 48 → (get_or l 1 0 ≡ 120 → ⊥) → eqb (get_or l 1 0) 88 ≡ is_hex l
   hex-capital h e = rw (eq-eqb (get_or l 0 0) 48 h, ne_eqb (get_or l 1 0) 120 e)
 
-pub numeral_sign : (base : ℕ) (l : List ℕ) (s : ℕ) (r : Numeral) → r ≡ numeral_in base (take (length l - s) (drop s l)) → drop s l ≡ unsigned l
+pub numeral_sign : (base : ℕ) (l : List ℕ) (s : ℕ) (r : Option ℕ) → r ≡ numeral_in base (take (length l - s) (drop s l)) → drop s l ≡ unsigned l
     → r ≡ numeral_in base (unsigned l)
 numeral_sign base l s r e is = let k : r ≡ numeral_in base (drop s l) = rw tail at e in rw is at k
 
-module _ (v : List ℕ) (w : ℕ) (lead_is : w ≡ lead v) (b : Bool) (hex : b ≡ is_hex (take (length v - w) (drop w v))) (r : Numeral) where
+module _ (v : List ℕ) (w : ℕ) (lead_is : w ≡ lead v) (b : Bool) (hex : b ≡ is_hex (take (length v - w) (drop w v))) (r : Option ℕ) where
   behind : take (length v - w) (drop w v) ≡ skip v
   behind = rw (tail, lead_is)
 
@@ -461,10 +460,10 @@ hex-long (x ∷ []) b e t =
     absurd (let z : ◌≡◌ {A = Bool} false true = hex-short (x ∷ []) (omega arith) ∙ sym e ∙ t in let y : ◌≡◌ {A = ℕ} 0 1 = cc in omega arith)
 hex-long (x ∷ y ∷ ys) b e t = omega arith
 
-pub numeral-told : (v : List ℕ) (r : Numeral) (n : ℕ) → r ≡ numeral v → r ≡ Is n → true ≡ is_numeral (numeral v)
+pub numeral-told : (v : List ℕ) (r : Option ℕ) (n : ℕ) → r ≡ numeral v → r ≡ Some n → true ≡ is_numeral (numeral v)
 numeral-told v r n e q = rw (← e, q)
 
-pub numeral_untold : (v : List ℕ) (r : Numeral) → r ≡ numeral v → r ≡ Not → false ≡ is_numeral (numeral v)
+pub numeral_untold : (v : List ℕ) (r : Option ℕ) → r ≡ numeral v → r ≡ None → false ≡ is_numeral (numeral v)
 numeral_untold v r e q = rw (← e, q)
 
 pub ruleset digit_laws = (

@@ -1,9 +1,8 @@
 -- Worked examples of values. Assumes nothing.
-use Rattle.std.specs.Prelude.{◌≡◌, refl, true, false, [], ◌∷◌}
+use Rattle.std.specs.Prelude.{◌≡◌, refl, true, false, [], ◌∷◌, Some, None}
 use Rattle.numerals.specs.Numerals.{spelled}
 use Rattle.xml_schema.specs.Schema.{words, optional_words, number, optional_number, hex_number, flag}
 use Rattle.xml_values.specs.Values.{valid, says, unsaid, trues, falses, numeral}
-use Rattle.xml_values.specs.declared.Numeral.TheVariants.{Is, Not}
 
 -- `a&amp;b&lt;&quot;`
 escapes : says words (0x61 ∷ 0x26 ∷ 0x61 ∷ 0x6d ∷ 0x70 ∷ 0x3b ∷ 0x62 ∷ 0x26 ∷ 0x6c ∷ 0x74 ∷ 0x3b ∷ 0x26 ∷ 0x71 ∷ 0x75
@@ -59,7 +58,7 @@ great : valid number (0x39 ∷ 0x39 ∷ 0x39 ∷ 0x39 ∷ 0x39 ∷ []) ≡ true
 great = refl
 
 -- ` 0X+fF `
-hex : numeral (0x20 ∷ 0x30 ∷ 0x58 ∷ 0x2b ∷ 0x66 ∷ 0x46 ∷ 0x20 ∷ []) ≡ Is 255
+hex : numeral (0x20 ∷ 0x30 ∷ 0x58 ∷ 0x2b ∷ 0x66 ∷ 0x46 ∷ 0x20 ∷ []) ≡ Some 255
 hex = refl
 
 -- `0x1F`
@@ -68,23 +67,23 @@ unfolding spelled
 hex-said = refl
 
 -- `+010`
-ten : numeral (0x2b ∷ 0x30 ∷ 0x31 ∷ 0x30 ∷ []) ≡ Is 10
+ten : numeral (0x2b ∷ 0x30 ∷ 0x31 ∷ 0x30 ∷ []) ≡ Some 10
 ten = refl
 
 -- `0xFFFFFFFF`
-hex-most : numeral (0x30 ∷ 0x78 ∷ 0x46 ∷ 0x46 ∷ 0x46 ∷ 0x46 ∷ 0x46 ∷ 0x46 ∷ 0x46 ∷ 0x46 ∷ []) ≡ Is 4294967295
+hex-most : numeral (0x30 ∷ 0x78 ∷ 0x46 ∷ 0x46 ∷ 0x46 ∷ 0x46 ∷ 0x46 ∷ 0x46 ∷ 0x46 ∷ 0x46 ∷ []) ≡ Some 4294967295
 hex-most = refl
 
 -- `4294967296`
-hex-over : numeral (0x34 ∷ 0x32 ∷ 0x39 ∷ 0x34 ∷ 0x39 ∷ 0x36 ∷ 0x37 ∷ 0x32 ∷ 0x39 ∷ 0x36 ∷ []) ≡ Not
+hex-over : numeral (0x34 ∷ 0x32 ∷ 0x39 ∷ 0x34 ∷ 0x39 ∷ 0x36 ∷ 0x37 ∷ 0x32 ∷ 0x39 ∷ 0x36 ∷ []) ≡ None
 hex-over = refl
 
 -- `0x`
-hex_bare : numeral (0x30 ∷ 0x78 ∷ []) ≡ Not
+hex_bare : numeral (0x30 ∷ 0x78 ∷ []) ≡ None
 hex_bare = refl
 
 -- `1 2`
-hex-apart : numeral (0x31 ∷ 0x20 ∷ 0x32 ∷ []) ≡ Not
+hex-apart : numeral (0x31 ∷ 0x20 ∷ 0x32 ∷ []) ≡ None
 hex-apart = refl
 
 -- `Yes`

@@ -1,12 +1,10 @@
 -- X5 and X6 (docs/RULES.md): which values an attribute may have, and what they say in a line.
-use Rattle.std.specs.Prelude.{ℕ, suc, ◌+◌, ◌-◌, ◌*◌, ◌≤◌, ◌<◌, Bool, true, false, cond, not, ◌&&◌, ◌||◌, ◌≡◌, List, [], ◌∷◌, ◌++◌, length, take, drop, get_or, leb, ltb, eqb}
+use Rattle.std.specs.Prelude.{ℕ, suc, ◌+◌, ◌-◌, ◌*◌, ◌≤◌, ◌<◌, Bool, true, false, cond, not, ◌&&◌, ◌||◌, ◌≡◌, List, [], ◌∷◌, ◌++◌, length, take, drop, get_or, leb, ltb, eqb, Option, Some, None}
 use Rattle.text.specs.Text.{split, same, within, without, missing}
 use Rattle.text.specs.Scan.{cut, word_in}
 use Rattle.numerals.specs.Numerals.{decimal}
 use Rattle.xml_schema.specs.Schema.{words, optional_words, number, optional_number, hex_number, is_dropped, ampersand, semicolon}
 use Rattle.xml_values.specs.Scan.{skip, white}
-use Rattle.xml_values.specs.declared.Numeral.{Numeral}
-use Rattle.xml_values.specs.declared.Numeral.TheVariants.{Is, Not}
 
 -- ---- words
 
@@ -96,30 +94,30 @@ pub record Capped (w v : ℕ) : Type 0 where
   pub over : 4294967295 < w → 4294967295 < v
 
 -- X6: the number of at most 32 bits that l says in the base: digits, and white space behind them
-abbrev pub numeral_in : ℕ → List ℕ → Numeral
+abbrev pub numeral_in : ℕ → List ℕ → Option ℕ
 numeral_in base l =
-    cond (leb 1 (run base l) && (white (drop (run base l) l) && leb (worth_in base 0 l) 4294967295)) (Is (worth_in base 0 l)) Not
+    cond (leb 1 (run base l) && (white (drop (run base l) l) && leb (worth_in base 0 l) 4294967295)) (Some (worth_in base 0 l)) None
 
 -- X6: does l begin with 0x or 0X
 abbrev pub is_hex : List ℕ → Bool
 is_hex l = eqb (get_or l 0 0) 0x30 && (eqb (get_or l 1 0) 0x78 || eqb (get_or l 1 0) 0x58)
 
 -- X6: the number of at most 32 bits that l says, in hexadecimal behind 0x or 0X, else in decimal
-abbrev pub numeral_from : List ℕ → Numeral
+abbrev pub numeral_from : List ℕ → Option ℕ
 numeral_from l = cond (is_hex l) (numeral_in 16 (unsigned (drop 2 l))) (numeral_in 10 (unsigned l))
 
 -- X6: the number that a value says, with white space around it or not
-abbrev pub numeral : List ℕ → Numeral
+abbrev pub numeral : List ℕ → Option ℕ
 numeral v = numeral_from (skip v)
 
-abbrev pub is_numeral : Numeral → Bool
-is_numeral (Is n) = true
-is_numeral Not = false
+abbrev pub is_numeral : Option ℕ → Bool
+is_numeral (Some n) = true
+is_numeral None = false
 
 -- X6: a number is said in decimal
-abbrev pub in_decimal : Numeral → List ℕ
-in_decimal (Is n) = decimal n
-in_decimal Not = []
+abbrev pub in_decimal : Option ℕ → List ℕ
+in_decimal (Some n) = decimal n
+in_decimal None = []
 
 -- ---- flags
 

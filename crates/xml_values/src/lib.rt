@@ -12,13 +12,6 @@ ghost use Rattle.xml_values.specs.Values.{worth_in, numeral_in, is_hex, numeral 
 use text::{all_within, find, find_word, is_missing, is_same};
 use xml_schema::{HEX_NUMBER, NUMBER, OPTIONAL_NUMBER, OPTIONAL_WORDS, PAST_DIGITS, WORDS};
 
-// A number of at most 32 bits, or none.
-#[derive(Clone, Copy)]
-pub enum Numeral {
-    Is(u64),
-    Not,
-}
-
 // The greatest number of 32 bits.
 const MOST: u64 = 4294967295;
 
@@ -299,22 +292,22 @@ fn worth(base: u8, s: &[u8]) -> u64
 }
 
 // The number of at most 32 bits that s says in the base.
-fn numeral_in(base: u8, s: &[u8]) -> Numeral
+fn numeral_in(base: u8, s: &[u8]) -> Option<u64>
     requires { (1 ≤ base) × (base ≤ 16) }
     ensures { result ≡ numeral_in base s.now }
 {
     let n = run(base, s);
     if n < 1 {
-        return Numeral::Not;
+        return None;
     }
     if is_blank(&s[n..]) {
         let v = worth(base, s);
         if v <= MOST {
-            return Numeral::Is(v);
+            return Some(v);
         }
-        return Numeral::Not;
+        return None;
     }
-    Numeral::Not
+    None
 }
 
 // Does l begin with 0x or 0X?
@@ -334,7 +327,7 @@ fn is_hex(l: &[u8]) -> bool
 }
 
 // The number behind 0x.
-fn hex_numeral(l: &[u8]) -> Numeral
+fn hex_numeral(l: &[u8]) -> Option<u64>
     ensures { result ≡ numeral_in 16 (unsigned l.now) }
 {
     let s = sign(l);
@@ -342,7 +335,7 @@ fn hex_numeral(l: &[u8]) -> Numeral
 }
 
 // The number in decimal.
-fn decimal_numeral(l: &[u8]) -> Numeral
+fn decimal_numeral(l: &[u8]) -> Option<u64>
     ensures { result ≡ numeral_in 10 (unsigned l.now) }
 {
     let s = sign(l);
@@ -350,7 +343,7 @@ fn decimal_numeral(l: &[u8]) -> Numeral
 }
 
 // The number that a value says.
-pub fn read_numeral(v: &[u8]) -> Numeral
+pub fn read_numeral(v: &[u8]) -> Option<u64>
     ensures { result ≡ numeral_of v.now }
 {
     let w = lead(v);
@@ -415,8 +408,8 @@ fn is_numeral(v: &[u8]) -> bool
     ensures { result ≡ is_numeral (numeral_of v.now) }
 {
     match read_numeral(v) {
-        Numeral::Is(_) => true,
-        Numeral::Not => false,
+        Some(_) => true,
+        None => false,
     }
 }
 

@@ -1,11 +1,9 @@
 // The word `text`: XML as a frame text.
-ghost use Rattle.std.specs.Prelude.{◌≡◌};
-ghost use Rattle.xml_tags.specs.declared.Fault.TheVariants.{Fine};
+ghost use Rattle.std.specs.Prelude.{◌≡◌, None};
 ghost use Rattle.xml_document.specs.Document.{verdict};
 
 use crate::fault_words::say_fault;
 use crate::room::{ROOM as MOST, room, write_first};
-use buffer::Written;
 use check_word::check_page::check_frame;
 use files::arguments::argument_count;
 use files::input::{File, Got, Reader, open_argument};
@@ -18,7 +16,6 @@ use xml::xml_to_frame_text;
 use xml_document::check;
 use xml_draft::ROOM;
 use xml_reader::put_text;
-use xml_tags::Fault;
 
 // ---- refusals
 
@@ -35,7 +32,7 @@ fn say_unfit(name: &[u8], text: &[u8]) {
 
 // What is wrong with the text that an XML says, as `tap check` tells it.
 fn say_text(name: &[u8], xml: &[u8])
-    requires { verdict xml.now ≡ Fine }
+    requires { verdict xml.now ≡ None }
 {
     let mut text = [0u8; ROOM];
     let n = put_text(xml, &mut text);
@@ -48,8 +45,8 @@ fn say_text(name: &[u8], xml: &[u8])
 
 fn say_refused(name: &[u8], xml: &[u8], refusal: Refusal) {
     match check(xml) {
-        Fault::Fine => say_text(name, xml),
-        Fault::At(place) => {
+        None => say_text(name, xml),
+        Some(place) => {
             say_fault(name, xml, place);
             refuse(refusal);
         }
@@ -61,8 +58,8 @@ fn say_refused(name: &[u8], xml: &[u8], refusal: Refusal) {
 fn turn_xml(name: &[u8], xml: &[u8]) {
     let mut buffer = io::large_buffer();
     match xml_to_frame_text(xml, &mut buffer) {
-        Written::Length(n) => write_first(&buffer, n),
-        Written::Refused(refusal) => say_refused(name, xml, refusal),
+        Ok(n) => write_first(&buffer, n),
+        Err(refusal) => say_refused(name, xml, refusal),
     }
 }
 

@@ -1,6 +1,5 @@
 // The word `xml`: a frame text as XML.
 use crate::room::{room, write_first};
-use buffer::Written;
 use check_word::check_page::check_frame;
 use files::arguments::argument_count;
 use files::input::{File, Got, Reader, open_argument};
@@ -39,8 +38,8 @@ fn say_unwritten(name: &[u8], text: &[u8], refusal: Refusal) {
 fn turn_text(name: &[u8], text: &[u8]) {
     let mut buffer = room();
     match frame_text_to_xml(text, &mut buffer) {
-        Written::Length(n) => write_first(&buffer, n),
-        Written::Refused(refusal) => say_unwritten(name, text, refusal),
+        Ok(n) => write_first(&buffer, n),
+        Err(refusal) => say_unwritten(name, text, refusal),
     }
 }
 

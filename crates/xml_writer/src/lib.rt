@@ -8,29 +8,27 @@ ghost use Rattle.buffer.specs.Buffer.{Writes};
 ghost use Rattle.xml_elements.specs.Elements.{xml_of};
 ghost use Rattle.xml_writer.specs.Writer.{Plainly, WritesXml};
 
-use buffer::Written;
 use frame_text::check_frame_text;
 use plain_form::first_misplaced;
 use refusal::Refusal;
-use text::Verdict;
 use xml_elements::append_xml;
 
 // The XML of a text, if the buffer has room for all of it, which is counted first; else refusal 12.
-fn write_all(text: &[u8], buffer: &mut [u8]) -> Written
+fn write_all(text: &[u8], buffer: &mut [u8]) -> Result<usize, Refusal>
     requires { Room 0 (xml_of text.now) }
     ensures { Writes (xml_of text.now) buffer.old result buffer.new }
 {
     let mut none = [0u8; 0];
     let length = append_xml(text, &mut none);
     if buffer.len() < length {
-        return Written::Refused(Refusal::MoreBytes(length));
+        return Err(Refusal::MoreBytes(length));
     }
     append_xml(text, buffer);
-    Written::Length(length)
+    Ok(length)
 }
 
 // The same for a text that may be out of plain form: refusal 15.
-fn write_plain(text: &[u8], buffer: &mut [u8]) -> Written
+fn write_plain(text: &[u8], buffer: &mut [u8]) -> Result<usize, Refusal>
     requires { length text.now ≤ most_bytes }
     ensures { Plainly text.now buffer.old result buffer.new }
 {
@@ -38,15 +36,15 @@ fn write_plain(text: &[u8], buffer: &mut [u8]) -> Written
     if line == 0 {
         return write_all(text, buffer);
     }
-    Written::Refused(Refusal::NotPlain(line))
+    Err(Refusal::NotPlain(line))
 }
 
 // Writes a frame text as XML into the buffer and answers its length, or refuses. A refusal writes nothing, an answer nothing behind the XML.
-pub fn frame_text_to_xml(text: &[u8], buffer: &mut [u8]) -> Written
+pub fn frame_text_to_xml(text: &[u8], buffer: &mut [u8]) -> Result<usize, Refusal>
     ensures { WritesXml text.now buffer.old result buffer.new }
 {
     match check_frame_text(text) {
-        Verdict::Accepted => write_plain(text, buffer),
-        Verdict::Refused(refusal) => Written::Refused(refusal),
+        Ok(()) => write_plain(text, buffer),
+        Err(refusal) => Err(refusal),
     }
 }

@@ -2,14 +2,14 @@
 use borrow.Author.Rules.{rules}
 use Prim.Native.Nat.{◌-◌}
 use mathlib.Core.Path.{◌≡◌}
-use Rattle.text.specs.declared.Verdict.TheVariants.{Accepted}
 use Rattle.frame_text.specs.Rules.{verdict}
 use Rattle.bench_walks.proofs.Laws.{laws}
 use Rattle.bench_walks.proofs.bench_find.Statement.{statement}
 use Rattle.bench_walks.proofs.bench_find.Tie as tie
+use Rattle.std.specs.Prelude.{Ok}
 
 abbrev invariant-loop : tie.invariant-loop-k
-invariant-loop text region speed many times found₀ k₀ found k = verdict text ≡ Accepted
+invariant-loop text region speed many times found₀ k₀ found k = verdict text ≡ Ok tt
 
 abbrev decreases-loop : tie.decreases-loop-k
 decreases-loop text region speed many times found₀ k₀ found k = times - k

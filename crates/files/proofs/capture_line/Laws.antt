@@ -6,42 +6,41 @@ use Rattle.files.specs.CaptureLine.{digit_of, blank, first_by, second_by, step_o
 use Rattle.files.specs.CaptureLine.{start_of, state_behind, line_by, payload_by, ends_by, content_by}
 use Rattle.files.specs.declared.capture_line.State.{State}
 use Rattle.files.specs.declared.capture_line.State.TheVariants.{Raw, Bytes, Half, Comment, Wrong}
-use Rattle.files.specs.declared.capture_line.Digit.{Digit}
-use Rattle.files.specs.declared.capture_line.Digit.TheVariants.{Is, Not}
 use Rattle.files.specs.declared.capture_line.Step.{Step}
 use Rattle.files.specs.declared.capture_line.Step.TheVariants.{To, Byte}
 use Rattle.files.specs.declared.capture_line.Content.TheVariants.{Bytes as Whole, NotHex}
 use Rattle.files.specs.declared.capture_line.Line.{Line}
+use Rattle.std.specs.Prelude.{Option, Some, None}
 
 -- ---- a digit
 module _ (b : ℕ) where
-  pub digit_low : b < 48 → Not ≡ digit_of b
+  pub digit_low : b < 48 → None ≡ digit_of b
   digit_low h = rw (lt-leb 48 b h, lt-leb 65 b (omega arith), lt-leb 97 b (omega arith))
 
-  pub digit-decimal : 48 ≤ b → b ≤ 57 → Is (b - 48) ≡ digit_of b
+  pub digit-decimal : 48 ≤ b → b ≤ 57 → Some (b - 48) ≡ digit_of b
   digit-decimal h l = rw (le-leb 48 b h, le-leb b 57 l)
 
-  pub digit-between : 57 < b → b < 65 → Not ≡ digit_of b
+  pub digit-between : 57 < b → b < 65 → None ≡ digit_of b
   digit-between h l = rw (le-leb 48 b (omega arith), lt-leb b 57 h, lt-leb 65 b l, lt-leb 97 b (omega arith))
 
-  pub digit-capital : 65 ≤ b → b ≤ 70 → Is (b - 65 + 10) ≡ digit_of b
+  pub digit-capital : 65 ≤ b → b ≤ 70 → Some (b - 65 + 10) ≡ digit_of b
   digit-capital h l = rw (le-leb 48 b (omega arith), lt-leb b 57 (omega arith), le-leb 65 b h, le-leb b 70 l)
 
-  pub digit-middle : 70 < b → b < 97 → Not ≡ digit_of b
+  pub digit-middle : 70 < b → b < 97 → None ≡ digit_of b
   digit-middle h l = rw (le-leb 48 b (omega arith), lt-leb b 57 (omega arith), le-leb 65 b (omega arith), lt-leb b 70 h, lt-leb 97 b l)
 
-  pub digit_small : 97 ≤ b → b ≤ 102 → Is (b - 97 + 10) ≡ digit_of b
+  pub digit_small : 97 ≤ b → b ≤ 102 → Some (b - 97 + 10) ≡ digit_of b
   digit_small h l =
       rw (le-leb 48 b (omega arith), lt-leb b 57 (omega arith), le-leb 65 b (omega arith), lt-leb b 70 (omega arith), le-leb 97 b h, le-leb b 102 l)
 
-  pub digit_high : 102 < b → Not ≡ digit_of b
+  pub digit_high : 102 < b → None ≡ digit_of b
   digit_high h =
       rw (le-leb 48 b (omega arith), lt-leb b 57 (omega arith), le-leb 65 b (omega arith), lt-leb b 70 (omega arith), le-leb 97 b (omega arith), lt-leb b 102 h)
 
 pub ruleset digit_laws = (digit_low, digit-decimal, digit-between, digit-capital, digit-middle, digit_small, digit_high)
 
 -- a digit is worth less than 16
-pub digit_few : (b d : ℕ) (r : Digit) → r ≡ digit_of b → r ≡ Is d → d < 16
+pub digit_few : (b d : ℕ) (r : Option ℕ) → r ≡ digit_of b → r ≡ Some d → d < 16
 digit_few b d r is e = go (leb 48 b && leb b 57) (leb 65 b && leb b 70) (leb 97 b && leb b 102) refl refl refl (sym is ∙ e)
   where
     and_right : (x y : Bool) → x && y ≡ true → y ≡ true
@@ -49,7 +48,7 @@ digit_few b d r is e = go (leb 48 b && leb b 57) (leb 65 b && leb b 70) (leb 97 
     and_right false y q = absurd (let z : ◌≡◌ {A = ℕ} 0 1 = cc in omega arith)
 
     go : (x y z : Bool) → (leb 48 b && leb b 57) ≡ x → (leb 65 b && leb b 70) ≡ y → (leb 97 b && leb b 102) ≡ z
-        → cond x (Is (b - 48)) (cond y (Is (b - 65 + 10)) (cond z (Is (b - 97 + 10)) Not)) ≡ Is d → d < 16
+        → cond x (Some (b - 48)) (cond y (Some (b - 65 + 10)) (cond z (Some (b - 97 + 10)) None)) ≡ Some d → d < 16
     go true y z f g h q = let w : b - 48 ≡ d = cc in omega (arith, leb-true b 57 (and_right (leb 48 b) (leb b 57) f))
     go false true z f g h q = let w : b - 65 + 10 ≡ d = cc in omega (arith, leb-true b 70 (and_right (leb 65 b) (leb b 70) g))
     go false false true f g h q = let w : b - 97 + 10 ≡ d = cc in omega (arith, leb-true b 102 (and_right (leb 97 b) (leb b 102) h))
@@ -69,25 +68,25 @@ module _ (b c : ℕ) where
   pub between-comment : b ≡ 35 → To Comment ≡ step_of Bytes b c
   between-comment e = rw e
 
-  module _ (r : Digit) (is : r ≡ digit_of b) (no-space : b ≡ 32 → ⊥) (no-tab : b ≡ 9 → ⊥) (no_return : b ≡ 13 → ⊥)
+  module _ (r : Option ℕ) (is : r ≡ digit_of b) (no-space : b ≡ 32 → ⊥) (no-tab : b ≡ 9 → ⊥) (no_return : b ≡ 13 → ⊥)
       (no-comment : b ≡ 35 → ⊥) where
     other : step_of Bytes b c ≡ first_by r c
     other = rw (ne_eqb b 32 no-space, ne_eqb b 9 no-tab, ne_eqb b 13 no_return, ne_eqb b 35 no-comment, is)
 
-    pub between-digit : (d : ℕ) → r ≡ Is d → To (Half d) ≡ step_of Bytes b c
+    pub between-digit : (d : ℕ) → r ≡ Some d → To (Half d) ≡ step_of Bytes b c
     between-digit d e = rw (other, e)
 
-    pub between_wrong : r ≡ Not → To (Wrong c) ≡ step_of Bytes b c
+    pub between_wrong : r ≡ None → To (Wrong c) ≡ step_of Bytes b c
     between_wrong e = rw (other, e)
 
 pub ruleset between_laws = (between-space, between_tab, between_return, between-comment, between-digit, between_wrong)
 
 -- ---- the second digit
-module _ (d b c : ℕ) (r : Digit) (is : r ≡ digit_of b) where
-  pub second-digit : (e : ℕ) → r ≡ Is e → Byte (d * 16 + e) ≡ second_by d (digit_of b) c
+module _ (d b c : ℕ) (r : Option ℕ) (is : r ≡ digit_of b) where
+  pub second-digit : (e : ℕ) → r ≡ Some e → Byte (d * 16 + e) ≡ second_by d (digit_of b) c
   second-digit e q = rw (← is, q)
 
-  pub second_wrong : r ≡ Not → To (Wrong c) ≡ second_by d (digit_of b) c
+  pub second_wrong : r ≡ None → To (Wrong c) ≡ second_by d (digit_of b) c
   second_wrong q = rw (← is, q)
 
 pub product_fits : (d : ℕ) → d < 16 → Fits w8 (d * 16)
@@ -123,18 +122,18 @@ module _ (s : State) where
 pub fair_bytes : (b c : ℕ) (r : Step) → r ≡ step_of Bytes b c → FairStep r
 fair_bytes b c r i = rw i (go (blank b) (eqb b 35) (digit_of b) (λ d e. digit_few b d (digit_of b) refl e))
   where
-    go : (x y : Bool) (k : Digit) → ((d : ℕ) → k ≡ Is d → d < 16) → FairStep (cond x (To Bytes) (cond y (To Comment) (first_by k c)))
+    go : (x y : Bool) (k : Option ℕ) → ((d : ℕ) → k ≡ Some d → d < 16) → FairStep (cond x (To Bytes) (cond y (To Comment) (first_by k c)))
     go true y k few = tt
     go false true k few = tt
-    go false false (Is d) few = few d refl
-    go false false Not few = tt
+    go false false (Some d) few = few d refl
+    go false false None few = tt
 
 pub fair_half : (d b c : ℕ) (r : Step) → r ≡ second_by d (digit_of b) c → FairStep r
 fair_half d b c r i = rw i (go (digit_of b))
   where
-    go : (k : Digit) → FairStep (second_by d k c)
-    go (Is e) = tt
-    go Not = tt
+    go : (k : Option ℕ) → FairStep (second_by d k c)
+    go (Some e) = tt
+    go None = tt
 
 pub ruleset step_laws = (half_few, step_raw, step_bytes, step_half, step_comment, step_wrong, fair_bytes, fair_half)
 

@@ -1,19 +1,18 @@
 -- The laws that the proofs of this crate and of its callers go by. Assumes nothing.
 use Rattle.std.proofs.Common.{◌≡◌, ℕ, ◌≤◌, List, length, take, sym, refl, arith, length-take-le}
-use Rattle.text.specs.declared.Verdict.{Verdict}
-use Rattle.text.specs.declared.Verdict.TheVariants.{Accepted, Refused}
 use Rattle.refusal.specs.declared.Refusal.{Refusal}
 use Rattle.frame_text.specs.Rules.{verdict}
 use Rattle.files.specs.Accepted.{Accepts, judged, Finds, none, some}
 use Rattle.files.specs.declared.frame_names.FrameText.{FrameText}
 use Rattle.files.specs.declared.frame_names.State.TheVariants.{Fine, Missing, Refused as RefusedBy}
+use Rattle.std.specs.Prelude.{Result, Ok, Err}
 
 -- ---- by the verdict of n bytes
-module _ (s : List ℕ) (n : ℕ) (r : Verdict) (is : r ≡ verdict (take n s)) where
-  pub judged-fine : r ≡ Accepted → record { count = n; state = Fine } ≡ judged n (verdict (take n s))
+module _ (s : List ℕ) (n : ℕ) (r : Result (Unit {0}) Refusal) (is : r ≡ verdict (take n s)) where
+  pub judged-fine : r ≡ Ok tt → record { count = n; state = Fine } ≡ judged n (verdict (take n s))
   judged-fine e = rw (← is, e)
 
-  pub judged-refused : (x : Refusal) → r ≡ Refused x → record { count = 0; state = RefusedBy x } ≡ judged n (verdict (take n s))
+  pub judged-refused : (x : Refusal) → r ≡ Err x → record { count = 0; state = RefusedBy x } ≡ judged n (verdict (take n s))
   judged-refused x e = rw (← is, e)
 
 -- ---- of a file: no bytes are an accepted text
@@ -30,9 +29,9 @@ module _ (s : List ℕ) (n : ℕ) (r : FrameText) (is : r ≡ judged n (verdict 
   pub judged-accepted : Accepts s r.count
   judged-accepted = rw is (by (verdict (take n s)) refl)
     where
-      by : (v : Verdict) → verdict (take n s) ≡ v → Accepts s (judged n v).count
-      by Accepted e = record { inside = i; accepted = e }
-      by (Refused x) e = none-accepted s
+      by : (v : Result (Unit {0}) Refusal) → verdict (take n s) ≡ v → Accepts s (judged n v).count
+      by (Ok tt) e = record { inside = i; accepted = e }
+      by (Err x) e = none-accepted s
 
 pub ruleset laws = (judged-fine, judged-refused, none-accepted, finds_none, finds_some, judged-accepted)
 
@@ -43,5 +42,5 @@ accepted-count s n h = sym (length-take-le n s h.inside)
 pub accepted-inside : (s : List ℕ) (n : ℕ) → Accepts s n → n ≤ length s
 accepted-inside s n h = h.inside
 
-pub is_accepted : (s : List ℕ) (n : ℕ) → Accepts s n → verdict (take n s) ≡ Accepted
+pub is_accepted : (s : List ℕ) (n : ℕ) → Accepts s n → verdict (take n s) ≡ Ok tt
 is_accepted s n h = h.accepted

@@ -7,7 +7,7 @@ use Rattle.header_value.proofs.value_accepted.Tie as tie
 row-value-requires : tie.Need-row_value-requires
 row-value-requires c κs =
     let dec = c.decode_row.ensures in
-    (search (rules, laws), row-stands _ _ _ _ _ _ _ dec _ c.in-Header.is (search rules) (search rules))
+    (search (rules, laws), row-stands _ _ _ _ _ _ _ dec _ c.in-Ok.is (search rules) (search rules))
 
 pub value_accepted_spec : {M : Type 1} → statement M
 value_accepted_spec =

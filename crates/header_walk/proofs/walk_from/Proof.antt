@@ -17,16 +17,16 @@ decreases-loop mpdu text fields count first rows₀ order₀ place₀ bit₀ nex
 
 add-place : tie.Need-overflow_add-place invariant-loop decreases-loop
 add-place c =
-    next_fits _ _ _ _ _ _ _ c.next_field.ensures _ _ _ c.in-At.is c.requires.0.few c.requires.1.0
+    next_fits _ _ _ _ _ _ _ c.next_field.ensures _ _ _ c.in-Some.is c.requires.0.few c.requires.1.0
 
 decode-param-requires : tie.Need-decode_param-requires invariant-loop decreases-loop
 decode-param-requires c κs = (
   search (rules, outer_laws),
   (
-    next_in _ _ _ _ _ _ _ c.next_field.ensures _ _ _ c.in-At.is
+    next_in _ _ _ _ _ _ _ c.next_field.ensures _ _ _ c.in-Some.is
         c.requires.0.few c.requires.1.0,
     next_level _ _ _ _ _ _ _ c.next_field.ensures _ _ _
-        c.in-At.is c.requires.0.few c.requires.1.0 _ refl,
+        c.in-Some.is c.requires.0.few c.requires.1.0 _ refl,
     search (rules, outer_laws),
     search (rules, outer_laws),
   ),

@@ -1,8 +1,7 @@
--- A fault is told of a line of a command text exactly where the line is none of the forms. Assumes nothing.
+-- A fault is told of a line of a command text exactly where the line is None of the forms. Assumes nothing.
 use mathlib.Core.Path.{◌≡◌, refl, sym, ap, subst, ◌∙◌}
 use mathlib.Core.Bool.{Bool, true, false, cond, ◌&&◌}
 use mathlib.Core.List.{List, [], ◌∷◌}
-use mathlib.Core.Option.{Option, none, some}
 use Prim.Native.Nat.{ℕ}
 use native.Mathlib.Omega.{arith}
 use lib.Dec.{eqb}
@@ -15,13 +14,13 @@ use Rattle.text.proofs.Judging.{split_some}
 use Rattle.command_text.specs.Form.{Record, group, item, variant, array, bit_flag, bit_field, const, bitmask, value, given, ascii_of, type_of, known}
 use Rattle.command_text.specs.Form.{param_form, param_condition, group_form, variant_form, array_form, named_form, bits_form, bitmask_form, group_of, size_of, bits_of}
 use Rattle.command_text.specs.Form.{of_type, said, param_said, form}
-use Rattle.command_text.specs.declared.Typed.{Typed}
-use Rattle.command_text.specs.declared.Typed.TheVariants.{Is, Not}
 use Rattle.text_faults.specs.Form.{command_count, want_of}
 use Rattle.text_faults.specs.Advice.{is_fine, advice_on, after, command_advice}
 use Rattle.text_faults.proofs.advice.Tables.{line_exact, some_count, one, two, three, four, regroup}
+use Rattle.std.specs.Prelude.{Option, Some, None}
+use Rattle.command_text.specs.declared.ParamType.{ParamType}
 
-some_said : (b : Bool) (x : Record) → is_some (said b (some x)) ≡ b
+some_said : (b : Bool) (x : Record) → is_some (said b (Some x)) ≡ b
 some_said true x = refl
 some_said false x = refl
 
@@ -29,26 +28,26 @@ some_said false x = refl
 some_param : (fs : List (List ℕ)) → is_some (param_said fs) ≡ param_form fs
 some_param fs = go (eqb (length fs) 6) (up_to 1 (field 1 fs)) (type_of (field 2 fs)) (name (field 3 fs)) (param_condition fs)
   where
-    go : (a b : Bool) (t : Typed) (c d : Bool) → is_some (said (a && ((b && (known t && c)) && d)) (of_type fs t)) ≡ (a && ((b && (known t && c)) && d))
+    go : (a b : Bool) (t : Option ParamType) (c d : Bool) → is_some (said (a && ((b && (known t && c)) && d)) (of_type fs t)) ≡ (a && ((b && (known t && c)) && d))
     go false b t c d = refl
     go true false t c d = refl
-    go true true (Is type) true true = refl
-    go true true (Is type) true false = refl
-    go true true (Is type) false d = refl
-    go true true Not c d = refl
+    go true true (Some type) true true = refl
+    go true true (Some type) true false = refl
+    go true true (Some type) false d = refl
+    go true true None c d = refl
 
 -- the form, by the letter
 abbrev form_at : ℕ → List (List ℕ) → Option Record
 form_at c fs =
     cond (eqb c 0x51) (param_said fs)
-    (cond (eqb c 0x47) (said (group_form fs) (some (group (group_of fs))))
-    (cond (eqb c 0x52) (said (variant_form fs) (some (item (variant (size_of fs)))))
-    (cond (eqb c 0x41) (said (array_form fs) (some (item (array (value (field 1 fs)) (ascii_of (field 2 fs))))))
-    (cond (eqb c 0x54) (said (named_form fs) (some (item (bit_flag (value (field 1 fs)) (field 2 fs)))))
-    (cond (eqb c 0x53) (said (bits_form fs) (some (item (bit_field (bits_of fs)))))
-    (cond (eqb c 0x55) (said (bits_form fs) (some (item (bit_field (bits_of fs)))))
-    (cond (eqb c 0x4b) (said (named_form fs) (some (item (const (value (field 1 fs)) (field 2 fs)))))
-    (cond (eqb c 0x4d) (said (bitmask_form fs) (some (item (bitmask (given (field 1 fs)))))) none))))))))
+    (cond (eqb c 0x47) (said (group_form fs) (Some (group (group_of fs))))
+    (cond (eqb c 0x52) (said (variant_form fs) (Some (item (variant (size_of fs)))))
+    (cond (eqb c 0x41) (said (array_form fs) (Some (item (array (value (field 1 fs)) (ascii_of (field 2 fs))))))
+    (cond (eqb c 0x54) (said (named_form fs) (Some (item (bit_flag (value (field 1 fs)) (field 2 fs)))))
+    (cond (eqb c 0x53) (said (bits_form fs) (Some (item (bit_field (bits_of fs)))))
+    (cond (eqb c 0x55) (said (bits_form fs) (Some (item (bit_field (bits_of fs)))))
+    (cond (eqb c 0x4b) (said (named_form fs) (Some (item (const (value (field 1 fs)) (field 2 fs)))))
+    (cond (eqb c 0x4d) (said (bitmask_form fs) (Some (item (bitmask (given (field 1 fs)))))) None))))))))
 
 module _ (f : List ℕ) (fs : List (List ℕ)) where
   -- a field after the letter, from 0

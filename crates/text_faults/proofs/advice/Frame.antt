@@ -1,8 +1,7 @@
--- A fault is told of a line of a frame text exactly where the line is none of the forms. Assumes nothing.
+-- A fault is told of a line of a frame text exactly where the line is None of the forms. Assumes nothing.
 use mathlib.Core.Path.{◌≡◌, refl, sym, ap, subst, ◌∙◌}
 use mathlib.Core.Bool.{Bool, true, false, cond, ◌&&◌}
 use mathlib.Core.List.{List, [], ◌∷◌}
-use mathlib.Core.Option.{Option, none, some}
 use Prim.Native.Nat.{ℕ}
 use native.Mathlib.Omega.{arith}
 use lib.Dec.{eqb}
@@ -14,13 +13,13 @@ use Rattle.text.specs.Records.{is_some}
 use Rattle.text.proofs.Judging.{split_some}
 use Rattle.frame_text.specs.Form.{Record, frequency, base, header, validation, set, entry, value, names, type_of, known, flags, frequency_form, base_form}
 use Rattle.frame_text.specs.Form.{header_form, param_numbers, param_form, validation_form, set_form, entry_form, header_of, of_type, said, param_said, form}
-use Rattle.frame_text.specs.declared.Typed.{Typed}
-use Rattle.frame_text.specs.declared.Typed.TheVariants.{Is, Not}
 use Rattle.text_faults.specs.Form.{frame_count, want_of}
 use Rattle.text_faults.specs.Advice.{is_fine, advice_on, after, frame_advice}
 use Rattle.text_faults.proofs.advice.Tables.{line_exact, some_count, one, two, four, regroup}
+use Rattle.std.specs.Prelude.{Option, Some, None}
+use Rattle.frame_text.specs.declared.ParamType.{ParamType}
 
-some_said : (b : Bool) (x : Record) → is_some (said b (some x)) ≡ b
+some_said : (b : Bool) (x : Record) → is_some (said b (Some x)) ≡ b
 some_said true x = refl
 some_said false x = refl
 
@@ -28,23 +27,23 @@ some_said false x = refl
 some_param : (fs : List (List ℕ)) → is_some (param_said fs) ≡ param_form fs
 some_param fs = go (eqb (length fs) 9) (param_numbers fs) (type_of (field 4 fs)) _
   where
-    go : (a b : Bool) (t : Typed) (c : Bool) → is_some (said (a && (b && (known t && c))) (of_type fs t)) ≡ (a && (b && (known t && c)))
+    go : (a b : Bool) (t : Option ParamType) (c : Bool) → is_some (said (a && (b && (known t && c))) (of_type fs t)) ≡ (a && (b && (known t && c)))
     go false b t c = refl
     go true false t c = refl
-    go true true (Is type) true = refl
-    go true true (Is type) false = refl
-    go true true Not c = refl
+    go true true (Some type) true = refl
+    go true true (Some type) false = refl
+    go true true None c = refl
 
 -- the form, by the letter
 abbrev form_at : ℕ → List (List ℕ) → Option Record
 form_at c fs =
-    cond (eqb c 0x46) (said (frequency_form fs) (some (frequency (value (field 1 fs)) (value (field 2 fs)))))
-    (cond (eqb c 0x42) (said (base_form fs) (some (base (value (field 1 fs)))))
-    (cond (eqb c 0x48) (said (header_form fs) (some (header (header_of fs))))
+    cond (eqb c 0x46) (said (frequency_form fs) (Some (frequency (value (field 1 fs)) (value (field 2 fs)))))
+    (cond (eqb c 0x42) (said (base_form fs) (Some (base (value (field 1 fs)))))
+    (cond (eqb c 0x48) (said (header_form fs) (Some (header (header_of fs))))
     (cond (eqb c 0x50) (param_said fs)
-    (cond (eqb c 0x56) (said (validation_form fs) (some (validation (names (field 1 fs)) (value (field 2 fs)))))
-    (cond (eqb c 0x44) (said (set_form fs) (some (set (field 1 fs))))
-    (cond (eqb c 0x45) (said (entry_form fs) (some (entry (value (field 1 fs)) (field 2 fs)))) none))))))
+    (cond (eqb c 0x56) (said (validation_form fs) (Some (validation (names (field 1 fs)) (value (field 2 fs)))))
+    (cond (eqb c 0x44) (said (set_form fs) (Some (set (field 1 fs))))
+    (cond (eqb c 0x45) (said (entry_form fs) (Some (entry (value (field 1 fs)) (field 2 fs)))) None))))))
 
 module _ (f : List ℕ) (fs : List (List ℕ)) where
   -- a field after the letter, from 0

@@ -1,13 +1,13 @@
 -- `coverage_word::tried::count_frames` meets its contract, by the laws of the crate. Assumes nothing.
 use Rattle.std.proofs.Common.{◌≡◌, ◌-◌, ◌<◌, length, rules}
-use Rattle.text.specs.declared.Verdict.TheVariants.{Accepted}
 use Rattle.frame_text.specs.Rules.{verdict}
 use Rattle.coverage_word.proofs.Laws.{laws}
 use Rattle.coverage_word.proofs.tried.count_frames.Statement.{statement}
 use Rattle.coverage_word.proofs.tried.count_frames.Tie as tie
+use Rattle.std.specs.Prelude.{Ok}
 
 abbrev invariant-loop : tie.invariant-loop-span
-invariant-loop text options payload sets counts₀ at₀ counts at = (0 < at) × (verdict text ≡ Accepted)
+invariant-loop text options payload sets counts₀ at₀ counts at = (0 < at) × (verdict text ≡ Ok tt)
 
 abbrev decreases-loop : tie.decreases-loop-span
 decreases-loop text options payload sets counts₀ at₀ counts at = length payload - at

@@ -1,10 +1,10 @@
 use Rattle.std.proofs.Common.{◌≡◌, ◌-◌}
-use Rattle.text.specs.declared.Verdict.TheVariants.{Accepted}
 use Rattle.frame_text.specs.Rules.{verdict}
 use Rattle.frames_word.proofs.frame_table.put_frames.Given as goal
+use Rattle.std.specs.Prelude.{Ok}
 
 abbrev pub invariant-loop-i : goal.invariant-loop-i
-invariant-loop-i g l = verdict l.text ≡ Accepted
+invariant-loop-i g l = verdict l.text ≡ Ok tt
 
 abbrev pub decreases-loop-i : goal.decreases-loop-i
 decreases-loop-i g l = l.n - l.i

@@ -1,10 +1,10 @@
 use Rattle.std.proofs.Common.{◌≡◌, ◌-◌}
-use Rattle.text.specs.declared.Verdict.TheVariants.{Accepted}
 use Rattle.frame_text.specs.Rules.{verdict}
 use Rattle.totals_word.proofs.totals_file.add_files.Given as goal
+use Rattle.std.specs.Prelude.{Ok}
 
 abbrev pub invariant-loop-k : goal.invariant-loop-k
-invariant-loop-k g l = verdict l.text ≡ Accepted
+invariant-loop-k g l = verdict l.text ≡ Ok tt
 
 abbrev pub decreases-loop-k : goal.decreases-loop-k
 decreases-loop-k g l = l.end - l.k
