@@ -9,7 +9,7 @@ use Rattle.records.specs.declared.BodyOffset.{BodyOffset}
 
 -- where a body's header ends and its trailer starts
 abbrev pub layout_of : List ℕ → Option (BodyOffset × BodyOffset)
-layout_of b = cond (between b) (Some ((record { 0 = header b }), (record { 0 = length b - trailer b }))) None
+layout_of b = cond (between b) (Some (record { 0 = header b }, record { 0 = length b - trailer b })) None
 
 -- the parts of a body
 abbrev pub parts_of : Rules → List ℕ → Parts

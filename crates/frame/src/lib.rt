@@ -1,5 +1,5 @@
 // The frame in a record's body: F7 to F12, F16, FV1, FV2, BF1 and BF2 of docs/RULES.md.
-#![tactic(auto)]
+#![tactic(auto, using(crate::proofs::Laws::laws))]
 
 ghost use Rattle.std.specs.Prelude.{◌≡◌, ◌||◌, ◌≤◌, ◌<◌, ◌%◌, ◌^◌, leb, ltb, length, Some};
 ghost use Rattle.refusal.specs.Refusal.{most_payload};

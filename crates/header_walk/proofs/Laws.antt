@@ -88,7 +88,7 @@ module _ (ps : List Numbered) (d u u' : List ℕ) (left i s p n : ℕ) (r : Opti
     unfolding flat_field
     leaf_done z = rw (z, own.exists) refl
 
-    pub field_leaf : left ≡ 0 → Reads u' (field_read ps d left i s p (rows_in u n)) (field_done ps d left i s p (rows_in u n)) (Some ((n + 1), w))
+    pub field_leaf : left ≡ 0 → Reads u' (field_read ps d left i s p (rows_in u n)) (field_done ps d left i s p (rows_in u n)) (Some (n + 1, w))
     field_leaf z =
         let q : field_done ps d left i s p (rows_in u n) ≡ rows_in u' (n + 1) = leaf_done z ∙ sym more in
         record { answer = rw (answer_is, q, length-rows_in) refl; rows = rw (q, length-rows_in) refl }
@@ -129,11 +129,12 @@ module _ (ps : List Numbered) (d u u' : List ℕ) (left i s p n : ℕ) (f : Opti
   read m w e = go (there ps d i s p (rows_in u n)) refl (sym e ∙ a.answer)
     where
       go : (b : Bool) → there ps d i s p (rows_in u n) ≡ b
-          → Some (m, w) ≡ cond b (Some ((length (field_done ps d left i s p (rows_in u n))), (wide ps d i p (rows_in u n)))) None → WasRead m w
+          → Some (m, w) ≡ cond {A = Option (ℕ × ℕ)} b (Some (length (field_done ps d left i s p (rows_in u n)), wide ps d i p (rows_in u n))) None
+          → WasRead m w
       go true x q =
-          let k : m ≡ length (field_done ps d left i s p (rows_in u n)) = cc in
-          let v : w ≡ wide ps d i p (rows_in u n) = cc in
-          record { exists = x; width_is = v; rows = rw k a.rows }
+          let both : ◌≡◌ {A = ℕ × ℕ} (m, w) (length (field_done ps d left i s p (rows_in u n)), wide ps d i p (rows_in u n)) = cc in
+          let k : m ≡ length (field_done ps d left i s p (rows_in u n)) = ap (λ x. x.0) both in
+          record { exists = x; width_is = ap (λ x. x.1) both; rows = rw k a.rows }
       go false x q = let z : ◌≡◌ {A = ℕ} 0 1 = cc in absurd (omega arith)
 
   -- one that is missing
@@ -141,7 +142,9 @@ module _ (ps : List Numbered) (d u u' : List ℕ) (left i s p n : ℕ) (f : Opti
   unfolding field_read
   missing-not e = go (there ps d i s p (rows_in u n)) (sym e ∙ a.answer)
     where
-      go : (b : Bool) → None ≡ cond b (Some ((length (field_done ps d left i s p (rows_in u n))), (wide ps d i p (rows_in u n)))) None → b ≡ false
+      go : (b : Bool)
+          → None ≡ cond {A = Option (ℕ × ℕ)} b (Some (length (field_done ps d left i s p (rows_in u n)), wide ps d i p (rows_in u n))) None
+          → b ≡ false
       go true q = let z : ◌≡◌ {A = ℕ} 0 1 = cc in absurd (omega arith)
       go false q = refl
 

@@ -53,7 +53,7 @@ field_done ps d left i s p done = flat_field (line_of ps) (inside_of ps) (name_o
 unfoldable pub field_read : List Numbered → List ℕ → ℕ → ℕ → ℕ → ℕ → List Row → Option (ℕ × ℕ)
 field_read ps d left i s p done =
     cond (flat_exists (line_of ps) (inside_of ps) (name_of ps) d i s p done)
-    (Some ((length (field_done ps d left i s p done)), (flat_width (line_of ps) (inside_of ps) (name_of ps) d i p done)))
+    (Some (length (field_done ps d left i s p done), flat_width (line_of ps) (inside_of ps) (name_of ps) d i p done))
     None
 
 -- of the field i, which ends at the bit `end`, is `room` bits wide and has the last row

@@ -1,6 +1,6 @@
 // The walk over loaded fields: H9 to H13 of docs/RULES.md. Counterpart of `decode_param` and of the two loops of
 // `decode_header` of frame_definition/decode.rs. What is read goes into scratch rows (crate `header_paths`).
-#![tactic(auto)]
+#![tactic(auto, using(crate::proofs::Laws::outer_laws))]
 
 ghost use Rattle.std.specs.Prelude.{◌≡◌, [], ◌∷◌, ◌++◌, ◌+◌, ◌-◌, ◌*◌, ◌<◌, ◌≤◌, length};
 ghost use Rattle.header_fields.specs.Fields.{line_width, level_in, fields_in};

@@ -1,5 +1,5 @@
 // The words of a request: which one it starts with, decimal numbers, and bytes in hex.
-#![tactic(auto)]
+#![tactic(auto, using(crate::proofs::Laws::laws))]
 
 pub mod row;
 

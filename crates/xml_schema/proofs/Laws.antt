@@ -57,7 +57,7 @@ module _ (row : List ℕ) (e : ℕ) (at-e : e ≡ cut 9 row) (in_e : e ≤ lengt
         (λ e. rw (split-more 9 l (rw (← q) e), q))
         (eq-or-lt_of_le h)
 
-    pub next_entry : Follows row (Some ((e + 1), n))
+    pub next_entry : Follows row (Some (e + 1, n))
     next_entry = (omega arith, room, behind ∙ begins (drop (e + 1) row) n at_n' (rw tail at in-n))
 
 -- ---- the place of an element

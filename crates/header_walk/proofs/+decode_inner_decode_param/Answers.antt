@@ -13,7 +13,7 @@ pub decode_inner-returns-in_default : goal.decode_inner-returns-in_default
 decode_inner-returns-in_default t c = search (rules, inner_laws)
 
 pub decode_inner-overflow_add-place : goal.decode_inner-overflow_add-place
-decode_inner-overflow_add-place t c = next_fits _ _ _ _ _ _ _ c.next_field.ensures _ _ _ c.in-Some.is c.requires.shaped.few (omega arith)
+decode_inner-overflow_add-place t c = next_fits _ _ _ _ _ _ _ c.next_field.ensures _ _ _ c.in-At.is c.requires.shaped.few (omega arith)
 
 pub decode_inner-returns-then-room-bits : goal.decode_inner-returns-then-room-bits
 decode_inner-returns-then-room-bits t c = search (rules, inner_laws)
@@ -27,8 +27,8 @@ decode_inner-decode_param-requires t c = (
   (
     search (rules, inner_laws),
     (
-      next_in _ _ _ _ _ _ _ c.next_field.ensures _ _ _ c.in-Some.is c.requires.shaped.few (omega arith),
-      next_level _ _ _ _ _ _ _ c.next_field.ensures _ _ _ c.in-Some.is c.requires.shaped.few (omega arith) _ c.loop-j.invariant.level_is,
+      next_in _ _ _ _ _ _ _ c.next_field.ensures _ _ _ c.in-At.is c.requires.shaped.few (omega arith),
+      next_level _ _ _ _ _ _ _ c.next_field.ensures _ _ _ c.in-At.is c.requires.shaped.few (omega arith) _ c.loop-j.invariant.level_is,
       search (rules, inner_laws),
       search (rules, inner_laws),
     ),
@@ -40,7 +40,7 @@ decode_inner-loop-j-smaller-in_default-decode_param t c = search (rules, inner_l
 
 pub decode_inner-loop-j-preserved-in_default-decode_param : goal.decode_inner-loop-j-preserved-in_default-decode_param
 decode_inner-loop-j-preserved-in_default-decode_param t c =
-    inner_skips _ _ _ _ _ _ _ _ _ _ _ _ _ _ _ _ _ c.loop-j.invariant _ c.next_field.ensures _ _ _ c.in-Some.is _ _ c.decode_param.ensures
+    inner_skips _ _ _ _ _ _ _ _ _ _ _ _ _ _ _ _ _ c.loop-j.invariant _ c.next_field.ensures _ _ _ c.in-At.is _ _ c.decode_param.ensures
     c.in_default-decode_param.is (search rules) (search rules) (search rules) (search rules)
 
 pub decode_inner-loop-j-smaller : goal.decode_inner-loop-j-smaller
@@ -48,7 +48,7 @@ decode_inner-loop-j-smaller t c = search (rules, inner_laws)
 
 pub decode_inner-loop-j-preserved : goal.decode_inner-loop-j-preserved
 decode_inner-loop-j-preserved t c =
-    inner_takes _ _ _ _ _ _ _ _ _ _ _ _ _ _ _ _ _ c.loop-j.invariant _ c.next_field.ensures _ _ _ c.in-Some.is _ _ c.decode_param.ensures _ _ c.in-Some.is
+    inner_takes _ _ _ _ _ _ _ _ _ _ _ _ _ _ _ _ _ c.loop-j.invariant _ c.next_field.ensures _ _ _ c.in-At.is _ _ c.decode_param.ensures _ _ c.in-Some.is
     (search rules) (search rules) (search rules) (search rules)
 
 pub decode_param-lay_row-requires-clause-place_lt_count : goal.decode_param-lay_row-requires-clause-place_lt_count
