@@ -1,5 +1,5 @@
 // The header of an MPDU, by a frame text. Counterpart of `decode_header` of frame_definition/decode.rs.
-#![tactic(auto)]
+#![tactic(auto, using(crate::proofs::Laws::laws))]
 
 ghost use Rattle.std.specs.Prelude.{◌≡◌, ◌*◌, ◌≤◌, length, Some, Ok};
 ghost use Rattle.refusal.specs.Refusal.{most_frame};

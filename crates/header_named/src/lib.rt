@@ -11,7 +11,7 @@ ghost use Rattle.header_candidates.specs.Read.{Roomy, base_of, HoldsBase};
 ghost use Rattle.header_candidates.specs.Choose.{lines_at};
 ghost use Rattle.header_named.specs.Named.{FindsNamed, rows_of, Gives, ReadsNamed};
 
-use frame_definition::{find_base, next_candidate};
+use frame_definition::{Candidate, find_base, next_candidate};
 use header_candidates::{Read, read_base, read_own};
 use header_fields::LINE_WIDTH;
 use header_paths::SCRATCH_WIDTH;
