@@ -1,6 +1,6 @@
 // Values as people read them: VT1 and VT2 of docs/RULES.md. Counterpart of `display_value` of frame_definition/decode.rs and of `display` of
 // command_class/decode.rs.
-#![tactic(auto)]
+#![tactic(auto, using(crate::proofs::Laws::laws))]
 
 ghost use Rattle.std.specs.Prelude.{◌≡◌, ◌&&◌, [], ◌%◌, ◌≤◌, length};
 ghost use Rattle.refusal.specs.Refusal.{most_frame};
@@ -59,12 +59,10 @@ fn write_typed(kind: ParamType, value: u64, buffer: &mut [u8]) -> Result<usize, 
     ensures { Writes (value_text kind value) buffer.old result buffer.new }
 {
     match kind {
-        ParamType::Hex => write_hex(value, buffer),
-        ParamType::Number => write_decimal(value, buffer),
+        ParamType::Hex | ParamType::Bitmask => write_hex(value, buffer),
+        ParamType::Number | ParamType::NodeNumber => write_decimal(value, buffer),
         ParamType::NumberSigned => write_signed(value, buffer),
-        ParamType::NodeNumber => write_decimal(value, buffer),
         ParamType::Boolean => write_word(value, buffer),
-        ParamType::Bitmask => write_hex(value, buffer),
     }
 }
 
@@ -80,24 +78,14 @@ fn write_value(kind: ParamType, value: Option<u64>, buffer: &mut [u8]) -> Result
 fn is_in_bytes(kind: ParamType) -> bool
     ensures { result ≡ in_bytes kind }
 {
-    match kind {
-        ParamType::Hex => true,
-        ParamType::Number => false,
-        ParamType::NumberSigned => false,
-        ParamType::NodeNumber => false,
-        ParamType::Boolean => false,
-        ParamType::Bitmask => true,
-    }
+    matches!(kind, ParamType::Hex | ParamType::Bitmask)
 }
 
 // Does a field of this type show these bytes?
 fn shows_bytes(kind: ParamType, bytes: &[u8]) -> bool
     ensures { result ≡ some? bytes.now && in_bytes kind }
 {
-    if bytes.len() == 0 {
-        return false;
-    }
-    is_in_bytes(kind)
+    !bytes.is_empty() && is_in_bytes(kind)
 }
 
 // A field of a header. A symbol of no bytes is none.

@@ -1,5 +1,5 @@
 // A command text without U lines: each is written as the S that it is read as, and nothing else is moved.
-#![tactic(auto)]
+#![tactic(auto, using(crate::proofs::Laws::laws))]
 
 ghost use Rattle.std.specs.Prelude.{◌≡◌, ◌≤◌, length};
 ghost use Rattle.std.proofs.lemmas.List.Edits.{sets};
@@ -24,13 +24,10 @@ fn write_tidied(text: &[u8], buffer: &mut [u8])
     requires { length text.now ≤ length buffer.old }
     ensures { buffer.new ≡ sets buffer.old 0 (tidied text.now) }
 {
-    let mut i = 0;
     let mut first = true;
-    while i < text.len() {
-        let b = text[i];
-        buffer[i] = tidy_byte(first, b);
-        first = b == 10;
-        i += 1;
+    for (i, b) in text.iter().enumerate() {
+        buffer[i] = tidy_byte(first, *b);
+        first = *b == 10;
     }
 }
 
@@ -51,8 +48,6 @@ fn tidy_within(text: &[u8], buffer: &mut [u8]) -> Result<usize, Refusal>
 pub fn tidy_command_text(text: &[u8], buffer: &mut [u8]) -> Result<usize, Refusal>
     ensures { Tidies text.now buffer.old result buffer.new }
 {
-    match check_command_text(text) {
-        Ok(()) => tidy_within(text, buffer),
-        Err(refusal) => Err(refusal),
-    }
+    check_command_text(text)?;
+    tidy_within(text, buffer)
 }
