@@ -7,19 +7,17 @@ ghost use Rattle.command_rules.specs.declared.Offsets.TheVariants.{Answered};
 ghost use Rattle.command.specs.Answer.{told, answer_of};
 ghost use Rattle.bench_commands.specs.Told.{in_one};
 
-use command::{Offsets, Params, decode_accepted, decode_params};
+use command::{Offsets, Rows, decode_accepted, decode_params};
 use command_text::check_command_text;
+use refusal::Refusal;
 
 // An answer's rows, or a million and the refusal's number.
-fn tell(params: Params) -> u64
+fn tell(params: Result<Rows, Refusal>) -> u64
     ensures { result ≡ in_one (told params) }
 {
     match params {
-        Params::Rows {
-            count,
-            remainder: _,
-        } => count as u64,
-        Params::Refused(refusal) => 1000000 + refusal.number() as u64,
+        Ok(rows) => rows.count as u64,
+        Err(refusal) => 1000000 + refusal.number() as u64,
     }
 }
 
@@ -35,7 +33,7 @@ pub extern "C" fn bench_decode_params(
 {
     let mut k: u64 = 1;
     while k < times {
-        decode_params(text, payload, Offsets::Answered, rows);
+        let _ = decode_params(text, payload, Offsets::Answered, rows);
         k += 1;
     }
     tell(decode_params(text, payload, Offsets::Answered, rows))
@@ -48,7 +46,7 @@ fn decode_often(text: &[u8], payload: &[u8], rows: &mut [u64], times: u64) -> u6
 {
     let mut k: u64 = 1;
     while k < times {
-        decode_accepted(text, payload, Offsets::Answered, rows);
+        let _ = decode_accepted(text, payload, Offsets::Answered, rows);
         k += 1;
     }
     tell(decode_accepted(text, payload, Offsets::Answered, rows))
@@ -66,6 +64,6 @@ pub extern "C" fn bench_decode_params_accepted(
 {
     match check_command_text(text) {
         Ok(()) => decode_often(text, payload, rows, times),
-        Err(refusal) => tell(Params::Refused(refusal)),
+        Err(refusal) => tell(Err(refusal)),
     }
 }

@@ -37,7 +37,6 @@ use Rattle.command_rules.specs.Sum.{Adds}
 use Rattle.command.specs.Answer.{Told, answered, refused, told, body_of, within, answer_by, answer_of, table_after, Fills, AddsUp, DecodesBy}
 use Rattle.command.specs.Answer.{Decodes}
 use Rattle.command_groups.specs.declared.Taken.{Taken}
-use Rattle.command.specs.declared.Params.TheVariants.{Rows, Refused}
 use Rattle.command_rules.proofs.Rows.{table-rows}
 use Rattle.command_rules.proofs.Bounds.{walk-most, walk_inside}
 use Rattle.command_rules.proofs.Slots.{entries_lined}
@@ -46,7 +45,7 @@ use Rattle.std.specs.Prelude.{Result, Ok, Err}
 
 -- ---- one pass
 pub body-rows : (w : Walked) (t t' : List ℕ) (r : Taken) (p : PayloadOffset) → Gives w 0 t 0 t' r → length w.rows ≤ length t / row_width
-    → p.0 ≡ in_payload r.end.0 → Fills w t (told (Rows r.count p)) t'
+    → p.0 ≡ in_payload r.end.0 → Fills w t (told (Ok (record { count = r.count; remainder = p }))) t'
 unfolding told within
 body-rows w t t' r p wrote h ep =
     let q : p.0 ≡ in_payload w.end = rw wrote.end at ep in
@@ -58,7 +57,7 @@ module _ (w : Walked) (t ys : List ℕ) (m : Taken) (first : Gives w 0 [] 0 ys m
   nothing : ys ≡ []
   nothing = first.rows ∙ written-full 0 [] 0 w.rows (omega arith)
 
-  pub body_needs : length (ys ++ t) / row_width < m.count → Fills w t (told (Refused (MoreRows m.count))) (ys ++ t)
+  pub body_needs : length (ys ++ t) / row_width < m.count → Fills w t (told (Err (MoreRows m.count))) (ys ++ t)
   unfolding told within
   body_needs h =
       let z = nothing in
@@ -97,11 +96,11 @@ loaded_short x l h size = let s = heads-short x in omega arith
 
 -- ---- by an accepted text
 module _ (offsets : Offsets) (x payload t : List ℕ) where
-  pub accepted-long : 2048 < length payload → DecodesBy offsets x payload t (told (Refused (TooLong (length payload)))) t
+  pub accepted-long : 2048 < length payload → DecodesBy offsets x payload t (told (Err (TooLong (length payload)))) t
   unfolding told answer_by table_after AddsUp
   accepted-long h = record { answer = rw (lt-ltb 2048 (length payload) h) refl; table_is = refl; adds = λ z. absurd (omega arith) }
 
-  pub accepted-short : length payload ≤ 2048 → length payload < 2 → DecodesBy offsets x payload t (told (Refused (TooShort (length payload)))) t
+  pub accepted-short : length payload ≤ 2048 → length payload < 2 → DecodesBy offsets x payload t (told (Err (TooShort (length payload)))) t
   unfolding told answer_by table_after AddsUp
   accepted-short h u =
       record { answer = rw (le-ltb 2048 (length payload) h, lt-ltb (length payload) 2 u) refl; table_is = refl; adds = λ z. absurd (omega arith) }
@@ -154,7 +153,7 @@ module _ (offsets : Offsets) (x payload t : List ℕ) (v : Result (Unit {0}) Ref
   pub text-accepted : v ≡ Ok tt → verdict x ≡ Ok tt
   text-accepted e = sym is-v ∙ e
 
-  pub text-refused : (why : Refusal) → v ≡ Err why → Decodes offsets x payload t (told (Refused why)) t
+  pub text-refused : (why : Refusal) → v ≡ Err why → Decodes offsets x payload t (told (Err why)) t
   unfolding told answer_of table_after AddsUp
   text-refused why e =
       let n = eqb-false (number_of why) 0 (numbered why) in

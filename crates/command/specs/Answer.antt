@@ -10,8 +10,7 @@ use Rattle.command_rules.specs.declared.Row.{Row}
 use Rattle.command_rules.specs.Param.{in_payload}
 use Rattle.command_rules.specs.Walk.{Walked, walk}
 use Rattle.command_rules.specs.Sum.{Adds}
-use Rattle.command.specs.declared.Params.{Params}
-use Rattle.command.specs.declared.Params.TheVariants.{Rows, Refused}
+use Rattle.command.specs.declared.Rows.{Rows}
 use Rattle.refusal.specs.declared.Refusal.{Refusal}
 
 -- D1: which offsets a caller asks for
@@ -37,9 +36,9 @@ abbrev pub refused : ℕ → ℕ → Told
 refused n x = record { refusal = n; carried = x; rows = 0; remainder = 0 }
 
 -- C18, R1 to R9: the numbers of each case
-unfoldable pub told : Params → Told
-told (Rows count remainder) = answered count remainder.0
-told (Refused r) = refused (number_of r) (carried_by r)
+unfoldable pub told : Result Rows Refusal → Told
+told (Ok rows) = answered rows.count rows.remainder.0
+told (Err r) = refused (number_of r) (carried_by r)
 
 -- ---- which answer
 

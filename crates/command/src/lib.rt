@@ -2,7 +2,7 @@
 // calls are all to be had here.
 // The definition is loaded once (crate `command_schema`). One walker (crate `command_walk`) writes the rows for which there is room in its part of the
 // table, and counts all. Where the table may be too small it is run first over an empty part, so that nothing is written before all rows are known to fit.
-#![tactic(auto)]
+#![tactic(auto, using(crate::proofs::Decoding::accepted_laws, crate::proofs::Decoding::body_laws, crate::proofs::Decoding::decode_laws))]
 
 ghost use Rattle.std.specs.Prelude.{◌≡◌, ◌*◌, ◌/◌, ◌<◌, ◌≤◌, length, Ok};
 ghost use Rattle.command_text.specs.Rules.{verdict};
@@ -33,14 +33,11 @@ pub const LOADED_SHORT: usize = 48 * LOADED_WIDTH;
 // The most numbers that a byte of the body makes: 34 rows, for a repetition, a parameter and 32 bit children.
 const MOST: usize = 34 * ROW_WIDTH;
 
-// What a command is decoded into: the rows written, and where the remainder starts.
+// What a command is decoded into: how many rows are written, and where the remainder starts.
 #[derive(Clone, Copy)]
-pub enum Params {
-    Rows {
-        count: usize,
-        remainder: PayloadOffset,
-    },
-    Refused(Refusal),
+pub struct Rows {
+    pub count: usize,
+    pub remainder: PayloadOffset,
 }
 
 // The offsets by position, or those over the entries answered.
@@ -61,16 +58,15 @@ fn write_body(
     offsets: Offsets,
     body: &[u8],
     rows: &mut [u64],
-) -> Params
+) -> Rows
     requires { (IsLoaded text.now loaded.now count) × (length body.now < 65536)
         × (length (walk offsets body.now (entries_of (heads_of text.now))).rows ≤ length rows.old / row_width) }
-    ensures { Fills (walk offsets body.now (entries_of (heads_of text.now))) rows.old (told result) rows.new }
+    ensures { Fills (walk offsets body.now (entries_of (heads_of text.now))) rows.old (told (Ok result)) rows.new }
 {
     let taken = walk_params(text, loaded, count, offsets, body, 0, rows);
-    let end = taken.end;
-    Params::Rows {
+    Rows {
         count: taken.count,
-        remainder: command_param::in_payload(end),
+        remainder: command_param::in_payload(taken.end),
     }
 }
 
@@ -82,19 +78,19 @@ fn decode_body(
     offsets: Offsets,
     body: &[u8],
     rows: &mut [u64],
-) -> Params
+) -> Result<Rows, Refusal>
     requires { (IsLoaded text.now loaded.now count) × (length body.now < 65536) }
     ensures { Fills (walk offsets body.now (entries_of (heads_of text.now))) rows.old (told result) rows.new }
 {
     if body.len() * MOST <= rows.len() {
-        return write_body(text, loaded, count, offsets, body, rows);
+        return Ok(write_body(text, loaded, count, offsets, body, rows));
     }
     let none: usize = 0;
     let counted = walk_params(text, loaded, count, offsets, body, 0, &mut rows[..none]);
     if rows.len() / ROW_WIDTH < counted.count {
-        return Params::Refused(Refusal::MoreRows(counted.count));
+        return Err(Refusal::MoreRows(counted.count));
     }
-    write_body(text, loaded, count, offsets, body, rows)
+    Ok(write_body(text, loaded, count, offsets, body, rows))
 }
 
 // Loads the text into a table that has room for it, and decodes a body by it.
@@ -104,7 +100,7 @@ fn decode_by(
     offsets: Offsets,
     body: &[u8],
     rows: &mut [u64],
-) -> Params
+) -> Result<Rows, Refusal>
     requires { (verdict text.now ≡ Ok tt) × (length (heads_of text.now) * loaded_width ≤ length loaded.old) × (length body.now < 65536) }
     ensures { Fills (walk offsets body.now (entries_of (heads_of text.now))) rows.old (told result) rows.new }
 {
@@ -113,16 +109,21 @@ fn decode_by(
 }
 
 // The parameters of a command by a text that is accepted, with offsets read in one of the two ways, into the table, or refusal 4, 5 or 8.
-pub fn decode_accepted(text: &[u8], payload: &[u8], offsets: Offsets, rows: &mut [u64]) -> Params
+pub fn decode_accepted(
+    text: &[u8],
+    payload: &[u8],
+    offsets: Offsets,
+    rows: &mut [u64],
+) -> Result<Rows, Refusal>
     requires { verdict text.now ≡ Ok tt }
     ensures { DecodesBy offsets text.now payload.now rows.old (told result) rows.new }
 {
     let size = payload.len();
     if MOST_FRAME < size {
-        return Params::Refused(Refusal::TooLong(size));
+        return Err(Refusal::TooLong(size));
     }
     if size < 2 {
-        return Params::Refused(Refusal::TooShort(size));
+        return Err(Refusal::TooShort(size));
     }
     if text.len() <= SHORT {
         let mut short = [0u16; LOADED_SHORT];
@@ -134,11 +135,14 @@ pub fn decode_accepted(text: &[u8], payload: &[u8], offsets: Offsets, rows: &mut
 
 // The parameters of a command by a text, with offsets read in one of the two ways, into the table, or a refusal. A refusal writes nothing, an answer
 // nothing past its last row.
-pub fn decode_params(text: &[u8], payload: &[u8], offsets: Offsets, rows: &mut [u64]) -> Params
+pub fn decode_params(
+    text: &[u8],
+    payload: &[u8],
+    offsets: Offsets,
+    rows: &mut [u64],
+) -> Result<Rows, Refusal>
     ensures { Decodes offsets text.now payload.now rows.old (told result) rows.new }
 {
-    match command_text::check_command_text(text) {
-        Ok(()) => decode_accepted(text, payload, offsets, rows),
-        Err(refusal) => Params::Refused(refusal),
-    }
+    command_text::check_command_text(text)?;
+    decode_accepted(text, payload, offsets, rows)
 }

@@ -2,7 +2,7 @@
 // file `stdout`.
 #![tactic(auto)]
 
-use command::{Offsets, Params, decode_params};
+use command::{Offsets, decode_params};
 use crc::check_crc;
 use header::decode_header;
 use pti::{Reading, beam_count, count_records, parse_record, record_body, speed_for};
@@ -82,16 +82,16 @@ fn print_params(name: &[u8], payload: &[u8]) {
     let names: &[u8] =
         b"  Length starts:\t  Length ends:\t  Length:\t  Data starts:\t  Data ends:\t  remainder starts:";
     match decode_params(text, payload, Offsets::Answered, &mut rows) {
-        Params::Rows { count, remainder } => {
-            print(name, count as u64);
+        Ok(told) => {
+            print(name, told.count as u64);
             print_piece(names, 0, rows[3]);
             print_piece(names, 1, rows[4]);
             print_piece(names, 2, rows[6]);
             print_piece(names, 3, rows[13]);
             print_piece(names, 4, rows[14]);
-            print_piece(names, 5, remainder.0 as u64);
+            print_piece(names, 5, told.remainder.0 as u64);
         }
-        Params::Refused(refusal) => print_refusal(name, refusal),
+        Err(refusal) => print_refusal(name, refusal),
     }
 }
 

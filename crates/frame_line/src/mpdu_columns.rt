@@ -4,7 +4,7 @@ ghost use Rattle.std.specs.Prelude.{◌≡◌, Ok};
 ghost use Rattle.frame_text.specs.Rules.{verdict};
 
 use crate::node_columns::{put_no_nodes, put_nodes};
-use command::{Params, decode_params, offsets_by};
+use command::{decode_params, offsets_by};
 use command_part::command_part;
 use command_rows::{LACKING, ROW_WIDTH};
 use crc::check_crc;
@@ -78,11 +78,8 @@ fn is_cut(rows: &[u64], n: usize) -> bool {
 fn lacks(text: &[u8], payload: &[u8], by_position: bool) -> bool {
     let mut rows = [0u64; PARAMS];
     match decode_params(text, payload, offsets_by(by_position), &mut rows) {
-        Params::Rows {
-            count,
-            remainder: _,
-        } => is_cut(&rows, count),
-        Params::Refused(_) => false,
+        Ok(told) => is_cut(&rows, told.count),
+        Err(_) => false,
     }
 }
 

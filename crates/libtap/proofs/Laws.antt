@@ -21,8 +21,7 @@ use Rattle.header.specs.declared.DecodedHeader.{DecodedHeader}
 use Rattle.header.specs.Decode.{Decodes}
 use Rattle.records.specs.declared.PayloadOffset.{PayloadOffset}
 use Rattle.command_rules.specs.declared.Offsets.{Offsets}
-use Rattle.command.specs.declared.Params.{Params}
-use Rattle.command.specs.declared.Params.TheVariants as command
+use Rattle.command.specs.declared.Rows.{Rows}
 use Rattle.command.specs.Answer.{offsets_by, told as toldParams, Decodes as DecodesParams}
 use Rattle.command_part.specs.declared.Part.{Part}
 use Rattle.command_part.specs.Part.{command_part, span}
@@ -157,17 +156,17 @@ pub heads-all : (text mpdu : List ℕ) (region speed : ℕ) (t : List ℕ) (d : 
 heads-all text mpdu region speed t d r t' so is-r = record { answer = d; decodes = so; told = is-r }
 
 -- ---- commands
-pub params : (p : Params) (n : ℕ) (remainder : PayloadOffset) → p ≡ command.Rows n remainder
-    → told_by (record { refusal = 0; value = 0; rows = n; remainder = remainder.0 }) ≡ toldParams p
+pub params : (p : Result Rows Refusal) (rows : Rows) → p ≡ Ok rows
+    → told_by (record { refusal = 0; value = 0; rows = rows.count; remainder = rows.remainder.0 }) ≡ toldParams p
 unfolding told_by toldParams
-params p n remainder e = rw e refl
+params p rows e = rw e refl
 
-pub params_refusal : (p : Params) (x : Refusal) (number carried : ℕ) → p ≡ command.Refused x → number ≡ number_of x → carried ≡ carried_by x
+pub params_refusal : (p : Result Rows Refusal) (x : Refusal) (number carried : ℕ) → p ≡ Err x → number ≡ number_of x → carried ≡ carried_by x
     → told_by (record { refusal = number; value = carried; rows = 0; remainder = 0 }) ≡ toldParams p
 unfolding told_by toldParams
 params_refusal p x number carried e is_number is_Carried = rw (e, is_number, is_Carried) refl
 
-pub params-all : (position : Bool) (offsets : Offsets) (text payload t : List ℕ) (p : Params) (r : TapParams) (t' : List ℕ)
+pub params-all : (position : Bool) (offsets : Offsets) (text payload t : List ℕ) (p : Result Rows Refusal) (r : TapParams) (t' : List ℕ)
     → DecodesParams offsets text payload t (toldParams p) t' → offsets ≡ offsets_by position → told_by r ≡ toldParams p
     → DecodesParams (offsets_by position) text payload t (told_by r) t'
 params-all position offsets text payload t p r t' so is is-r = rw (is-r, ← is) so

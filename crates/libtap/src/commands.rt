@@ -4,7 +4,7 @@ ghost use Rattle.command.specs.Answer.{offsets_by, told, Decodes};
 ghost use Rattle.command_row.specs.Answer.{row_of};
 ghost use Rattle.libtap.specs.Commands.{told_by, row_told, no_row, told_row};
 
-use command::{Params, decode_params, offsets_by};
+use command::{Rows, decode_params, offsets_by};
 use command_row::command_row;
 use command_rules::Row;
 use refusal::Refusal;
@@ -19,17 +19,17 @@ pub struct TapParams {
     pub remainder: u64,
 }
 
-fn tell_params(params: Params) -> TapParams
+fn tell_params(params: Result<Rows, Refusal>) -> TapParams
     ensures { told_by result ≡ told params }
 {
     match params {
-        Params::Rows { count, remainder } => TapParams {
+        Ok(rows) => TapParams {
             refusal: 0,
             value: 0,
-            rows: count as u64,
-            remainder: remainder.0 as u64,
+            rows: rows.count as u64,
+            remainder: rows.remainder.0 as u64,
         },
-        Params::Refused(refusal) => TapParams {
+        Err(refusal) => TapParams {
             refusal: refusal.number() as u64,
             value: refusal.carried() as u64,
             rows: 0,

@@ -1,7 +1,7 @@
 // The word `show`: one frame of a capture whole.
 use crate::command_page::{put_command, put_short, put_title, put_unknown};
 use crate::frame_page::{put_header, put_heard, put_refused};
-use command::{Params, decode_params, offsets_by};
+use command::{decode_params, offsets_by};
 use command_part::command_part;
 use files::folder::{load, load_command};
 use files::input::{File, Reader};
@@ -22,12 +22,12 @@ const PARAMS: usize = 1024 * command_rows::ROW_WIDTH;
 fn show_params(text: &[u8], payload: &[u8], by_position: bool, out: &mut Buffer, at: usize) {
     let mut rows = [0u64; PARAMS];
     match decode_params(text, payload, offsets_by(by_position), &mut rows) {
-        Params::Rows { count, remainder } => {
-            let place = put_command(out, at, text, payload, &rows, count, remainder.0);
+        Ok(told) => {
+            let place = put_command(out, at, text, payload, &rows, told.count, told.remainder.0);
             flush(out, place);
             output::outcome::succeed();
         }
-        Params::Refused(refusal) => {
+        Err(refusal) => {
             flush(out, at);
             output::outcome::refuse(refusal);
         }
