@@ -58,10 +58,11 @@ module _ (far letter : ℕ) where
 pub record Sofar (t : List ℕ) (at line far : ℕ) : Type 0 where
   pub inside : at ≤ length t
   pub low : line ≤ at + 1
+  pub some : 0 < line
   pub same : misplaced far line (lines (drop at t)) ≡ out_of_order t
 
 pub sofar_start : (t : List ℕ) → Sofar t 0 1 0
-sofar_start t = record { inside = omega arith; low = omega arith; same = refl }
+sofar_start t = record { inside = omega arith; low = omega arith; some = omega arith; same = refl }
 
 misplaced_line : (far n : ℕ) (l : List ℕ) (ms : List (List ℕ)) → (ms ≡ [] → ⊥)
     → misplaced far n (l ∷ ms) ≡ cond (stands far (kind_of (fields l))) (misplaced (farther far (kind_of (fields l))) (suc n) ms) n
@@ -72,11 +73,11 @@ module _ (t : List ℕ) (at line far e : ℕ) (inv : Sofar t at line far) (is : 
   e_is : e ≡ cut 10 (drop at t)
   e_is = is ∙ ap (cut 10) (tail t at)
 
-  pub order_end : e ≡ length (take (length t - at) (drop at t)) → 0 ≡ out_of_order t
+  pub order_end : e ≡ length (take (length t - at) (drop at t)) → out_of_order t ≡ 0
   order_end h =
       let l : cut 10 (drop at t) ≡ length (drop at t) = sym e_is ∙ h ∙ ap length (tail t at) in
       let w : misplaced far line (drop at t ∷ []) ≡ out_of_order t = rw (split-last 10 (drop at t) l) at inv.same in
-      w
+      sym w
 
   module _ (in_e : e ≤ length (take (length t - at) (drop at t))) (more : e ≡ length (take (length t - at) (drop at t)) → ⊥) (letter : ℕ)
       (is-letter : letter ≡ kind_of (fields (take e (take (length t - at) (drop at t))))) where
@@ -95,8 +96,8 @@ module _ (t : List ℕ) (at line far e : ℕ) (inv : Sofar t at line far) (is : 
         (sym (misplaced_line far line (take e (drop at t)) (lines (drop (e + 1) (drop at t))) (split_some 10 (drop (e + 1) (drop at t))))
         ∙ ap (misplaced far line) (sym line_is) ∙ inv.same)
 
-    pub order-not : (b : Bool) → b ≡ stands far letter → b ≡ false → line ≡ out_of_order t
-    order-not b q n = rw (sym q ∙ n) at by_letter
+    pub order-not : (b : Bool) → b ≡ stands far letter → b ≡ false → (out_of_order t ≡ line) × (0 < line)
+    order-not b q n = (let w : line ≡ out_of_order t = rw (sym q ∙ n) at by_letter in sym w, inv.some)
 
     pub order-more : (b : Bool) (next : ℕ) → b ≡ stands far letter → b ≡ true → next ≡ farther far letter → Sofar t (at + e + 1) (line + 1) next
     order-more b next q y f =
@@ -105,6 +106,7 @@ module _ (t : List ℕ) (at line far e : ℕ) (inv : Sofar t at line far) (is : 
         record {
           inside = omega (arith, inside, length-drop at t);
           low = omega (arith, inv.low);
+          some = omega arith;
           same = rw (f, add-one line, ← z, ← drop-drop (e + 1) at t) w;
         }
 

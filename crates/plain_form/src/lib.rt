@@ -1,7 +1,7 @@
 // Plain form, the order of lines that XML keeps: X12 of docs/RULES.md.
-#![tactic(auto)]
+#![tactic(auto, using(crate::proofs::Laws::laws))]
 
-ghost use Rattle.std.specs.Prelude.{◌≡◌};
+ghost use Rattle.std.specs.Prelude.{◌≡◌, ◌<◌, MatchOption};
 ghost use Rattle.plain_form.specs.PlainForm.{stands, farther, out_of_order};
 
 use readers::line_fields::letter_of;
@@ -34,9 +34,9 @@ fn go_farther(far: u8, letter: u8) -> u8
     }
 }
 
-// The first line that is out of plain form, or 0.
-pub fn first_misplaced(text: &[u8]) -> usize
-    ensures { result ≡ out_of_order text.now }
+// The first line that is out of plain form.
+pub fn first_misplaced(text: &[u8]) -> Option<usize>
+    ensures { let t = text.now in MatchOption result (out_of_order t ≡ 0) (λ n. (out_of_order t ≡ n) × (0 < n)) }
 {
     let mut at = 0;
     let mut line: usize = 1;
@@ -45,15 +45,14 @@ pub fn first_misplaced(text: &[u8]) -> usize
         let rest = &text[at..];
         let e = find(rest, 10);
         if e == rest.len() {
-            return 0;
+            return None;
         }
         let letter = letter_of(&rest[..e]);
-        if is_in_order(far, letter) {
-            far = go_farther(far, letter);
-            at = at + e + 1;
-            line += 1;
-        } else {
-            return line;
+        if !is_in_order(far, letter) {
+            return Some(line);
         }
+        far = go_farther(far, letter);
+        at = at + e + 1;
+        line += 1;
     }
 }
