@@ -9,7 +9,7 @@ use native.Mathlib.Omega.{arith}
 use mir.Val.{Fits}
 use mir.Syntax.{w64}
 use lib.ListN.{length, get_or, take, drop, length-drop}
-use lib.Seq.{drop-drop, take-length}
+use lib.Seq.{take-length}
 use Rattle.laws.proofs.Lists.{tail}
 use Rattle.text.specs.Text.{fields, field, same}
 use Rattle.text.specs.Scan.{cut}
@@ -77,60 +77,48 @@ parent_is k h = either parents k 0 nowhere h
 pub parent-none : (k : ℕ) → 13 ≤ k → 15 ≡ parent_of k
 parent-none k h = past parents k nowhere h
 
--- ---- one entry after another: the field at `at` is behind us
-module _ (row : List ℕ) (at : ℕ) (r : Option (ℕ × ℕ)) (is : Follows (take (length row - at) (drop at row)) r) where
-  is_now : Follows (drop at row) r
-  is_now = rw tail at is
-
-  pub entry_last : r ≡ None → drop 1 (fields (drop at row)) ≡ []
-  entry_last q = rw q at is_now
+-- ---- one entry after another: what is left of the row begins with a field that is behind us
+module _ (rest : List ℕ) (r : Option (ℕ × ℕ)) (is : Follows rest r) where
+  pub entry_last : r ≡ None → drop 1 (fields rest) ≡ []
+  entry_last q = rw q at is
 
   module _ (a len : ℕ) (q : r ≡ Some (a, len)) where
-    entry_now : (1 ≤ a) × (a + len ≤ length (drop at row))
-        × (drop 1 (fields (drop at row)) ≡ take len (drop a (drop at row)) ∷ drop 1 (fields (drop a (drop at row))))
-    entry_now = rw q at is_now
+    entry_now : (1 ≤ a) × (a + len ≤ length rest) × (drop 1 (fields rest) ≡ take len (drop a rest) ∷ drop 1 (fields (drop a rest)))
+    entry_now = rw q at is
 
-    length_now : length (drop at row) ≡ length row - at
-    length_now = length-drop at row
+    pub entry_some : 1 ≤ a
+    entry_some = entry_now.0
 
-    pub entry_fits : length row < 2 ^ 64 → Fits w64 (a + len)
-    entry_fits h = omega (arith, entry_now.1, length_now)
+    pub entry_start : a ≤ length rest
+    entry_start = omega (arith, entry_now.1)
 
-    pub entry_end : a + len ≤ length (take (length row - at) (drop at row))
-    entry_end = rw tail entry_now.1
+    pub entry_end : len ≤ length (take (length rest - a) (drop a rest))
+    entry_end = rw (tail, length-drop) (omega (arith, entry_now.1))
 
-    pub entry_inside : at ≤ length row → at + a ≤ length row
-    entry_inside h = omega (arith, entry_now.1, entry_now.0, length_now)
+    pub entry_less : length (take (length rest - a) (drop a rest)) < length rest
+    entry_less = rw (tail, length-drop) (omega (arith, entry_now.1, entry_now.0))
 
-    pub entry_at_fits : length row < 2 ^ 64 → at ≤ length row → Fits w64 (at + a)
-    entry_at_fits l h = omega (arith, entry_inside h)
+    -- the entry is what the code takes for it, and behind it stand those of what is left from there
+    pub entry_is : drop 1 (fields rest) ≡ take len (take (length rest - a) (drop a rest)) ∷ drop 1 (fields (take (length rest - a) (drop a rest)))
+    entry_is = rw tail entry_now.2
 
-    pub entry_less : at ≤ length row → length row - (at + a) < length row - at
-    entry_less h = omega (arith, entry_now.1, entry_now.0, length_now)
-
-    -- the entry is what the code takes for it, and behind it stand those from at + a on
-    pub entry_is : drop 1 (fields (drop at row)) ≡ take (a + len - a) (drop a (take (length row - at) (drop at row))) ∷ drop 1 (fields (drop (at + a) row))
-    entry_is = let d : a + len - a ≡ len = omega arith in rw (tail, d, ← drop-drop) entry_now.2
-
-pub ruleset entry_laws = (entry_fits, entry_end, entry_inside, entry_at_fits, entry_less)
+pub ruleset entry_laws = (entry_start, entry_end, entry_less)
 
 -- ---- the form of an attribute
-module _ (row n : List ℕ) (at : ℕ) (inv : form_in (drop 1 (fields row)) n ≡ form_in (drop 1 (fields (drop at row))) n)
-    (r : Option (ℕ × ℕ)) (is : Follows (take (length row - at) (drop at row)) r) where
+module _ (row n rest : List ℕ) (inv : form_in (drop 1 (fields row)) n ≡ form_in (drop 1 (fields rest)) n)
+    (r : Option (ℕ × ℕ)) (is : Follows rest r) where
   pub form-last : r ≡ None → 0 ≡ form_in (drop 1 (fields row)) n
-  form-last q = rw (inv, entry_last row at r is q)
+  form-last q = rw (inv, entry_last rest r is q)
 
-  module _ (a len : ℕ) (q : r ≡ Some (a, len)) (x : Bool)
-      (named : x ≡ same n (name_of (take (a + len - a) (drop a (take (length row - at) (drop at row)))))) where
+  module _ (a len : ℕ) (q : r ≡ Some (a, len)) (x : Bool) (named : x ≡ same n (name_of (take len (take (length rest - a) (drop a rest))))) where
     form-on : form_in (drop 1 (fields row)) n
-        ≡ cond x (form_of (take (a + len - a) (drop a (take (length row - at) (drop at row))))) (form_in (drop 1 (fields (drop (at + a) row))) n)
-    form-on = inv ∙ rw (entry_is row at r is a len q, ← named)
+        ≡ cond x (form_of (take len (take (length rest - a) (drop a rest)))) (form_in (drop 1 (fields (take (length rest - a) (drop a rest)))) n)
+    form-on = inv ∙ rw (entry_is rest r is a len q, ← named)
 
-    pub form_here : x ≡ true → (f : ℕ) → f ≡ form_of (take (a + len - a) (drop a (take (length row - at) (drop at row))))
-        → f ≡ form_in (drop 1 (fields row)) n
+    pub form_here : x ≡ true → (f : ℕ) → f ≡ form_of (take len (take (length rest - a) (drop a rest))) → f ≡ form_in (drop 1 (fields row)) n
     form_here t f e = e ∙ sym (form-on ∙ rw t)
 
-    pub form-more : x ≡ false → form_in (drop 1 (fields row)) n ≡ form_in (drop 1 (fields (drop (at + a) row))) n
+    pub form-more : x ≡ false → form_in (drop 1 (fields row)) n ≡ form_in (drop 1 (fields (take (length rest - a) (drop a rest)))) n
     form-more t = form-on ∙ rw t
 
 -- ---- the letter of a row

@@ -146,23 +146,15 @@ fn is_entry(e: &[u8], n: &[u8]) -> bool
 pub fn form_in(row: &[u8], n: &[u8]) -> u8
     ensures { result ≡ form_in (drop 1 (fields row.now)) n.now }
 {
-    let mut at = 0;
-    loop {
-        let rest = &row[at..];
-        match next_entry(rest) {
-            None => {
-                return 0;
-            }
-            Some((a, len)) => {
-                let end = a + len;
-                let entry = &rest[a..end];
-                if is_entry(entry, n) {
-                    return form_of(entry);
-                }
-                at += a;
-            }
+    let mut rest = row;
+    while let Some((a, len)) = next_entry(rest) {
+        rest = &rest[a..];
+        let entry = &rest[..len];
+        if is_entry(entry, n) {
+            return form_of(entry);
         }
     }
+    0
 }
 
 // The place in which element k stands.

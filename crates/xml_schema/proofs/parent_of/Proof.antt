@@ -1,8 +1,0 @@
--- `xml_schema::parent_of` meets its contract, by the laws of the crate. Assumes nothing.
-use Rattle.xml_schema.proofs.Laws.{laws}
-use borrow.Author.Rules.{rules}
-use Rattle.xml_schema.proofs.parent_of.Statement.{statement}
-use Rattle.xml_schema.proofs.parent_of.Tie as tie
-
-pub parent_of_spec : {M : Type 1} → statement M
-parent_of_spec = tie.close (tie.spec (λ c. search (rules, laws)) (λ c. search (rules, laws)) (λ c. search (rules, laws)) (λ c. search (rules, laws)))
