@@ -29,7 +29,7 @@ module _ (s : List ℕ) (i : ℕ) (inv : lead s ≡ i + lead (drop i s)) where
   pub lead-more : (b : Bool) → b ≡ is_white (get_or s i 0) → b ≡ true → i < length s → lead s ≡ i + 1 + lead (drop (i + 1) s)
   lead-more b e f h = rw (inv, next s i h, ← e, f) (omega arith)
 
-  pub lead_done : i ≤ length s → length s ≤ i → i ≡ lead s
+  pub lead_done : i ≤ length s → length s ≤ i → length s ≡ lead s
   lead_done l h = rw (inv, done s i h) (omega arith)
 
 module _ (s : List ℕ) (i : ℕ) (inv : word_len s ≡ i + word_len (drop i s)) where
@@ -39,7 +39,7 @@ module _ (s : List ℕ) (i : ℕ) (inv : word_len s ≡ i + word_len (drop i s))
   pub word_more : (b : Bool) → b ≡ is_letter (get_or s i 0) → b ≡ true → i < length s → word_len s ≡ i + 1 + word_len (drop (i + 1) s)
   word_more b e f h = rw (inv, next s i h, ← e, f) (omega arith)
 
-  pub word_done : i ≤ length s → length s ≤ i → i ≡ word_len s
+  pub word_done : i ≤ length s → length s ≤ i → length s ≡ word_len s
   word_done l h = rw (inv, done s i h) (omega arith)
 
 pub letter-low : (x : ℕ) → x < 65 → false ≡ is_letter x
@@ -287,8 +287,8 @@ module _ (v : List ℕ) (i : ℕ) (inv : strip v ≡ strip (drop i v)) where
   pub zeros-not : i < length v → (get_or v i 0 ≡ 48 → ⊥) → drop i v ≡ strip v
   zeros-not h e = sym (inv ∙ rw (next v i h) (strip-not (get_or v i 0) (drop (i + 1) v) e))
 
-  pub zeros_done : length v ≤ i → drop i v ≡ strip v
-  zeros_done h = let d : drop i v ≡ [] = done v i h in sym (inv ∙ rw d)
+  pub zeros_done : length v ≤ i → drop (length v) v ≡ strip v
+  zeros_done h = let d : drop i v ≡ [] = done v i h in done v (length v) (omega arith) ∙ sym (inv ∙ rw d)
 
 pub ruleset count_laws = (
   sign_none,
@@ -342,7 +342,7 @@ module _ (base : ℕ) (s : List ℕ) (i d : ℕ) (is : d ≡ digit_of (get_or s 
     pub run_more : i < length s → d < base → run base s ≡ i + 1 + run base (drop (i + 1) s)
     run_more h l = rw (inv, next s i h, ← is, lt-ltb d base l) (omega arith)
 
-pub run_done : (base : ℕ) (s : List ℕ) (i : ℕ) → run base s ≡ i + run base (drop i s) → i ≤ length s → length s ≤ i → i ≡ run base s
+pub run_done : (base : ℕ) (s : List ℕ) (i : ℕ) → run base s ≡ i + run base (drop i s) → i ≤ length s → length s ≤ i → length s ≡ run base s
 run_done base s i inv l h = rw (inv, done s i h) (omega arith)
 
 worth_grows : (base v : ℕ) (l : List ℕ) → 1 ≤ base → v ≤ worth_in base v l
@@ -579,4 +579,4 @@ pub ruleset valid_laws = (
   valid-flag,
 )
 
-pub ruleset laws = (front_laws, escape_laws, count_laws, zeros_laws, digit_laws, base_laws, numeral_laws, among_laws, valid_laws)
+pub ruleset laws = (picks, front_laws, escape_laws, count_laws, zeros_laws, digit_laws, base_laws, numeral_laws, among_laws, valid_laws)

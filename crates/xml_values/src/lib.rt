@@ -1,5 +1,5 @@
 // Values of attributes: white space, words with escapes, numbers, flags. X4 to X6 of docs/RULES.md.
-#![tactic(auto)]
+#![tactic(auto, using(crate::proofs::Laws::laws))]
 
 ghost use Rattle.std.specs.Prelude.{◌≡◌, not, ◌&&◌, ◌≤◌, eqb, length, drop};
 ghost use Rattle.text.specs.Text.{split, missing};
@@ -21,71 +21,44 @@ const MOST: u64 = 4294967295;
 pub fn is_white(x: u8) -> bool
     ensures { result ≡ is_white x }
 {
-    match x {
-        b' ' => true,
-        b'\t' => true,
-        b'\n' => true,
-        b'\r' => true,
-        _ => false,
-    }
+    matches!(x, b' ' | b'\t' | b'\n' | b'\r')
 }
 
 fn is_letter(x: u8) -> bool
     ensures { result ≡ is_letter x }
 {
-    if x < b'A' {
-        return false;
-    }
-    if x <= b'Z' {
-        return true;
-    }
-    if x < b'a' {
-        return false;
-    }
-    x <= b'z'
+    matches!(x, b'A'..=b'Z' | b'a'..=b'z')
 }
 
 // How many white bytes stand at the front of s.
 pub fn lead(s: &[u8]) -> usize
     ensures { (result ≡ leadOf s.now) × (result ≤ length s.now) }
 {
-    let mut i = 0;
-    while i < s.len() {
-        let b = s[i];
-        if is_white(b) {
-            i += 1;
-        } else {
+    for (i, b) in s.iter().enumerate() {
+        if !is_white(*b) {
             return i;
         }
     }
-    i
+    s.len()
 }
 
 // How many letters stand at the front of s.
 pub fn word_len(s: &[u8]) -> usize
     ensures { (result ≡ word_len s.now) × (result ≤ length s.now) }
 {
-    let mut i = 0;
-    while i < s.len() {
-        let b = s[i];
-        if is_letter(b) {
-            i += 1;
-        } else {
+    for (i, b) in s.iter().enumerate() {
+        if !is_letter(*b) {
             return i;
         }
     }
-    i
+    s.len()
 }
 
 // Is s white space?
 pub fn is_blank(s: &[u8]) -> bool
     ensures { result ≡ white s.now }
 {
-    let l = lead(s);
-    if l == s.len() {
-        return true;
-    }
-    false
+    lead(s) == s.len()
 }
 
 // ---- words
@@ -117,14 +90,7 @@ fn is_named(p: &[u8]) -> bool
     ensures { result ≡ is_named p.now }
 {
     let e = find(p, b';');
-    if e == p.len() {
-        return false;
-    }
-    let m = entity(&p[..e]);
-    if m == 0 {
-        return false;
-    }
-    true
+    e != p.len() && entity(&p[..e]) != 0
 }
 
 // Does s begin with a known name and a `;`, and what stands behind each `&` of it?
@@ -135,14 +101,13 @@ fn rest_named(s: &[u8]) -> bool
     loop {
         let rest = &s[at..];
         let e = find(rest, b'&');
-        if is_named(&rest[..e]) {
-            if e == rest.len() {
-                return true;
-            }
-            at = at + e + 1;
-        } else {
+        if !is_named(&rest[..e]) {
             return false;
         }
+        if e == rest.len() {
+            return true;
+        }
+        at = at + e + 1;
     }
 }
 
@@ -161,22 +126,14 @@ fn all_named(v: &[u8]) -> bool
 fn is_loose(v: &[u8]) -> bool
     ensures { result ≡ loose v.now }
 {
-    let e = find(v, b'<');
-    if e == v.len() {
-        return all_named(v);
-    }
-    false
+    find(v, b'<') == v.len() && all_named(v)
 }
 
 // Can a line hold what v says?
 fn is_words(v: &[u8]) -> bool
     ensures { result ≡ is_words v.now }
 {
-    if all_within(v, b' ', 255) {
-        is_loose(v)
-    } else {
-        false
-    }
+    all_within(v, b' ', 255) && is_loose(v)
 }
 
 // ---- numbers
@@ -197,28 +154,19 @@ fn is_count(v: &[u8]) -> bool
 {
     let s = sign(v);
     let digits = &v[s..];
-    if digits.len() < 1 {
-        return false;
-    }
-    all_within(digits, b'0', b'9')
+    !digits.is_empty() && all_within(digits, b'0', b'9')
 }
 
 // How many zeros lead the digits v, its last digit not counted.
 fn zeros(v: &[u8]) -> usize
     ensures { (drop result v.now ≡ strip v.now) × (result ≤ length v.now) }
 {
-    let mut i = 0;
-    while i < v.len() {
-        if v.len() - i == 1 {
-            return i;
-        }
-        if v[i] == b'0' {
-            i += 1;
-        } else {
+    for (i, b) in v.iter().enumerate() {
+        if v.len() - i == 1 || *b != b'0' {
             return i;
         }
     }
-    i
+    v.len()
 }
 
 // Where what the number v says begins: behind its sign and its leading zeros.
@@ -230,44 +178,28 @@ pub fn count_start(v: &[u8]) -> usize
     s + z
 }
 
-// What a digit is worth; 16 for what is none.
+// What a digit is worth; 16 for what is none, since one test, against the base, then refuses it with the digits past the base.
 fn digit_of(x: u8) -> u8
     ensures { result ≡ digit_of x }
 {
-    if x < b'0' {
-        return 16;
+    match x {
+        b'0'..=b'9' => x - b'0',
+        b'A'..=b'F' => x - b'A' + 10,
+        b'a'..=b'f' => x - b'a' + 10,
+        _ => 16,
     }
-    if x <= b'9' {
-        return x - b'0';
-    }
-    if x < b'A' {
-        return 16;
-    }
-    if x <= b'F' {
-        return x - 55;
-    }
-    if x < b'a' {
-        return 16;
-    }
-    if x <= b'f' {
-        return x - 87;
-    }
-    16
 }
 
 // How many digits of the base stand at the front of s.
 fn run(base: u8, s: &[u8]) -> usize
     ensures { (result ≡ run_of base s.now) × (result ≤ length s.now) }
 {
-    let mut i = 0;
-    while i < s.len() {
-        let d = digit_of(s[i]);
-        if base <= d {
+    for (i, b) in s.iter().enumerate() {
+        if base <= digit_of(*b) {
             return i;
         }
-        i += 1;
     }
-    i
+    s.len()
 }
 
 // What they are worth, or some number past 32 bits if they are worth more.
@@ -276,14 +208,12 @@ fn worth(base: u8, s: &[u8]) -> u64
     ensures { Capped (worth_in base 0 s.now) result }
 {
     let mut v: u64 = 0;
-    let mut i = 0;
-    while i < s.len() {
-        let d = digit_of(s[i]);
+    for b in s {
+        let d = digit_of(*b);
         if base <= d {
             return v;
         }
         v = v * base as u64 + d as u64;
-        i += 1;
         if MOST < v {
             return v;
         }
@@ -297,49 +227,27 @@ fn numeral_in(base: u8, s: &[u8]) -> Option<u64>
     ensures { result ≡ numeral_in base s.now }
 {
     let n = run(base, s);
-    if n < 1 {
+    if n < 1 || !is_blank(&s[n..]) {
         return None;
     }
-    if is_blank(&s[n..]) {
-        let v = worth(base, s);
-        if v <= MOST {
-            return Some(v);
-        }
-        return None;
-    }
-    None
+    let v = worth(base, s);
+    if v <= MOST { Some(v) } else { None }
 }
 
 // Does l begin with 0x or 0X?
 fn is_hex(l: &[u8]) -> bool
     ensures { result ≡ is_hex l.now }
 {
-    if l.len() < 2 {
-        return false;
-    }
-    if l[0] == b'0' {
-        if l[1] == b'x' {
-            return true;
-        }
-        return l[1] == b'X';
-    }
-    false
+    matches!(l, [b'0', b'x' | b'X', ..])
 }
 
-// The number behind 0x.
-fn hex_numeral(l: &[u8]) -> Option<u64>
-    ensures { result ≡ numeral_in 16 (unsigned l.now) }
+// The number that l says in the base, behind a `+` or not.
+fn signed_in(base: u8, l: &[u8]) -> Option<u64>
+    requires { (1 ≤ base) × (base ≤ 16) }
+    ensures { result ≡ numeral_in base (unsigned l.now) }
 {
     let s = sign(l);
-    numeral_in(16, &l[s..])
-}
-
-// The number in decimal.
-fn decimal_numeral(l: &[u8]) -> Option<u64>
-    ensures { result ≡ numeral_in 10 (unsigned l.now) }
-{
-    let s = sign(l);
-    numeral_in(10, &l[s..])
+    numeral_in(base, &l[s..])
 }
 
 // The number that a value says.
@@ -349,9 +257,10 @@ pub fn read_numeral(v: &[u8]) -> Option<u64>
     let w = lead(v);
     let l = &v[w..];
     if is_hex(l) {
-        return hex_numeral(&l[2..]);
+        signed_in(16, &l[2..])
+    } else {
+        signed_in(10, l)
     }
-    decimal_numeral(l)
 }
 
 // ---- flags
@@ -360,22 +269,14 @@ pub fn read_numeral(v: &[u8]) -> Option<u64>
 fn is_true(v: &[u8]) -> bool
     ensures { result ≡ is_among trues v.now }
 {
-    let n = find_word(b"true 1 True TRUE t Yes YES yes y", v);
-    if n < 9 {
-        return true;
-    }
-    false
+    find_word(b"true 1 True TRUE t Yes YES yes y", v) < 9
 }
 
 // Is v a spelling of false?
 fn is_false(v: &[u8]) -> bool
     ensures { result ≡ is_among falses v.now }
 {
-    let n = find_word(b"false 0 False FALSE f No NO no n", v);
-    if n < 9 {
-        return true;
-    }
-    false
+    find_word(b"false 0 False FALSE f No NO no n", v) < 9
 }
 
 // The digit for a flag; 0 for what is none.
@@ -397,31 +298,21 @@ pub fn digit_for(v: &[u8]) -> u8
 fn is_optional_words(v: &[u8]) -> bool
     ensures { result ≡ not (missing v.now) && is_words v.now }
 {
-    if is_missing(v) {
-        return false;
-    }
-    is_words(v)
+    !is_missing(v) && is_words(v)
 }
 
 // Does v say a number of at most 32 bits?
 fn is_numeral(v: &[u8]) -> bool
     ensures { result ≡ is_numeral (numeral_of v.now) }
 {
-    match read_numeral(v) {
-        Some(_) => true,
-        None => false,
-    }
+    read_numeral(v).is_some()
 }
 
 // Is v a flag?
 fn is_flag(v: &[u8]) -> bool
     ensures { result ≡ not (eqb (digit_for v.now) 0) }
 {
-    let d = digit_for(v);
-    if d == 0 {
-        return false;
-    }
-    true
+    digit_for(v) != 0
 }
 
 // May an attribute of the form f have the value v?
@@ -435,8 +326,7 @@ pub fn is_valid(f: u8, v: &[u8]) -> bool
         WORDS => is_words(v),
         OPTIONAL_WORDS => is_optional_words(v),
         HEX_NUMBER => is_numeral(v),
-        NUMBER => is_count(v),
-        OPTIONAL_NUMBER => is_count(v),
+        NUMBER | OPTIONAL_NUMBER => is_count(v),
         _ => is_flag(v),
     }
 }
