@@ -1,5 +1,5 @@
 // The values of attributes as they are written: X13 of docs/RULES.md.
-#![tactic(auto)]
+#![tactic(auto, using(crate::proofs::Laws::laws))]
 
 ghost use Rattle.append.specs.Append.{Room, Laid};
 ghost use Rattle.xml_spelling.specs.Spelling.{escape_of, escaped, hexed, flagged};
@@ -29,11 +29,8 @@ pub fn append_escaped(buffer: &mut [u8], at: usize, s: &[u8]) -> usize
     ensures { Laid (escaped s.now) buffer.old at result buffer.new }
 {
     let mut next = at;
-    let mut i = 0;
-    while i < s.len() {
-        let b = s[i];
-        next = append_escape(buffer, next, b);
-        i += 1;
+    for b in s {
+        next = append_escape(buffer, next, *b);
     }
     next
 }
