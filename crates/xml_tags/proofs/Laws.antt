@@ -51,7 +51,7 @@ module _ (s : List ℕ) (q : Bool) (i : ℕ) (inv : tag_end false s ≡ i + tag_
       → tag_end false s ≡ i + 1 + tag_end q (drop (i + 1) s)
   end_more h e t b = rw (inv, next s i h, t, ne_eqb _ _ e, ne_eqb _ _ b) (omega arith)
 
-  pub end_done : i ≤ length s → length s ≤ i → i ≡ tag_end false s
+  pub end_done : i ≤ length s → length s ≤ i → length s ≡ tag_end false s
   end_done l h = rw (inv, done s i h) (omega arith)
 
 pub ruleset end_laws = (end_quote, end_inside, end_hit, end_more, end_done)
@@ -120,19 +120,20 @@ module _ (p : List ℕ) (l : ℕ) (at-l : l ≡ lead p) (k : ℕ) (at-k : k ≡ 
       let is' : r ≡ is_equals (drop m (after (skip p))) = rw tail at (rw t-is at is) in
       rw (le-leb 1 (lead p) (rw (← at-l) h)) (rw m_is at is')
 
-  pub named_as : (n : List ℕ) (r : Bool) → r ≡ same (take k (take (length p - l) (drop l p))) n → r ≡ same (name_in p) n
-  named_as n r is = let is' : r ≡ same (take k (skip p)) n = rw s_is at is in rw k_is at is'
-
-  word_is : take k (take (length p - l) (drop l p)) ≡ name_in p
+  pub word_is : take k (take (length p - l) (drop l p)) ≡ name_in p
   word_is = rw (s_is, k_is)
 
-  pub named-form : (es : List (List ℕ)) (r : ℕ) → r ≡ form_in es (take k (take (length p - l) (drop l p))) → r ≡ form_in es (name_in p)
-  named-form es r is = is ∙ ap (form_in es) word_is
+module _ (p m : List ℕ) (is : m ≡ name_in p) where
+  pub named_as : (n : List ℕ) (r : Bool) → r ≡ same m n → r ≡ same (name_in p) n
+  named_as n r h = h ∙ ap (λ z. same z n) is
 
-  pub named_again : (ps : List (List ℕ)) (r : Bool) → r ≡ has (take k (take (length p - l) (drop l p))) ps → r ≡ has (name_in p) ps
-  named_again ps r is = is ∙ ap (λ n. has n ps) word_is
+  pub named-form : (es : List (List ℕ)) (r : ℕ) → r ≡ form_in es m → r ≡ form_in es (name_in p)
+  named-form es r h = h ∙ ap (form_in es) is
 
-pub ruleset name_laws = (equals_none, equals_rest, equals_not, name-none, name-rest, named_as, named-form, named_again, front_count)
+  pub named_again : (ps : List (List ℕ)) (r : Bool) → r ≡ has m ps → r ≡ has (name_in p) ps
+  named_again ps r h = h ∙ ap (λ n. has n ps) is
+
+pub ruleset name_laws = (equals_none, equals_rest, equals_not, name-none, name-rest, word_is, named_as, named-form, named_again, front_count)
 
 -- ---- one attribute after another: at stands at the start of one
 module _ (body n : List ℕ) (at : ℕ) (inv : has n (split 34 body) ≡ has n (split 34 (drop at body))) (p : Pair)
@@ -140,11 +141,13 @@ module _ (body n : List ℕ) (at : ℕ) (inv : has n (split 34 body) ≡ has n (
   is' : Halved (drop at body) p
   is' = rw tail at is
 
-  pub has_last : p ≡ Last → false ≡ has n (split 34 body)
-  has_last q = let h : split 34 (drop at body) ≡ drop at body ∷ [] = rw q at is' in rw (inv, h)
+  by_pair : (p : Pair) → Halved (drop at body) p → ((e f : ℕ) → p ≡ Two e f → ⊥) → has n (split 34 body) ≡ false
+  by_pair Last h m = rw (inv, h)
+  by_pair Odd h m = rw (inv, h.are)
+  by_pair (Two e f) h m = absurd (m e f refl)
 
-  pub has-odd : p ≡ Odd → false ≡ has n (split 34 body)
-  has-odd q = let h : Lone (split 34 (drop at body)) = rw q at is' in rw (inv, h.are)
+  pub has_none : ((e f : ℕ) → p ≡ Two e f → ⊥) → has n (split 34 body) ≡ false
+  has_none m = by_pair p is' m
 
   module _ (e f : ℕ) (q : p ≡ Two e f) (x : Bool) (named-n : x ≡ same (name_in (take e (take (length body - at) (drop at body)))) n) where
     two : (e + f + 2 ≤ length (drop at body)) ×
@@ -166,8 +169,8 @@ module _ (body n : List ℕ) (at : ℕ) (inv : has n (split 34 body) ≡ has n (
         (take f (drop (e + 1) (drop at body))) in
         inv ∙ ap (has n) two.1 ∙ rw (← x_is) at s
 
-    pub has_it : x ≡ true → true ≡ has n (split 34 body)
-    has_it t = sym (has_on ∙ rw t)
+    pub has_it : x ≡ true → has n (split 34 body) ≡ true
+    has_it t = has_on ∙ rw t
 
     pub has_more : x ≡ false → has n (split 34 body) ≡ has n (split 34 (drop (at + e + f + 2) body))
     has_more t =
@@ -201,19 +204,13 @@ module _ (body : List ℕ) (at : ℕ) (in-at : at ≤ length body) (p : Pair) (i
   pub pair_count : e ≡ length (take e (take (length body - at) (drop at body)))
   pair_count = front_count (take (length body - at) (drop at body)) e pair_name
 
-pub ruleset has_laws = (has_last, has-odd, has_it, has_more, pair_in, pair_fits, pair_fits_2, pair_fits_3, pair_less, pair_name, pair_count)
+pub ruleset has_laws = (has_none, has_it, has_more, pair_in, pair_fits, pair_fits_2, pair_fits_3, pair_less, pair_name, pair_count)
 
 -- ---- the value of an attribute
 module _ (body n : List ℕ) (at : ℕ) (inv : value_of n (split 34 body) ≡ value_of n (split 34 (drop at body))) (p : Pair)
     (is : Halved (take (length body - at) (drop at body)) p) where
   is_here : Halved (drop at body) p
   is_here = rw tail at is
-
-  pub value-last : p ≡ Last → Spans body n (record { start = 0; len = 0 })
-  value-last q = let h : split 34 (drop at body) ≡ drop at body ∷ [] = rw q at is_here in record { inside = omega arith; is = sym (rw (inv, h)) }
-
-  pub value-odd : p ≡ Odd → Spans body n (record { start = 0; len = 0 })
-  value-odd q = let h : Lone (split 34 (drop at body)) = rw q at is_here in record { inside = omega arith; is = sym (rw (inv, h.are)) }
 
   module _ (e f : ℕ) (q : p ≡ Two e f) (x : Bool) (named-n : x ≡ same (name_in (take e (take (length body - at) (drop at body)))) n) where
     value_step : (ps : List (List ℕ)) → 1 ≤ length ps → (a v : List ℕ) → value_of n (a ∷ v ∷ ps) ≡ cond (same (name_in a) n) v (value_of n ps)
@@ -252,7 +249,7 @@ module _ (body : List ℕ) (at : ℕ) (in-at : at ≤ length body) (p : Pair) (i
   pub pair_fits_4 : Fits w64 (at + e + 1)
   pair_fits_4 = omega (arith, pair_room body at in-at p is e f q)
 
-pub ruleset value_laws = (value-last, value-odd, value_it, value-more, pair_fits_4)
+pub ruleset value_laws = (value_it, value-more, pair_fits_4)
 
 -- ---- what is wrong with an attribute
 module _ (form : ℕ) (p : List ℕ) (ps : List (List ℕ)) (a : Bool) (named : a ≡ is_name p) where
@@ -433,22 +430,22 @@ module _ (e : List ℕ) (ps : List (List ℕ)) (f : ℕ) (form : f ≡ form_of e
       → y ≡ is_optional (form_of e) || has (name_of e) ps
   held_there t a q y h = let k : y ≡ has (name_of e) ps = rw q at (rw tail at h) in rw (← optional_now, t) k
 
--- one entry after another: the field at `at` is behind us
-module _ (row : List ℕ) (ps : List (List ℕ)) (at : ℕ) (inv : whole (drop 1 (fields row)) ps ≡ whole (drop 1 (fields (drop at row))) ps)
-    (r : Option (ℕ × ℕ)) (is : Follows (take (length row - at) (drop at row)) r) where
+-- one entry after another, in what is left of the row
+module _ (row : List ℕ) (ps : List (List ℕ)) (rest : List ℕ) (inv : whole (drop 1 (fields row)) ps ≡ whole (drop 1 (fields rest)) ps)
+    (r : Option (ℕ × ℕ)) (is : Follows rest r) where
   pub whole-last : r ≡ None → true ≡ whole (drop 1 (fields row)) ps
-  whole-last q = rw (inv, entry_last row at r is q)
+  whole-last q = rw (inv, entry_last rest r is q)
 
   module _ (a len : ℕ) (q : r ≡ Some (a, len)) (x : Bool)
-      (held : x ≡ is_optional (form_of (take (a + len - a) (drop a (take (length row - at) (drop at row)))))
-      || has (name_of (take (a + len - a) (drop a (take (length row - at) (drop at row))))) ps) where
-    whole-on : whole (drop 1 (fields row)) ps ≡ x && whole (drop 1 (fields (drop (at + a) row))) ps
-    whole-on = inv ∙ rw (entry_is row at r is a len q, ← held)
+      (held : x ≡ is_optional (form_of (take len (take (length rest - a) (drop a rest))))
+      || has (name_of (take len (take (length rest - a) (drop a rest)))) ps) where
+    whole-on : whole (drop 1 (fields row)) ps ≡ x && whole (drop 1 (fields (take (length rest - a) (drop a rest)))) ps
+    whole-on = inv ∙ rw (entry_is rest r is a len q, ← held)
 
     pub whole-not : x ≡ false → false ≡ whole (drop 1 (fields row)) ps
     whole-not t = sym (whole-on ∙ rw t)
 
-    pub whole-more : x ≡ true → whole (drop 1 (fields row)) ps ≡ whole (drop 1 (fields (drop (at + a) row))) ps
+    pub whole-more : x ≡ true → whole (drop 1 (fields row)) ps ≡ whole (drop 1 (fields (take (length rest - a) (drop a rest)))) ps
     whole-more t = whole-on ∙ rw t
 
 pub ruleset whole_laws = (

@@ -1,7 +1,7 @@
 // The tags of a document: X4 and X8 of docs/RULES.md.
-#![tactic(auto)]
+#![tactic(auto, using(crate::proofs::Laws::laws))]
 
-ghost use Rattle.std.specs.Prelude.{◌≡◌, false, not, ◌&&◌, ◌||◌, ◌+◌, ◌^◌, ◌≤◌, ◌<◌, eqb, length, take, drop};
+ghost use Rattle.std.specs.Prelude.{◌≡◌, true, false, not, ◌&&◌, ◌||◌, ◌+◌, ◌^◌, ◌≤◌, ◌<◌, eqb, length, take, drop, MatchOption};
 ghost use Rattle.text.specs.Text.{split, fields, same};
 ghost use Rattle.xml_schema.specs.Schema.{entries_of, form_of, name_of, form_in, is_optional, quote};
 ghost use Rattle.xml_tags.specs.Tags.{tag_end, name_in, is_equals, is_name, is_end, has as hasIn, fault, whole, judged, opened, shutting, tag_of, closed};
@@ -43,24 +43,14 @@ pub fn tag_end(s: &[u8]) -> usize
     ensures { (result ≡ tag_end false s.now) × (result ≤ length s.now) }
 {
     let mut quoted = false;
-    let mut i = 0;
-    while i < s.len() {
-        let b = s[i];
-        if b == b'"' {
+    for (i, b) in s.iter().enumerate() {
+        if *b == b'"' {
             quoted = !quoted;
-            i += 1;
-            continue;
-        }
-        if quoted {
-            i += 1;
-            continue;
-        }
-        if b == b'>' {
+        } else if !quoted && *b == b'>' {
             return i;
         }
-        i += 1;
     }
-    i
+    s.len()
 }
 
 // ---- attributes
@@ -85,14 +75,7 @@ fn front(r: &[u8]) -> Pair
 fn is_equals(s: &[u8]) -> bool
     ensures { result ≡ is_equals s.now }
 {
-    if s.len() < 1 {
-        return false;
-    }
-    if s[0] == b'=' {
-        is_blank(&s[1..])
-    } else {
-        false
-    }
+    s.len() > 0 && s[0] == b'=' && is_blank(&s[1..])
 }
 
 // Is p white space, a word, and `=` with white space around it?
@@ -110,99 +93,67 @@ fn is_name(p: &[u8]) -> bool
     is_equals(&t[m..])
 }
 
-// Is the name in p n?
-fn is_named(p: &[u8], n: &[u8]) -> bool
-    ensures { result ≡ same (name_in p.now) n.now }
+// The name in p.
+fn name_in(p: &[u8]) -> &[u8]
+    ensures { result.now ≡ name_in p.now }
 {
     let l = lead(p);
     let s = &p[l..];
     let k = word_len(s);
-    is_same(&s[..k], n)
+    &s[..k]
+}
+
+// Is the name in p n?
+fn is_named(p: &[u8], n: &[u8]) -> bool
+    ensures { result ≡ same (name_in p.now) n.now }
+{
+    is_same(name_in(p), n)
+}
+
+// Where the value of the attribute n stands in the body of a tag, if there is one.
+pub fn value_of(body: &[u8], n: &[u8]) -> Option<Part>
+    ensures { let there = hasIn n.now (split quote body.now) in
+        MatchOption result (there ≡ false) (λ r. (there ≡ true) × Spans body.now n.now r) }
+{
+    let mut at = 0;
+    while let Pair::Two(e, f) = front(&body[at..]) {
+        if is_named(&body[at..][..e], n) {
+            return Some(Part {
+                start: at + e + 1,
+                len: f,
+            });
+        }
+        at = at + e + f + 2;
+    }
+    None
 }
 
 // Is there an attribute n in the body of a tag?
 pub fn has(body: &[u8], n: &[u8]) -> bool
     ensures { result ≡ hasIn n.now (split quote body.now) }
 {
-    let mut at = 0;
-    loop {
-        let r = &body[at..];
-        match front(r) {
-            Pair::Last => {
-                return false;
-            }
-            Pair::Odd => {
-                return false;
-            }
-            Pair::Two(e, f) => {
-                if is_named(&r[..e], n) {
-                    return true;
-                }
-                at = at + e + f + 2;
-            }
-        }
-    }
-}
-
-// Where the value of the attribute n stands in the body of a tag; no bytes where there is none.
-pub fn value_of(body: &[u8], n: &[u8]) -> Part
-    ensures { Spans body.now n.now result }
-{
-    let mut at = 0;
-    loop {
-        let r = &body[at..];
-        match front(r) {
-            Pair::Last => {
-                return Part { start: 0, len: 0 };
-            }
-            Pair::Odd => {
-                return Part { start: 0, len: 0 };
-            }
-            Pair::Two(e, f) => {
-                if is_named(&r[..e], n) {
-                    return Part {
-                        start: at + e + 1,
-                        len: f,
-                    };
-                }
-                at = at + e + f + 2;
-            }
-        }
-    }
+    value_of(body, n).is_some()
 }
 
 // The form of the value of the attribute that p names, by a row.
 fn form_at(row: &[u8], p: &[u8]) -> u8
     ensures { result ≡ form_in (drop 1 (fields row.now)) (name_in p.now) }
 {
-    let l = lead(p);
-    let s = &p[l..];
-    let w = word_len(s);
-    form_in(row, &s[..w])
+    form_in(row, name_in(p))
 }
 
 // Does the name in p come again?
 fn is_again(p: &[u8], later: &[u8]) -> bool
     ensures { result ≡ hasIn (name_in p.now) (split quote later.now) }
 {
-    let l = lead(p);
-    let s = &p[l..];
-    let w = word_len(s);
-    has(later, &s[..w])
+    has(later, name_in(p))
 }
 
 // Is p the name of an attribute of this form, if there is one, that does not come again?
 fn is_new(form: u8, p: &[u8], later: &[u8]) -> bool
     ensures { let p = p.entry.now in result ≡ is_name p && (not (eqb form 0) && not (hasIn (name_in p) (split quote later.now))) }
 {
-    if is_name(p) {
-        if form == 0 {
-            return false;
-        }
-        if is_again(p, later) { false } else { true }
-    } else {
-        false
-    }
+    is_name(p) && form != 0 && !is_again(p, later)
 }
 
 // What is wrong with the attribute at the front of r, whose name has e bytes and whose value has f?
@@ -215,14 +166,13 @@ fn grade_of(row: &[u8], r: &[u8], e: usize, f: usize) -> Grade
     let to = from + f;
     let rest = to + 1;
     let form = form_at(row, &r[..e]);
-    if is_new(form, &r[..e], &r[rest..]) {
-        if is_valid(form, &r[from..to]) {
-            Grade::Right
-        } else {
-            Grade::WrongValue
-        }
+    if !is_new(form, &r[..e], &r[rest..]) {
+        return Grade::WrongName;
+    }
+    if is_valid(form, &r[from..to]) {
+        Grade::Right
     } else {
-        Grade::WrongName
+        Grade::WrongValue
     }
 }
 
@@ -232,10 +182,7 @@ fn is_end(r: &[u8]) -> bool
 {
     let l = lead(r);
     let s = &r[l..];
-    if is_same(s, b"") {
-        return true;
-    }
-    is_same(s, b"/")
+    is_same(s, b"") || is_same(s, b"/")
 }
 
 // The first fault in the body of a tag, by the row of its element, where the body stands from inside on.
@@ -276,48 +223,29 @@ fn fault_of(row: &[u8], body: &[u8], inside: usize) -> Option<usize>
 fn is_optional(form: u8) -> bool
     ensures { result ≡ is_optional form }
 {
-    match form {
-        OPTIONAL_WORDS => true,
-        OPTIONAL_NUMBER => true,
-        FLAG => true,
-        FURTHER_FLAG => true,
-        _ => false,
-    }
+    matches!(form, OPTIONAL_WORDS | OPTIONAL_NUMBER | FLAG | FURTHER_FLAG)
 }
 
 // Is the attribute of an entry there, or may it be missing?
 fn is_held(entry: &[u8], body: &[u8]) -> bool
     ensures { let e = entry.now in result ≡ is_optional (form_of e) || hasIn (name_of e) (split quote body.now) }
 {
-    let form = form_of(entry);
-    if is_optional(form) {
-        return true;
-    }
     let a = name_start(entry);
-    has(body, &entry[a..])
+    is_optional(form_of(entry)) || has(body, &entry[a..])
 }
 
 // Is each attribute of the row there that may not be missing?
 fn is_whole(row: &[u8], body: &[u8]) -> bool
     ensures { result ≡ whole (drop 1 (fields row.now)) (split quote body.now) }
 {
-    let mut at = 0;
-    loop {
-        let rest = &row[at..];
-        match next_entry(rest) {
-            None => {
-                return true;
-            }
-            Some((a, len)) => {
-                let end = a + len;
-                if is_held(&rest[a..end], body) {
-                    at += a;
-                } else {
-                    return false;
-                }
-            }
+    let mut rest = row;
+    while let Some((a, len)) = next_entry(rest) {
+        rest = &rest[a..];
+        if !is_held(&rest[..len], body) {
+            return false;
         }
     }
+    true
 }
 
 // ---- a tag
@@ -370,13 +298,11 @@ fn shut_tag(l: &[u8], place: usize) -> Tag
 {
     let w = word_len(l);
     let k = element_of(&l[..w]);
-    if k < COUNT {
-        if is_blank(&l[w..]) {
-            return Tag::Shut(k);
-        }
-        return Tag::Bad(place);
+    if k < COUNT && is_blank(&l[w..]) {
+        Tag::Shut(k)
+    } else {
+        Tag::Bad(place)
     }
-    Tag::Bad(place)
 }
 
 // What the tag c is.
@@ -385,17 +311,13 @@ pub fn read_tag(c: &[u8]) -> Tag
 {
     let l = lead(c);
     let s = &c[l..];
-    if s.len() < 2 {
+    if s.len() < 2 || s[0] != b'<' {
         return Tag::Bad(l);
     }
-    if s[0] == b'<' {
-        if s[1] == b'/' {
-            shut_tag(&s[2..], l)
-        } else {
-            open_tag(&s[1..], l)
-        }
+    if s[1] == b'/' {
+        shut_tag(&s[2..], l)
     } else {
-        Tag::Bad(l)
+        open_tag(&s[1..], l)
     }
 }
 
@@ -403,9 +325,5 @@ pub fn read_tag(c: &[u8]) -> Tag
 pub fn is_closed(c: &[u8]) -> bool
     ensures { result ≡ closed c.now }
 {
-    if c.len() == 0 {
-        return false;
-    }
-    let b = c[c.len() - 1];
-    if b == b'/' { true } else { false }
+    matches!(c, [.., b'/'])
 }
