@@ -36,15 +36,14 @@ fn first_fault(letter: u8, s: &[u8]) -> Advice
         let e = find(rest, 9);
         let want = want_of(letter, k);
         let fault = crate::fault::find_fault(want, &rest[..e]);
-        if fault.is_right() {
-            if e == rest.len() {
-                return Advice::Fine;
-            }
-            at = at + e + 1;
-            k += 1;
-        } else {
+        if !fault.is_right() {
             return Advice::Field(k, want, fault);
         }
+        if e == rest.len() {
+            return Advice::Fine;
+        }
+        at = at + e + 1;
+        k += 1;
     }
 }
 
@@ -78,7 +77,7 @@ fn advise(letter: u8, n: usize, line: &[u8]) -> Advice
 pub fn advise_frame(line: &[u8]) -> Advice
     ensures { result ≡ frame_advice line.now }
 {
-    if line.len() == 0 {
+    if line.is_empty() {
         return Advice::Empty;
     }
     let letter = letter_of(line);
@@ -89,7 +88,7 @@ pub fn advise_frame(line: &[u8]) -> Advice
 pub fn advise_command(line: &[u8]) -> Advice
     ensures { result ≡ command_advice line.now }
 {
-    if line.len() == 0 {
+    if line.is_empty() {
         return Advice::Empty;
     }
     let letter = letter_of(line);

@@ -57,22 +57,7 @@ impl Fault {
     pub fn is_right(self) -> bool
         ensures { result ≡ is_right self }
     {
-        match self {
-            Fault::Right => true,
-            Fault::Empty => false,
-            Fault::Dash => false,
-            Fault::NotDigit(_) => false,
-            Fault::LeadingZero => false,
-            Fault::Over => false,
-            Fault::TooLong => false,
-            Fault::Unprintable(_) => false,
-            Fault::Dot(_) => false,
-            Fault::EmptyPart(_) => false,
-            Fault::DashPart(_) => false,
-            Fault::LongPart(_) => false,
-            Fault::NoType => false,
-            Fault::NoFlags => false,
-        }
+        matches!(self, Fault::Right)
     }
 }
 
@@ -99,18 +84,12 @@ fn is_wanted(want: Want, s: &[u8]) -> bool
 fn find_outside(s: &[u8], lo: u8, hi: u8) -> usize
     ensures { (result ≡ outside lo hi s.now) × (result ≤ length s.now) }
 {
-    let mut i = 0;
-    while i < s.len() {
-        let b = s[i];
-        if b < lo {
+    for (i, &b) in s.iter().enumerate() {
+        if b < lo || hi < b {
             return i;
         }
-        if hi < b {
-            return i;
-        }
-        i += 1;
     }
-    i
+    s.len()
 }
 
 // Why s isn't the number that it should be.
@@ -152,7 +131,7 @@ fn why_part(s: &[u8], at: usize) -> Fault
     requires { at + length s.now < 2 ^ 64 }
     ensures { result ≡ why_part at s.now }
 {
-    if s.len() == 0 {
+    if s.is_empty() {
         return Fault::EmptyPart(at);
     }
     if is_missing(s) {
@@ -175,11 +154,10 @@ fn why_parts(s: &[u8]) -> Fault
         if e == rest.len() {
             return why_part(rest, at);
         }
-        if is_name(&rest[..e]) {
-            at = at + e + 1;
-        } else {
+        if !is_name(&rest[..e]) {
             return why_part(&rest[..e], at);
         }
+        at = at + e + 1;
     }
 }
 
@@ -198,17 +176,12 @@ fn why_not(want: Want, s: &[u8]) -> Fault
     ensures { result ≡ why want s.now }
 {
     match want {
-        Want::Number(_) => why_number(s),
-        Want::OptionalNumber(_) => why_number(s),
-        Want::Level => why_number(s),
-        Want::Name => why_name(s),
+        Want::Number(_) | Want::OptionalNumber(_) | Want::Level => why_number(s),
+        Want::Name | Want::OptionalName => why_name(s),
         Want::Plain => why_plain(s),
-        Want::OptionalName => why_name(s),
-        Want::Path => why_path(s),
-        Want::OptionalPath => why_path(s),
+        Want::Path | Want::OptionalPath => why_path(s),
         Want::Flags => Fault::NoFlags,
-        Want::FrameType => Fault::NoType,
-        Want::CommandType => Fault::NoType,
+        Want::FrameType | Want::CommandType => Fault::NoType,
     }
 }
 
@@ -219,7 +192,7 @@ pub fn find_fault(want: Want, s: &[u8]) -> Fault
     if is_wanted(want, s) {
         return Fault::Right;
     }
-    if s.len() == 0 {
+    if s.is_empty() {
         return Fault::Empty;
     }
     if is_missing(s) {

@@ -6,7 +6,7 @@ ghost use Rattle.text_faults.specs.Form.{want_variant, want_bits, want_array, wa
 
 use crate::fault::Want;
 
-// How many fields follow a letter of a frame text; 0 where it is none.
+// How many fields follow a letter of a frame text; 0 where it is none. No Option, since specs/Form and the theorems on it say 0.
 pub fn frame_count(letter: u8) -> usize
     ensures { result ≡ frame_count letter }
 {

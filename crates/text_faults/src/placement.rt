@@ -21,10 +21,7 @@ pub enum Misplaced {
 pub fn is_too_deep(line: &[u8]) -> bool
     ensures { result ≡ too_deep (fields line.now) }
 {
-    if text::is_number(field_of(line, 1), 7) {
-        return false;
-    }
-    true
+    !text::is_number(field_of(line, 1), 7)
 }
 
 // What a line of a frame text lacks, which is refused by 3.
@@ -43,7 +40,7 @@ pub fn frame_misplaced(line: &[u8]) -> Misplaced
     Misplaced::SizePath
 }
 
-// The field of a line with this letter that is a shift; 0 where it has none.
+// The field of a line with this letter that is a shift; 0 where it has none, as specs/Placement says it.
 pub fn shift_field(letter: u8) -> usize
     ensures { result ≡ shift_field letter }
 {

@@ -1,6 +1,6 @@
 -- The laws that the proofs of this crate's functions go by. Assumes nothing.
 use mathlib.Core.Path.{◌≡◌}
-use mathlib.Core.Bool.{Bool, true, false}
+use mathlib.Core.Bool.{Bool, true, false, not}
 use mathlib.Core.List.{List}
 use Prim.Native.Nat.{ℕ}
 use borrow.Author.Tests.{eq-eqb, ne_eqb}
@@ -10,11 +10,8 @@ use Rattle.text_faults.specs.Placement.{too_deep, shift_field, frame_misplaced, 
 use Rattle.text_faults.specs.declared.placement.Misplaced.TheVariants.{Owner, Parent, SizePath, Shift}
 
 module _ (fs : List (List ℕ)) (l : List ℕ) (first : l ≡ field 1 fs) (b : Bool) (is : b ≡ up_to 7 l) where
-  pub deep-not : b ≡ true → false ≡ too_deep fs
-  deep-not e = rw (← first, ← is, e)
-
-  pub deep : b ≡ false → true ≡ too_deep fs
-  deep e = rw (← first, ← is, e)
+  pub deep : not b ≡ too_deep fs
+  deep = rw (← first, ← is)
 
 module _ (fs : List (List ℕ)) (c : ℕ) (c-is : c ≡ kind_of fs) where
   pub misplaced-other : (c ≡ 0x50 → ⊥) → Owner ≡ frame_misplaced fs
@@ -42,4 +39,4 @@ module _ (fs : List (List ℕ)) (c : ℕ) (c-is : c ≡ kind_of fs) (k : ℕ) (k
     pub misplaced-shift : b ≡ false → Shift ≡ command_misplaced fs
     misplaced-shift e = rw (← c-is, ← k_is, ne_eqb k 0 some, ← at-k, ← is, e)
 
-pub ruleset laws = (deep-not, deep, misplaced-other, misplaced-outer, misplaced-parent, misplaced-size, misplaced_shiftless, misplaced-owner, misplaced-shift)
+pub ruleset laws = (deep, misplaced-other, misplaced-outer, misplaced-parent, misplaced-size, misplaced_shiftless, misplaced-owner, misplaced-shift)

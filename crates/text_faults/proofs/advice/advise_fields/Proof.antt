@@ -1,9 +1,0 @@
--- `text_faults::advice::advise_fields` meets its contract, by the laws of the crate. Assumes nothing.
-use Rattle.text_faults.proofs.advice.Laws.{laws}
-use borrow.Author.Rules.{rules}
-use Rattle.text_faults.proofs.advice.advise_fields.Statement.{statement}
-use Rattle.text_faults.proofs.advice.advise_fields.Tie as tie
-
-pub advise_fields_spec : {M : Type 1} → statement M
-advise_fields_spec =
-    tie.close (tie.spec (λ c κs. search (rules, laws)) (λ c. search (rules, laws)) (λ c κs. search (rules, laws)) (λ c. search (rules, laws)))

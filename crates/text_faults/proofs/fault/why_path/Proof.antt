@@ -1,8 +1,0 @@
--- `text_faults::fault::why_path` meets its contract, by the laws of the crate. Assumes nothing.
-use Rattle.text_faults.proofs.fault.Laws.{part_laws}
-use borrow.Author.Rules.{rules}
-use Rattle.text_faults.proofs.fault.why_path.Statement.{statement}
-use Rattle.text_faults.proofs.fault.why_path.Tie as tie
-
-pub why_path_spec : {M : Type 1} → statement M
-why_path_spec = tie.close (tie.spec (λ c. search (rules, part_laws)) (λ c κs. search (rules, part_laws)) (λ c. search (rules, part_laws)))
