@@ -1,6 +1,5 @@
 // The word `check`: is a definition text accepted, and if not, what is wrong with it?
 use crate::check_page::{Kind, check_command, check_frame, kind_of};
-use check::same;
 use files::arguments::{argument, argument_count};
 use files::input::{File, Got, Reader, open_argument};
 use output::outcome::{fail, fail_file};
@@ -16,36 +15,27 @@ fn fail_kind(name: &[u8]) {
     );
 }
 
-fn check_text(name: &[u8], text: &[u8], kind: Kind) {
-    match kind {
-        Kind::Frame => check_frame(name, text),
-        Kind::Command => check_command(name, text),
-        Kind::Unknown => fail_kind(name),
-    }
-}
-
-// The kind that an option says, or that the text itself shows where there is none.
-fn said_or_shown(said: Kind, text: &[u8]) -> Kind {
-    match said {
-        Kind::Frame => Kind::Frame,
-        Kind::Command => Kind::Command,
-        Kind::Unknown => kind_of(text),
+// A text of the kind that an option says, or that it shows itself where there is none.
+fn check_text(name: &[u8], text: &[u8], said: Option<Kind>) {
+    match said.or_else(|| kind_of(text)) {
+        Some(Kind::Frame) => check_frame(name, text),
+        Some(Kind::Command) => check_command(name, text),
+        None => fail_kind(name),
     }
 }
 
 // The text of a file. One too long for the block is too long for a text too.
-fn check_file<R: Files + Input>(name: &[u8], reader: &mut Reader<R>, said: Kind) {
+fn check_file<R: Files + Input>(name: &[u8], reader: &mut Reader<R>, said: Option<Kind>) {
     let mut block = io::large_buffer();
     let Got::Bytes(n) = files::input::read_file(reader, &mut block) else {
         fail_file(name, reader.error());
         return;
     };
-    let kind = said_or_shown(said, &block[..n]);
-    check_text(name, &block[..n], kind);
+    check_text(name, &block[..n], said);
 }
 
 // The text that argument k names.
-fn check_argument(rt: &(impl Env + Files + Input), k: usize, said: Kind) {
+fn check_argument(rt: &(impl Env + Files + Input), k: usize, said: Option<Kind>) {
     let mut name = io::buffer();
     let File::Open(mut reader, n) = open_argument(rt, k, &mut name) else {
         return;
@@ -57,15 +47,11 @@ fn check_argument(rt: &(impl Env + Files + Input), k: usize, said: Kind) {
 fn check_said(rt: &(impl Env + Files + Input)) {
     let mut option = io::buffer();
     let n = argument(rt, 2, &mut option);
-    if same(&option[..n], b"--frame") {
-        check_argument(rt, 3, Kind::Frame);
-        return;
+    match &option[..n] {
+        b"--frame" => check_argument(rt, 3, Some(Kind::Frame)),
+        b"--command" => check_argument(rt, 3, Some(Kind::Command)),
+        _ => fail_usage(),
     }
-    if same(&option[..n], b"--command") {
-        check_argument(rt, 3, Kind::Command);
-        return;
-    }
-    fail_usage();
 }
 
 fn fail_usage() {
@@ -77,7 +63,7 @@ fn fail_usage() {
 // `tap check FILE`.
 pub fn check_definition(rt: &(impl Env + Files + Input)) {
     match argument_count(rt) {
-        3 => check_argument(rt, 2, Kind::Unknown),
+        3 => check_argument(rt, 2, None),
         4 => check_said(rt),
         _ => fail_usage(),
     }

@@ -1,6 +1,4 @@
 // What `tap check` says of a definition text, with the last line of the output.
-ghost use Rattle.std.specs.Prelude.{◌≤◌};
-
 use crate::check_words::{
     say_command_form, say_command_limit, say_command_owner, say_frame_form, say_frame_limit,
     say_frame_owner,
@@ -19,15 +17,20 @@ use text_faults::line_form::{command_count, frame_count};
 pub enum Kind {
     Frame,
     Command,
-    // No line of it begins with a letter of either.
-    Unknown,
+}
+
+fn word_of(kind: Kind) -> &'static [u8] {
+    match kind {
+        Kind::Frame => b"frame",
+        Kind::Command => b"command",
+    }
 }
 
 // What a text is taken for: the first line that begins with a letter of one of them decides. An empty text is that of a
 // command without parameters.
-pub fn kind_of(text: &[u8]) -> Kind {
-    if text.len() == 0 {
-        return Kind::Command;
+pub fn kind_of(text: &[u8]) -> Option<Kind> {
+    if text.is_empty() {
+        return Some(Kind::Command);
     }
     let mut at = 0;
     loop {
@@ -35,13 +38,13 @@ pub fn kind_of(text: &[u8]) -> Kind {
         let e = find(rest, 10);
         let letter = letter_of(&rest[..e]);
         if frame_count(letter) != 0 {
-            return Kind::Frame;
+            return Some(Kind::Frame);
         }
         if command_count(letter) != 0 {
-            return Kind::Command;
+            return Some(Kind::Command);
         }
         if e == rest.len() {
-            return Kind::Unknown;
+            return None;
         }
         at = at + e + 1;
     }
@@ -49,23 +52,13 @@ pub fn kind_of(text: &[u8]) -> Kind {
 
 // A line of a text, from 1, without its end.
 fn line_of(text: &[u8], line: usize) -> &[u8] {
-    let part = find_piece(text, 10, index_of(line));
+    let part = find_piece(text, 10, line.saturating_sub(1));
     let a = part.start;
     let e = a + part.len;
     &text[a..e]
 }
 
-fn index_of(line: usize) -> usize {
-    if line == 0 { 0 } else { line - 1 }
-}
-
-// Does a line begin with the letter? 1 if so, else 0.
-fn tally(line: &[u8], letter: u8) -> usize
-    ensures { result ≤ 1 }
-{
-    if letter_of(line) == letter { 1 } else { 0 }
-}
-
+// How many lines of a text begin with the letter.
 fn count_lines(text: &[u8], letter: u8) -> usize {
     let mut n = 0;
     let mut at = 0;
@@ -75,7 +68,9 @@ fn count_lines(text: &[u8], letter: u8) -> usize {
         if e == rest.len() {
             return n;
         }
-        n += tally(&rest[..e], letter);
+        if letter_of(&rest[..e]) == letter {
+            n += 1;
+        }
         at = at + e + 1;
     }
 }
@@ -100,25 +95,23 @@ fn say_tally(text: &[u8], letter: u8, is_told: bool) -> bool {
 // The same for each of these letters.
 fn say_tallies(text: &[u8], letters: &[u8]) {
     let mut is_told = false;
-    let mut i = 0;
-    while i < letters.len() {
-        is_told = say_tally(text, letters[i], is_told);
-        i += 1;
+    for &letter in letters {
+        is_told = say_tally(text, letter, is_told);
     }
 }
 
 fn say_lines(text: &[u8], letters: &[u8]) {
-    if text.len() == 0 {
+    if text.is_empty() {
         say(b" no");
         return;
     }
     say_tallies(text, letters);
 }
 
-fn say_accepted(name: &[u8], what: &[u8], text: &[u8], letters: &[u8]) {
+fn say_accepted(name: &[u8], kind: Kind, text: &[u8], letters: &[u8]) {
     show(name);
     say(b" is an accepted ");
-    say(what);
+    say(word_of(kind));
     say(b" text:");
     say_lines(text, letters);
     say(b" lines\n");
@@ -136,16 +129,16 @@ fn say_retired(text: &[u8]) {
 }
 
 // By which number a line is refused, and the line.
-fn say_line(name: &[u8], what: &[u8], refusal: Refusal, line: &[u8]) {
+fn say_line(name: &[u8], kind: Kind, refusal: Refusal, line: &[u8]) {
     show(name);
     say(b", taken for a ");
-    say(what);
+    say(word_of(kind));
     say(b" text, is refused by ");
     say_number(refusal.number() as usize);
     say(b" at line ");
     say_number(refusal.carried());
     say(b":\n  ");
-    if line.len() != 0 {
+    if !line.is_empty() {
         show(line);
         say(b"\n  ");
     }
@@ -158,90 +151,72 @@ fn say_too_long(name: &[u8]) {
     );
 }
 
-fn say_form(is_frame: bool, text: &[u8], k: usize, line: &[u8]) {
-    if is_frame {
-        say_frame_form(advise_frame_line(text, k), line);
-        return;
+fn say_form(kind: Kind, text: &[u8], k: usize, line: &[u8]) {
+    match kind {
+        Kind::Frame => say_frame_form(advise_frame_line(text, k), line),
+        Kind::Command => say_command_form(advise_command_line(text, k), line),
     }
-    say_command_form(advise_command_line(text, k), line);
 }
 
-fn say_limit(is_frame: bool, line: &[u8]) {
-    if is_frame {
-        say_frame_limit(line);
-        return;
+fn say_limit(kind: Kind, line: &[u8]) {
+    match kind {
+        Kind::Frame => say_frame_limit(line),
+        Kind::Command => say_command_limit(line),
     }
-    say_command_limit(line);
 }
 
-fn say_owner(is_frame: bool, line: &[u8]) {
-    if is_frame {
-        say_frame_owner(line);
-        return;
+fn say_owner(kind: Kind, line: &[u8]) {
+    match kind {
+        Kind::Frame => say_frame_owner(line),
+        Kind::Command => say_command_owner(line),
     }
-    say_command_owner(line);
 }
 
 // Why a line is refused. No text is refused by a number above 3.
-fn say_reason(is_frame: bool, text: &[u8], refusal: Refusal, line: &[u8]) {
+fn say_reason(kind: Kind, text: &[u8], refusal: Refusal, line: &[u8]) {
     match refusal {
-        Refusal::Form(n) => say_form(is_frame, text, index_of(n), line),
-        Refusal::Limit(_) => say_limit(is_frame, line),
-        Refusal::Owner(_) => say_owner(is_frame, line),
-        Refusal::TooLong(_) => {}
-        Refusal::TooShort(_) => {}
-        Refusal::NoBase(_) => {}
-        Refusal::NoCandidate => {}
-        Refusal::MoreRows(_) => {}
-        Refusal::NotAFrame => {}
-        Refusal::PastLimit => {}
-        Refusal::NoSuchField(_) => {}
-        Refusal::MoreBytes(_) => {}
-        Refusal::Firmware(_) => {}
-        Refusal::Xml(_) => {}
-        Refusal::NotPlain(_) => {}
-        Refusal::Listing(_) => {}
+        Refusal::Form(n) => say_form(kind, text, n.saturating_sub(1), line),
+        Refusal::Limit(_) => say_limit(kind, line),
+        Refusal::Owner(_) => say_owner(kind, line),
+        _ => {}
     }
 }
 
 // By which number a text is refused, and why.
-fn say_refusal(name: &[u8], what: &[u8], is_frame: bool, text: &[u8], refusal: Refusal) {
+fn say_refusal(name: &[u8], kind: Kind, text: &[u8], refusal: Refusal) {
     if refusal.carried() == 0 {
         say_too_long(name);
         return;
     }
     let line = line_of(text, refusal.carried());
-    say_line(name, what, refusal, line);
-    say_reason(is_frame, text, refusal, line);
+    say_line(name, kind, refusal, line);
+    say_reason(kind, text, refusal, line);
+}
+
+// What is said of a text that is refused, with the last line of the output.
+fn refuse_kind(name: &[u8], kind: Kind, text: &[u8], refusal: Refusal) {
+    say_refusal(name, kind, text, refusal);
+    say(b"\n");
+    output::outcome::refuse(refusal);
 }
 
 // What is said of a text that is taken for a frame text.
 pub fn check_frame(name: &[u8], text: &[u8]) {
-    match check_frame_text(text) {
-        Ok(()) => {
-            say_accepted(name, b"frame", text, b"FBHPVDE");
-            output::outcome::succeed();
-        }
-        Err(refusal) => {
-            say_refusal(name, b"frame", true, text, refusal);
-            say(b"\n");
-            output::outcome::refuse(refusal);
-        }
+    if let Err(refusal) = check_frame_text(text) {
+        refuse_kind(name, Kind::Frame, text, refusal);
+        return;
     }
+    say_accepted(name, Kind::Frame, text, b"FBHPVDE");
+    output::outcome::succeed();
 }
 
 // The same of a command text.
 pub fn check_command(name: &[u8], text: &[u8]) {
-    match check_command_text(text) {
-        Ok(()) => {
-            say_accepted(name, b"command", text, b"QGRATSUKM");
-            say_retired(text);
-            output::outcome::succeed();
-        }
-        Err(refusal) => {
-            say_refusal(name, b"command", false, text, refusal);
-            say(b"\n");
-            output::outcome::refuse(refusal);
-        }
+    if let Err(refusal) = check_command_text(text) {
+        refuse_kind(name, Kind::Command, text, refusal);
+        return;
     }
+    say_accepted(name, Kind::Command, text, b"QGRATSUKM");
+    say_retired(text);
+    output::outcome::succeed();
 }

@@ -104,11 +104,9 @@ E\tit is the 65th E of its D, and 64 are the most
 // Refusal 2, of a line of a frame text.
 pub fn say_frame_limit(line: &[u8]) {
     let letter = letter_of(line);
-    if letter == b'P' {
-        if is_too_deep(line) {
-            say_too_great(line, 1);
-            return;
-        }
+    if letter == b'P' && is_too_deep(line) {
+        say_too_great(line, 1);
+        return;
     }
     say_most(letter);
 }

@@ -33,13 +33,11 @@ M\tlength
 
 // The names of the n fields after a letter.
 pub fn say_fields(letter: u8, n: usize) {
-    let mut k = 0;
-    while k < n {
+    for k in 0..n {
         if 0 < k {
             say(b", ");
         }
-        k += 1;
-        say_field(letter, k);
+        say_field(letter, k + 1);
     }
 }
 

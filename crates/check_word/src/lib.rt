@@ -1,5 +1,5 @@
 // The word `check`: is a definition text accepted, and if not, what is wrong with it?
-#![tactic(auto)]
+#![tactic(auto, using(readers::proofs::line_fields::Laws::step_laws, text::proofs::Laws::front_count))]
 
 pub mod check_file;
 pub mod check_page;
