@@ -18,11 +18,7 @@ const SMALL: u8 = b'a';
 
 // Writes the first n bytes, or all where there are fewer. What cannot be written is lost: there is nobody to tell.
 fn write_first(bytes: &[u8], n: usize) {
-    if n < bytes.len() {
-        io::write_all(STDOUT_FILENO, &bytes[..n]);
-        return;
-    }
-    io::write_all(STDOUT_FILENO, bytes);
+    io::write_all(STDOUT_FILENO, &bytes[..n.min(bytes.len())]);
 }
 
 // Writes what has gathered. The buffer is as good as empty then.
@@ -31,7 +27,7 @@ pub fn flush(out: &Buffer, at: usize) {
 }
 
 pub fn put_byte(out: &mut Buffer, at: usize, byte: u8) -> usize {
-    if at < 4096 {
+    if at < out.len() {
         out[at] = byte;
         return at + 1;
     }
@@ -42,27 +38,23 @@ pub fn put_byte(out: &mut Buffer, at: usize, byte: u8) -> usize {
 
 pub fn put(out: &mut Buffer, at: usize, bytes: &[u8]) -> usize {
     let mut place = at;
-    let mut i: usize = 0;
-    while i < bytes.len() {
-        place = put_byte(out, place, bytes[i]);
-        i += 1;
+    for byte in bytes {
+        place = put_byte(out, place, *byte);
     }
     place
 }
 
 pub fn put_spaces(out: &mut Buffer, at: usize, n: usize) -> usize {
     let mut place = at;
-    let mut i: usize = 0;
-    while i < n {
+    for _ in 0..n {
         place = put_byte(out, place, b' ');
-        i += 1;
     }
     place
 }
 
 // How many spaces bring `taken` bytes to a width.
 fn padding(width: usize, taken: usize) -> usize {
-    if taken < width { width - taken } else { 0 }
+    width.saturating_sub(taken)
 }
 
 // Bytes at the right of a column.
@@ -115,10 +107,8 @@ fn put_pair(out: &mut Buffer, at: usize, byte: u8) -> usize {
 // The two digits of each byte.
 pub fn put_hex(out: &mut Buffer, at: usize, bytes: &[u8]) -> usize {
     let mut place = at;
-    let mut i: usize = 0;
-    while i < bytes.len() {
-        place = put_pair(out, place, bytes[i]);
-        i += 1;
+    for byte in bytes {
+        place = put_pair(out, place, *byte);
     }
     place
 }
