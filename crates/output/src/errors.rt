@@ -27,22 +27,17 @@ impl Write for Printed {
 fn count_words(printed: &[u8]) -> usize
     ensures { result ≤ length printed.now }
 {
-    let mut i: usize = 0;
-    while i < printed.len() {
+    for i in 0..printed.len() {
         if printed[i..].starts_with(&NUMBERED) {
             return i;
         }
-        i += 1;
     }
-    i
+    printed.len()
 }
 
 // The first n bytes, or all where there are fewer.
 fn first(bytes: &[u8], n: usize) -> &[u8] {
-    if n < bytes.len() {
-        return &bytes[..n];
-    }
-    bytes
+    &bytes[..n.min(bytes.len())]
 }
 
 // Writes an error without its number.

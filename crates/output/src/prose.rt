@@ -14,31 +14,23 @@ pub fn say_number(n: usize) {
 
 // A byte that isn't printable.
 fn put_escaped(out: &mut Buffer, at: usize, byte: u8) -> usize {
-    let one = [byte];
     let place = put(out, at, b"\\x");
-    put_hex(out, place, &one)
+    put_hex(out, place, &[byte])
 }
 
 // A byte so that it can be seen: a tab by its name, any other that isn't printable by its number.
 fn put_shown(out: &mut Buffer, at: usize, byte: u8) -> usize {
-    if byte == 9 {
-        return put(out, at, b"<TAB>");
+    match byte {
+        b'\t' => put(out, at, b"<TAB>"),
+        b' '..=b'~' => put_byte(out, at, byte),
+        _ => put_escaped(out, at, byte),
     }
-    if byte < 0x20 {
-        return put_escaped(out, at, byte);
-    }
-    if 0x7e < byte {
-        return put_escaped(out, at, byte);
-    }
-    put_byte(out, at, byte)
 }
 
 fn put_all(out: &mut Buffer, bytes: &[u8]) -> usize {
     let mut at = 0;
-    let mut i: usize = 0;
-    while i < bytes.len() {
-        at = put_shown(out, at, bytes[i]);
-        i += 1;
+    for byte in bytes {
+        at = put_shown(out, at, *byte);
     }
     at
 }
@@ -51,10 +43,8 @@ fn show_all(bytes: &[u8]) {
 
 // The bytes of a text: the first of them where there are many.
 pub fn show(bytes: &[u8]) {
-    if bytes.len() <= SHOWN {
-        show_all(bytes);
-        return;
+    show_all(&bytes[..bytes.len().min(SHOWN)]);
+    if SHOWN < bytes.len() {
+        say(b"..");
     }
-    show_all(&bytes[..SHOWN]);
-    say(b"..");
 }

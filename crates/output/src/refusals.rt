@@ -64,8 +64,7 @@ fn bracketed(refusal: Refusal) -> usize {
 
 // How many spaces bring `taken` bytes and `more` to a width.
 fn padding(width: usize, taken: usize, more: usize) -> usize {
-    let all = wrapping_add_usize(taken, more);
-    if all < width { width - all } else { 0 }
+    width.saturating_sub(wrapping_add_usize(taken, more))
 }
 
 // A name between a mark and what it means, with the refusal's number behind it, at the left of a column.
@@ -140,7 +139,7 @@ fn put_reason(out: &mut Buffer, at: usize, refusal: Refusal, most: u64) -> usize
     place = put_number(out, place, refusal.carried() as u64);
     place = put(out, place, words_of(words, refusal, 2));
     let behind = words_of(words, refusal, 3);
-    if behind.len() == 0 {
+    if behind.is_empty() {
         return place;
     }
     place = put_number(out, place, most);
