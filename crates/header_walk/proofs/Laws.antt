@@ -21,7 +21,6 @@ use Rattle.header_rules.specs.Span.{extent_at, extents_at}
 use Rattle.header_rules.proofs.Span.{Grows, grow_length, inside_extents, outer_extents, field_grows, walked_grows}
 use Rattle.header_paths.specs.Scratch.{scratch_width, rows_in}
 use Rattle.header_paths.specs.declared.order.Next.{Next}
-use Rattle.header_paths.specs.declared.order.Next.TheVariants.{At, Done}
 use Rattle.header_paths.specs.Order.{list_from, IsNext}
 use Rattle.header_paths.proofs.Fields.{said_in, fields-length}
 use Rattle.header_paths.proofs.Scratch.{length-rows_in, rows_in-take}
@@ -155,15 +154,15 @@ module _ (ps : List Numbered) (d u u' : List ℕ) (left i s p n : ℕ) (f : Opti
 
 -- ---- the next field of a list
 
-module _ (t : List ℕ) (count level i order place : ℕ) (r : Next) (er : IsNext t count level i order place r) (j o w : ℕ) (e : r ≡ At j o w)
+module _ (t : List ℕ) (count level i order place : ℕ) (r : Option Next) (er : IsNext t count level i order place r) (inner : Next) (e : r ≡ Some inner)
     (few : count ≤ 128) (i≤n : i ≤ count) where
-  pub next_in : j < count
-  next_in = (chosen [] t count level i order place r er j o w e few i≤n).within
+  pub next_in : inner.place < count
+  next_in = (chosen [] t count level i order place r er inner e few i≤n).within
 
-  pub next_level : (left : ℕ) → level + left ≡ 7 → level_in t j + left ≡ 7
-  next_level left h = let q = (chosen [] t count level i order place r er j o w e few i≤n).level_is in omega arith
+  pub next_level : (left : ℕ) → level + left ≡ 7 → level_in t inner.place + left ≡ 7
+  next_level left h = let q = (chosen [] t count level i order place r er inner e few i≤n).level_is in omega arith
 
-  pub next_fits : Fits w64 (j + 1)
+  pub next_fits : Fits w64 (inner.place + 1)
   next_fits = let h = next_in in record { fits = omega arith }
 
 -- ---- the fields inside a field
@@ -206,49 +205,49 @@ module _ (x t d : List ℕ) (count left i end width n : ℕ) (u₀ : List ℕ) w
         same = refl;
       }
 
-  module _ (u : List ℕ) (level order place room bit next : ℕ) (g : Going x t d count left i end width n u₀ u level order place room bit next) (r : Next)
+  module _ (u : List ℕ) (level order place room bit next : ℕ) (g : Going x t d count left i end width n u₀ u level order place room bit next) (r : Option Next)
       (er : IsNext t count level (i + 1) order place r) where
     ended : rows_in u next ≡ inner_done (fields_in x t count) d left i end width (rows_in u₀ n)
         → Fills u (inner_done (fields_in x t count) d left i end width (rows_in u₀ n)) next
     ended e = record { count = rw (← e, length-rows_in) refl; rows = rw (← e, length-rows_in) refl }
 
-    pub inner_ends : r ≡ Done → Fills u (inner_done (fields_in x t count) d left i end width (rows_in u₀ n)) next
+    pub inner_ends : r ≡ None → Fills u (inner_done (fields_in x t count) d left i end width (rows_in u₀ n)) next
     unfolding flat_packed
     inner_ends e = ended (rw (none_left x t count level (i + 1) order place r er e) at g.rows)
 
-    module _ (j o w : ℕ) (e : r ≡ At j o w) where
-      is : count ≤ 128 → i < count → Chosen x t count level (i + 1) order place j o w
-      is few h = chosen x t count level (i + 1) order place r er j o w e few (omega arith)
+    module _ (inner : Next) (e : r ≡ Some inner) where
+      is : count ≤ 128 → i < count → Chosen x t count level (i + 1) order place inner.place inner.order inner.bits
+      is few h = chosen x t count level (i + 1) order place r er inner e few (omega arith)
 
-      pub inner_full : room < w → count ≤ 128 → i < count → Fills u (inner_done (fields_in x t count) d left i end width (rows_in u₀ n)) next
+      pub inner_full : room < inner.bits → count ≤ 128 → i < count → Fills u (inner_done (fields_in x t count) d left i end width (rows_in u₀ n)) next
       unfolding flat_packed
-      inner_full l few h = ended (rw ((is few h).then, (is few h).bits_is, lt-leb w room l) at g.rows)
+      inner_full l few h = ended (rw ((is few h).then, (is few h).bits_is, lt-leb inner.bits room l) at g.rows)
 
-      pub inner_room : count ≤ 128 → i < count → (next + extent_at (fields_in x t count) j) * scratch_width ≤ length u
+      pub inner_room : count ≤ 128 → i < count → (next + extent_at (fields_in x t count) inner.place) * scratch_width ≤ length u
       unfolding extents_at
       inner_room few h = let q = rw (is few h).then at g.fits in omega arith
 
-      pub inner_less : count ≤ 128 → i < count → length (rest x t count level (i + 1) o (j + 1)) < length (rest x t count level (i + 1) order place)
+      pub inner_less : count ≤ 128 → i < count → length (rest x t count level (i + 1) inner.order (inner.place + 1)) < length (rest x t count level (i + 1) order place)
       inner_less few h = rw (is few h).then (omega arith)
 
-      module _ (u' : List ℕ) (f : Option (ℕ × ℕ)) (a : Reads u' (field_read (fields_in x t count) d left j (bit - w) n (rows_in u next))
-          (field_done (fields_in x t count) d left j (bit - w) n (rows_in u next)) f) where
-        going_on : w ≤ room → length u' ≡ length u → count ≤ 128 → i < count → (m : ℕ)
-            → rows_in u' m ≡ field_done (fields_in x t count) d left j (bit - w) n (rows_in u next)
-            → Going x t d count left i end width n u₀ u' level o (j + 1) (room - w) (bit - w) m
+      module _ (u' : List ℕ) (f : Option (ℕ × ℕ)) (a : Reads u' (field_read (fields_in x t count) d left inner.place (bit - inner.bits) n (rows_in u next))
+          (field_done (fields_in x t count) d left inner.place (bit - inner.bits) n (rows_in u next)) f) where
+        going_on : inner.bits ≤ room → length u' ≡ length u → count ≤ 128 → i < count → (m : ℕ)
+            → rows_in u' m ≡ field_done (fields_in x t count) d left inner.place (bit - inner.bits) n (rows_in u next)
+            → Going x t d count left i end width n u₀ u' level inner.order (inner.place + 1) (room - inner.bits) (bit - inner.bits) m
         unfolding flat_packed extents_at
         going_on l len few h m em =
             let q = rw (is few h).then at g.fits in
             let o₀ = g.behind in
             let k₀ = length-rows_in u next in
-            let b = field_grows (fields_in x t count) d left j (bit - w) n (rows_in u next) (omega arith) in
+            let b = field_grows (fields_in x t count) d left inner.place (bit - inner.bits) n (rows_in u next) (omega arith) in
             let b₁ = b.few in
             let k : m ≡ length (rows_in u next) + length b.more = sym (length-rows_in u' m) ∙ ap length em ∙ grow_length _ _ _ _ b in
             let rl = g.room-left in
             let bi = g.bit_in in
             let v = (is few h).within in
             record {
-              rows = rw em (rw ((is few h).then, (is few h).bits_is, le-leb w room l) at g.rows);
+              rows = rw em (rw ((is few h).then, (is few h).bits_is, le-leb inner.bits room l) at g.rows);
               fits = rw len (omega arith);
               level_is = g.level_is;
               room-left = omega arith;
@@ -258,13 +257,13 @@ module _ (x t d : List ℕ) (count left i end width n : ℕ) (u₀ : List ℕ) w
               same = len ∙ g.same;
             }
 
-        pub inner_takes : (m v : ℕ) → f ≡ Some (m, v) → w ≤ room → length u' ≡ length u → count ≤ 128 → i < count
-            → Going x t d count left i end width n u₀ u' level o (j + 1) (room - w) (bit - w) m
-        inner_takes m v q l len few h = going_on l len few h m (read (fields_in x t count) d u u' left j (bit - w) n next f a m v q).rows
+        pub inner_takes : (m v : ℕ) → f ≡ Some (m, v) → inner.bits ≤ room → length u' ≡ length u → count ≤ 128 → i < count
+            → Going x t d count left i end width n u₀ u' level inner.order (inner.place + 1) (room - inner.bits) (bit - inner.bits) m
+        inner_takes m v q l len few h = going_on l len few h m (read (fields_in x t count) d u u' left inner.place (bit - inner.bits) n next f a m v q).rows
 
-        pub inner_skips : f ≡ None → w ≤ room → length u' ≡ length u → count ≤ 128 → i < count
-            → Going x t d count left i end width n u₀ u' level o (j + 1) (room - w) (bit - w) next
-        inner_skips q l len few h = going_on l len few h next (missing-rows (fields_in x t count) d u u' left j (bit - w) n next f a q)
+        pub inner_skips : f ≡ None → inner.bits ≤ room → length u' ≡ length u → count ≤ 128 → i < count
+            → Going x t d count left i end width n u₀ u' level inner.order (inner.place + 1) (room - inner.bits) (bit - inner.bits) next
+        inner_skips q l len few h = going_on l len few h next (missing-rows (fields_in x t count) d u u' left inner.place (bit - inner.bits) n next f a q)
 
 pub ruleset field_laws = (field-missing, bits_within, bits_fit, field_leaf, field_tree, row_room)
 
@@ -304,7 +303,7 @@ module _ (x t d : List ℕ) (count first start n : ℕ) (u₀ : List ℕ) where
         same = refl;
       }
 
-  module _ (u : List ℕ) (order place bit next : ℕ) (g : Listing x t d count first start n u₀ u order place bit next) (r : Next)
+  module _ (u : List ℕ) (order place bit next : ℕ) (g : Listing x t d count first start n u₀ u order place bit next) (r : Option Next)
       (er : IsNext t count 0 first order place r) where
     -- the walk ends here
     stopped : record { rows = rows_in u next; bit = bit } ≡ walked_from (fields_in x t count) d first start (rows_in u₀ n) → (v : List ℕ)
@@ -324,53 +323,53 @@ module _ (x t d : List ℕ) (count first start n : ℕ) (u₀ : List ℕ) where
           within = g.bit_in;
         }
 
-    pub listing-ends : r ≡ Done → Walks d u₀ u n (count - first) (walked_from (fields_in x t count) d first start (rows_in u₀ n))
+    pub listing-ends : r ≡ None → Walks d u₀ u n (count - first) (walked_from (fields_in x t count) d first start (rows_in u₀ n))
         (record { bit = record { 0 = bit }; rows = next })
     unfolding flat_listed
     listing-ends e = stopped (rw (none_left x t count 0 first order place r er e) at g.left) u refl
 
-    module _ (j o w : ℕ) (e : r ≡ At j o w) where
-      at_j : count ≤ 128 → first ≤ count → Chosen x t count 0 first order place j o w
-      at_j few h = chosen x t count 0 first order place r er j o w e few h
+    module _ (inner : Next) (e : r ≡ Some inner) where
+      at_j : count ≤ 128 → first ≤ count → Chosen x t count 0 first order place inner.place inner.order inner.bits
+      at_j few h = chosen x t count 0 first order place r er inner e few h
 
       pub listing-room : count ≤ 128 → first ≤ count → (n + (count - first)) * scratch_width ≤ length u₀
-          → (next + extent_at (fields_in x t count) j) * scratch_width ≤ length u
+          → (next + extent_at (fields_in x t count) inner.place) * scratch_width ≤ length u
       unfolding extents_at
       listing-room few h l =
           let q = rw (at_j few h).then at g.fits in
           let k = g.same in
           omega arith
 
-      pub listing_less : count ≤ 128 → first ≤ count → length (rest x t count 0 first o (j + 1)) < length (rest x t count 0 first order place)
+      pub listing_less : count ≤ 128 → first ≤ count → length (rest x t count 0 first inner.order (inner.place + 1)) < length (rest x t count 0 first order place)
       listing_less few h = rw (at_j few h).then (omega arith)
 
-      module _ (u' : List ℕ) (f : Option (ℕ × ℕ)) (a : Reads u' (field_read (fields_in x t count) d 7 j bit 0 (rows_in u next))
-          (field_done (fields_in x t count) d 7 j bit 0 (rows_in u next)) f) where
+      module _ (u' : List ℕ) (f : Option (ℕ × ℕ)) (a : Reads u' (field_read (fields_in x t count) d 7 inner.place bit 0 (rows_in u next))
+          (field_done (fields_in x t count) d 7 inner.place bit 0 (rows_in u next)) f) where
         pub listing-stops : f ≡ None → count ≤ 128 → first ≤ count
             → Walks d u₀ u' n (count - first) (walked_from (fields_in x t count) d first start (rows_in u₀ n))
             (record { bit = record { 0 = bit }; rows = next })
         unfolding flat_listed
         listing-stops q few h =
-            let z = missing-not (fields_in x t count) d u u' 7 j bit 0 next f a q in
+            let z = missing-not (fields_in x t count) d u u' 7 inner.place bit 0 next f a q in
             stopped (rw ((at_j few h).then, z) at g.left) u'
-            (missing-rows (fields_in x t count) d u u' 7 j bit 0 next f a q ∙ done_none (fields_in x t count) d 7 j bit 0 (rows_in u next) z)
+            (missing-rows (fields_in x t count) d u u' 7 inner.place bit 0 next f a q ∙ done_none (fields_in x t count) d 7 inner.place bit 0 (rows_in u next) z)
 
         module _ (m v : ℕ) (q : f ≡ Some (m, v)) where
-          done : WasRead (fields_in x t count) d u u' 7 j bit 0 next f a m v
-          done = read (fields_in x t count) d u u' 7 j bit 0 next f a m v q
+          done : WasRead (fields_in x t count) d u u' 7 inner.place bit 0 next f a m v
+          done = read (fields_in x t count) d u u' 7 inner.place bit 0 next f a m v q
 
           ends_in : bit + v ≤ length d * 8
-          ends_in = rw done.width_is (exists-within (fields_in x t count) d j bit 0 (rows_in u next) done.exists)
+          ends_in = rw done.width_is (exists-within (fields_in x t count) d inner.place bit 0 (rows_in u next) done.exists)
 
           pub listing-fits : length d ≤ 2048 → Fits w64 (bit + v)
           listing-fits l = let k = ends_in in record { fits = omega arith }
 
           pub listing-more : length u' ≡ length u → count ≤ 128 → first ≤ count
-              → Listing x t d count first start n u₀ u' o (j + 1) (bit + v) m
+              → Listing x t d count first start n u₀ u' inner.order (inner.place + 1) (bit + v) m
           unfolding flat_listed extents_at
           listing-more len few h =
               let k = rw (at_j few h).then at g.fits in
-              let b = field_grows (fields_in x t count) d 7 j bit 0 (rows_in u next) (omega arith) in
+              let b = field_grows (fields_in x t count) d 7 inner.place bit 0 (rows_in u next) (omega arith) in
               let b₁ = b.few in
               let c : m ≡ length (rows_in u next) + length b.more = sym (length-rows_in u' m) ∙ ap length done.rows ∙ grow_length _ _ _ _ b in
               let c₀ = length-rows_in u next in

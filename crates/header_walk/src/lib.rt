@@ -1,6 +1,6 @@
 // The walk over loaded fields: H9 to H13 of docs/RULES.md. Counterpart of `decode_param` and of the two loops of
 // `decode_header` of frame_definition/decode.rs. What is read goes into scratch rows (crate `header_paths`).
-#![tactic(auto, using(crate::proofs::Laws::outer_laws))]
+#![tactic(auto, using(crate::proofs::Laws::outer_laws, crate::proofs::Exists::width_laws, crate::proofs::Exists::extent_laws, crate::proofs::Exists::lay_laws, crate::proofs::Exists::row_laws))]
 
 ghost use Rattle.std.specs.Prelude.{◌≡◌, [], ◌∷◌, ◌++◌, ◌+◌, ◌-◌, ◌*◌, ◌<◌, ◌≤◌, length};
 ghost use Rattle.header_fields.specs.Fields.{line_width, level_in, fields_in};
@@ -13,7 +13,7 @@ ghost use Rattle.header_walk.specs.Steps.{wanted, width, fitting, extent_of, Lay
 
 use bits::read_bits;
 use header_fields::{BITS, LINE_WIDTH, OPTIONAL, SIZE};
-use header_paths::{BitOffset, Next, Row, SCRATCH_WIDTH, find_inside, next_field, part_of};
+use header_paths::{BitOffset, Row, SCRATCH_WIDTH, find_inside, next_field, part_of};
 pub use header_paths::{find_value, row_at};
 use rows::put_row;
 
@@ -183,9 +183,7 @@ fn lay_row(
 {
     let start = spot.start;
     let left = mpdu.len() as u64 * 8 - start.0;
-    let Some(bits) = extent_of(text, fields, count, spot, &rows[..], left) else {
-        return None;
-    };
+    let bits = extent_of(text, fields, count, spot, &rows[..], left)?;
     let row = row_of(mpdu, spot.place as u64, spot.parent, start, bits);
     write_row(rows, spot.rows, row);
     Some(bits)
@@ -210,9 +208,7 @@ fn decode_param(
         Reads rows.new (field_read ps d spot.left spot.place spot.start.0 spot.parent before)
         (field_done ps d spot.left spot.place spot.start.0 spot.parent before) result }
 {
-    let Some(bits) = lay_row(mpdu, text, fields, count, spot, rows) else {
-        return None;
-    };
+    let bits = lay_row(mpdu, text, fields, count, spot, rows)?;
     let own = spot.rows + 1;
     if spot.left == 0 {
         return Some((own, bits));
@@ -254,34 +250,27 @@ fn decode_inner(
     let mut room = outer.width;
     let mut bit = outer.end.0;
     let mut next = outer.rows;
-    loop {
-        let Next::At {
-            place: j,
-            order: o,
-            bits,
-        } = next_field(fields, count, level, outer.place + 1, order, place)
-        else {
-            return next;
-        };
-        order = o;
-        place = j + 1;
+    while let Some(inner) = next_field(fields, count, level, outer.place + 1, order, place) {
+        let bits = inner.bits;
+        order = inner.order;
+        place = inner.place + 1;
         if room < bits {
-            return next;
+            break;
         }
         bit -= bits;
         room -= bits;
         let spot = Spot {
-            place: j,
+            place: inner.place,
             start: BitOffset(bit),
             parent: outer.rows as u64,
             rows: next,
             left,
         };
-        let Some((after, _)) = decode_param(mpdu, text, fields, count, spot, rows) else {
-            continue;
-        };
-        next = after;
+        if let Some((after, _)) = decode_param(mpdu, text, fields, count, spot, rows) {
+            next = after;
+        }
     }
+    next
 }
 
 // Reads the outer fields from the place `first` on, one after the other, from where a walk has come to. A missing one ends the walk.
@@ -304,35 +293,24 @@ pub fn walk_from(
     let mut place: usize = 0;
     let mut bit = from.bit.0;
     let mut next = from.rows;
-    loop {
-        let at = BitOffset(bit);
-        let Next::At {
-            place: j,
-            order: o,
-            bits: _,
-        } = next_field(fields, count, 0, first, order, place)
-        else {
-            return Walked {
-                bit: at,
-                rows: next,
-            };
-        };
-        order = o;
-        place = j + 1;
+    while let Some(outer) = next_field(fields, count, 0, first, order, place) {
+        order = outer.order;
+        place = outer.place + 1;
         let spot = Spot {
-            place: j,
-            start: at,
+            place: outer.place,
+            start: BitOffset(bit),
             parent: 0,
             rows: next,
             left: DEEPEST,
         };
         let Some((after, bits)) = decode_param(mpdu, text, fields, count, spot, rows) else {
-            return Walked {
-                bit: at,
-                rows: next,
-            };
+            break;
         };
         bit += bits;
         next = after;
+    }
+    Walked {
+        bit: BitOffset(bit),
+        rows: next,
     }
 }
