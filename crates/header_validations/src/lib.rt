@@ -1,5 +1,5 @@
 // The validations of a candidate, held against the rows that a walk has read.
-#![tactic(auto)]
+#![tactic(auto, using(crate::proofs::Laws::laws))]
 
 ghost use Rattle.std.specs.Prelude.{◌≡◌, ◌*◌, ◌≤◌, length};
 ghost use Rattle.text.specs.Place.{part_of};
@@ -41,19 +41,13 @@ fn find_path(
 fn is_met(found: Option<u64>, value: u16) -> bool
     ensures { result ≡ met found value }
 {
-    match found {
-        Some(v) => v == value as u64,
-        None => false,
-    }
+    found == Some(value as u64)
 }
 
 fn is_other(found: Option<u64>, value: u16) -> bool
     ensures { result ≡ other found value }
 {
-    match found {
-        Some(v) => v != value as u64,
-        None => false,
-    }
+    found.is_some_and(|v| v != value as u64)
 }
 
 // Do all V under the H that owns what follows the place find their values among the n rows?
@@ -71,21 +65,18 @@ pub fn meets_all(
         result ≡ flat_meets (name_of ps) (rows_in rows.now n) (validations (below (from text.now start))) }
 {
     let mut place = start;
-    loop {
-        let NextValidation::At {
-            path,
-            value,
-            place: next,
-        } = next_validation(text, place)
-        else {
-            return true;
-        };
-        if is_met(find_path(text, fields, count, rows, n, path), value) {
-            place = next;
-            continue;
+    while let NextValidation::At {
+        path,
+        value,
+        place: next,
+    } = next_validation(text, place)
+    {
+        if !is_met(find_path(text, fields, count, rows, n, path), value) {
+            return false;
         }
-        return false;
+        place = next;
     }
+    true
 }
 
 // Does one of them find another value?
@@ -103,18 +94,16 @@ pub fn is_ruled_out(
         result ≡ ruled_out (name_of ps) (rows_in rows.now n) (validations (below (from text.now start))) }
 {
     let mut place = start;
-    loop {
-        let NextValidation::At {
-            path,
-            value,
-            place: next,
-        } = next_validation(text, place)
-        else {
-            return false;
-        };
+    while let NextValidation::At {
+        path,
+        value,
+        place: next,
+    } = next_validation(text, place)
+    {
         if is_other(find_path(text, fields, count, rows, n, path), value) {
             return true;
         }
         place = next;
     }
+    false
 }
