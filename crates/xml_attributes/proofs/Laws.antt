@@ -14,6 +14,7 @@ use Rattle.laws.proofs.Lists.{tail}
 use Rattle.text.specs.Text.{field, fields, missing}
 use Rattle.append.specs.Append.{Room, Laid}
 use Rattle.append.proofs.Laws.{Leaves, leaves_start, leaves_more, leaves_room, leaves_done, laid_none, laid_both, room-first, room-second}
+use Rattle.xml_schema.proofs.Laws.{entry_last, entry_some, entry_start, entry_is, entry_laws}
 use Rattle.xml_schema.specs.Schema.{form_of, name_of, optional_words, optional_number, hex_number, flag, further_flag, is_dropped, Follows}
 use Rattle.xml_spelling.specs.Spelling.{escaped, hexed, flagged}
 use Rattle.xml_attributes.specs.Attributes.{value_for, is_absent, label, written, field_after, digit_after, attributes}
@@ -187,89 +188,61 @@ digit-after-low f j = by (eqb f further_flag)
     by true = omega arith
     by false = omega arith
 
-pub record Listing (row : List ℕ) (fs : List (List ℕ)) (first : ℕ) (b b₀ : List ℕ) (at at₀ place k j : ℕ) : Type 0 where
-  pub inside : place ≤ length row
-  pub field-low : k ≤ place + 2
-  pub digit_low : j ≤ place + 1
-  pub leaves : Leaves (attributes (drop 1 (fields (drop place row))) fs k j) (attributes (drop 1 (fields row)) fs first 1) b b₀ at at₀
+pub record Listing (row : List ℕ) (fs : List (List ℕ)) (first : ℕ) (b b₀ : List ℕ) (at at₀ : ℕ) (rest : List ℕ) (k j : ℕ) : Type 0 where
+  pub field-low : k + length rest ≤ length row + 2
+  pub digit_low : j + length rest ≤ length row + 1
+  pub leaves : Leaves (attributes (drop 1 (fields rest)) fs k j) (attributes (drop 1 (fields row)) fs first 1) b b₀ at at₀
 
-pub listing_start : (row : List ℕ) (fs : List (List ℕ)) (first : ℕ) (b : List ℕ) (at : ℕ) → first ≤ 2 → Listing row fs first b b at at 0 first 1
+pub listing_start : (row : List ℕ) (fs : List (List ℕ)) (first : ℕ) (b : List ℕ) (at : ℕ) → first ≤ 2 → Listing row fs first b b at at row first 1
 listing_start row fs first b at h = record {
-  inside = omega arith;
   field-low = omega arith;
   digit_low = omega arith;
   leaves = leaves_start (attributes (drop 1 (fields row)) fs first 1) b at;
 }
 
-module _ (row : List ℕ) (fs : List (List ℕ)) (first : ℕ) (b b₀ : List ℕ) (at at₀ place k j : ℕ)
-    (inv : Listing row fs first b b₀ at at₀ place k j) where
-  pub listing_place : place ≤ length row
-  listing_place = inv.inside
-
+module _ (row : List ℕ) (fs : List (List ℕ)) (first : ℕ) (b b₀ : List ℕ) (at at₀ : ℕ) (rest : List ℕ) (k j : ℕ)
+    (inv : Listing row fs first b b₀ at at₀ rest k j) where
   pub listing-same : length b ≡ length b₀
   listing-same = inv.leaves.same
 
   pub listing-field : length row ≤ 300 → k < 1000
-  listing-field h = omega (arith, inv.inside, inv.field-low)
+  listing-field h = omega (arith, inv.field-low)
 
   pub listing-digit : length row ≤ 300 → j < 1000
-  listing-digit h = omega (arith, inv.inside, inv.digit_low)
+  listing-digit h = omega (arith, inv.digit_low)
 
-  module _ (n : Option (ℕ × ℕ)) (follows : Follows (take (length row - place) (drop place row)) n) where
-    follows_now : Follows (drop place row) n
-    follows_now = rw tail at follows
-
+  module _ (n : Option (ℕ × ℕ)) (follows : Follows rest n) where
     pub listing_done : n ≡ None → Laid (attributes (drop 1 (fields row)) fs first 1) b₀ at₀ at b
     unfolding attributes
     listing_done e =
-        let none : drop 1 (fields (drop place row)) ≡ [] = rw e at follows_now in
-        leaves_done (attributes (drop 1 (fields row)) fs first 1) b b₀ at at₀ (rw none at inv.leaves)
+        leaves_done (attributes (drop 1 (fields row)) fs first 1) b b₀ at at₀ (rw (entry_last rest n follows e) at inv.leaves)
 
     module _ (a len : ℕ) (e : n ≡ Some (a, len)) where
-      entry_now : (1 ≤ a) × (a + len ≤ length (drop place row))
-          × (drop 1 (fields (drop place row)) ≡ take len (drop a (drop place row)) ∷ drop 1 (fields (drop a (drop place row))))
-      entry_now = rw e at follows_now
-
-      length_now : length (drop place row) ≡ length row - place
-      length_now = length-drop place row
-
-      pub entry_fits : length row ≤ 300 → Fits w64 (a + len)
-      entry_fits h = omega (arith, entry_now.1, length_now)
-
-      pub entry_end : a + len ≤ length (take (length row - place) (drop place row))
-      entry_end = rw tail entry_now.1
-
-      pub place_fits : length row ≤ 300 → Fits w64 (place + a)
-      place_fits h = omega (arith, entry_now.1, inv.inside, length_now)
-
-      pub place_less : length row - (place + a) < length row - place
-      place_less = omega (arith, entry_now.1, entry_now.0, length_now)
+      abbrev left : List ℕ
+      left = take (length rest - a) (drop a rest)
 
       abbrev entry : List ℕ
-      entry = take (a + len - a) (drop a (take (length row - place) (drop place row)))
+      entry = take len left
 
-      entry_is : entry ≡ take len (drop a (drop place row))
-      entry_is = let d : a + len - a ≡ len = omega arith in rw (tail, d)
+      left-long : (1 ≤ a) × (length left + a ≡ length rest)
+      left-long =
+          let now : (1 ≤ a) × (a ≤ length rest) = (entry_some rest n follows a len e, entry_start rest n follows a len e) in
+          (now.0, rw (tail, length-drop) (omega (arith, now.1)))
 
-      entries_are : drop 1 (fields (drop place row)) ≡ entry ∷ drop 1 (fields (drop (place + a) row))
-      entries_are = entry_now.2 ∙ rw (entry_is, drop-drop)
-
-      one_more : Leaves
-          (written entry fs k j ++ attributes (drop 1 (fields (drop (place + a) row))) fs (field_after (form_of entry) k) (digit_after (form_of entry) j))
+      one_more : Leaves (written entry fs k j ++ attributes (drop 1 (fields left)) fs (field_after (form_of entry) k) (digit_after (form_of entry) j))
           (attributes (drop 1 (fields row)) fs first 1) b b₀ at at₀
       unfolding attributes
-      one_more = rw entries_are at inv.leaves
+      one_more = rw (entry_is rest n follows a len e) at inv.leaves
 
       pub entry_room : Room at₀ (attributes (drop 1 (fields row)) fs first 1) → Room at (written entry fs k j)
       entry_room room = leaves_room (written entry fs k j) _ (attributes (drop 1 (fields row)) fs first 1) b b₀ at at₀ one_more room
 
       pub listing-more : (b' : List ℕ) (r f k' j' : ℕ) → Laid (written entry fs k j) b at r b' → f ≡ form_of entry
           → k' ≡ field_after f k → j' ≡ digit_after f j
-          → Listing row fs first b' b₀ r at₀ (place + a) k' j'
+          → Listing row fs first b' b₀ r at₀ left k' j'
       listing-more b' r f k' j' l is ks js = record {
-        inside = omega (arith, entry_now.1, inv.inside, length_now);
-        field-low = omega (arith, entry_now.0, inv.field-low, ks, after-low f k);
-        digit_low = omega (arith, entry_now.0, inv.digit_low, js, digit-after-low f j);
+        field-low = omega (arith, left-long.0, left-long.1, inv.field-low, ks, after-low f k);
+        digit_low = omega (arith, left-long.0, left-long.1, inv.digit_low, js, digit-after-low f j);
         leaves =
             rw (ks, js, is)
             (leaves_more (written entry fs k j) _ (attributes (drop 1 (fields row)) fs first 1) b b₀ at at₀ one_more b' r l);
@@ -306,15 +279,11 @@ pub ruleset laws = (
   attribute_end,
   attribute-laid,
   listing_start,
-  listing_place,
   listing-same,
   listing-field,
   listing-digit,
   listing_done,
-  entry_fits,
-  entry_end,
+  entry_laws,
   entry_room,
-  place_fits,
-  place_less,
   listing-more,
 )

@@ -1,5 +1,5 @@
 // The attributes that are written for a line, by the entries of its element: X13 of docs/RULES.md.
-#![tactic(auto)]
+#![tactic(auto, using(crate::proofs::Laws::laws))]
 
 ghost use Rattle.std.specs.Prelude.{◌≡◌, ◌||◌, ◌≤◌, ◌<◌, eqb, length, get_or};
 ghost use Rattle.text.specs.Text.{fields};
@@ -24,10 +24,7 @@ const ZERO_DIGIT: usize = b'0' as usize;
 fn digit_of(s: &[u8], j: usize) -> u8
     ensures { result ≡ get_or s.now j 0 }
 {
-    if j < s.len() {
-        return s[j];
-    }
-    0
+    s.get(j).copied().unwrap_or(0)
 }
 
 // The value of an attribute that a line has a place for: k is the next field, and j the next digit of the field before it.
@@ -59,20 +56,14 @@ fn append_value(buffer: &mut [u8], at: usize, form: u8, line: &[u8], k: usize, j
 fn may_miss(form: u8) -> bool
     ensures { result ≡ (eqb form optional_words || eqb form optional_number) }
 {
-    if form == OPTIONAL_WORDS {
-        return true;
-    }
-    form == OPTIONAL_NUMBER
+    form == OPTIONAL_WORDS || form == OPTIONAL_NUMBER
 }
 
 // Is it missing?
 fn is_absent(form: u8, line: &[u8], k: usize) -> bool
     ensures { result ≡ is_absent form (fields line.now) k }
 {
-    if may_miss(form) {
-        return is_missing(field_of(line, k));
-    }
-    false
+    may_miss(form) && is_missing(field_of(line, k))
 }
 
 // What stands before the value of an attribute.
@@ -138,24 +129,16 @@ pub fn append_attributes(
     ensures { Laid (attributes_by row.now line.now first) buffer.old at result buffer.new }
 {
     let mut next = at;
-    let mut place = 0;
+    let mut rest = row;
     let mut k = first;
     let mut j: usize = 1;
-    loop {
-        let rest = &row[place..];
-        match next_entry(rest) {
-            None => {
-                return next;
-            }
-            Some((a, len)) => {
-                let end = a + len;
-                let entry = &rest[a..end];
-                next = append_attribute(buffer, next, entry, line, k, j);
-                let form = form_of(entry);
-                k = field_after(form, k);
-                j = digit_after(form, j);
-                place += a;
-            }
-        }
+    while let Some((a, len)) = next_entry(rest) {
+        rest = &rest[a..];
+        let entry = &rest[..len];
+        next = append_attribute(buffer, next, entry, line, k, j);
+        let form = form_of(entry);
+        k = field_after(form, k);
+        j = digit_after(form, j);
     }
+    next
 }

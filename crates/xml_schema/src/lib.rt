@@ -9,7 +9,7 @@ ghost use Rattle.xml_schema.specs.Schema.{elements, element_of, table, letter_of
 use readers::line_fields::{field_of, find_piece};
 use text::{Part, find, find_word, is_same};
 
-// How many elements there are, and the number of what is none.
+// How many elements there are, and the number of what is none. No Option: a place is such a number too, and the two are compared.
 pub const COUNT: usize = 13;
 
 // The number of the root.
