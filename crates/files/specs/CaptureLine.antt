@@ -1,11 +1,9 @@
 -- What a character makes of a line of a capture.
-use Rattle.std.specs.Prelude.{ℕ, ◌+◌, ◌-◌, ◌*◌, ◌%◌, ◌^◌, ◌<◌, Bool, true, false, cond, ◌&&◌, ◌||◌, List, ◌==◌, nat_le, slice_set, Option, Some, None}
+use Rattle.std.specs.Prelude.{ℕ, ◌+◌, ◌-◌, ◌*◌, ◌%◌, ◌^◌, ◌<◌, Bool, true, false, cond, ◌&&◌, ◌||◌, List, ◌==◌, nat_le, slice_set, Option, Some, None, Result, Ok, Err}
 use Rattle.files.specs.declared.capture_line.State.{State}
 use Rattle.files.specs.declared.capture_line.State.TheVariants.{Raw, Bytes, Half, Comment, Wrong}
 use Rattle.files.specs.declared.capture_line.Step.{Step}
 use Rattle.files.specs.declared.capture_line.Step.TheVariants.{To, Byte}
-use Rattle.files.specs.declared.capture_line.Content.{Content}
-use Rattle.files.specs.declared.capture_line.Content.TheVariants.{Bytes as Whole, NotHex}
 use Rattle.files.specs.declared.capture_line.Line.{Line}
 
 -- ---- a character
@@ -82,9 +80,9 @@ ends_by Comment b = b == 10
 ends_by (Wrong at) b = b == 10
 
 -- what a line comes to: so many bytes, or a column with no hex digit where one belongs
-abbrev pub content_by : State → ℕ → ℕ → Content
-content_by Raw count column = Whole count
-content_by Bytes count column = Whole count
-content_by (Half d) count column = NotHex column
-content_by Comment count column = Whole count
-content_by (Wrong at) count column = NotHex at
+abbrev pub content_by : State → ℕ → ℕ → Result ℕ ℕ
+content_by Raw count column = Ok count
+content_by Bytes count column = Ok count
+content_by (Half d) count column = Err column
+content_by Comment count column = Ok count
+content_by (Wrong at) count column = Err at

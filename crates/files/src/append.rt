@@ -7,15 +7,8 @@ pub fn append(slice: &mut [u8], at: usize, bytes: &[u8]) -> usize
     requires { at ≤ length slice.old }
     ensures { (result ≤ length slice.new) × Appends bytes.now slice.old at result slice.new }
 {
-    let mut place = at;
-    let mut i: usize = 0;
-    while i < bytes.len() {
-        if slice.len() <= place {
-            return place;
-        }
-        slice[place] = bytes[i];
-        place += 1;
-        i += 1;
-    }
-    place
+    let n = bytes.len().min(slice.len() - at);
+    let end = at + n;
+    slice[at..end].copy_from_slice(&bytes[..n]);
+    end
 }

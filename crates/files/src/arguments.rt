@@ -8,21 +8,16 @@ use std::rt::Env;
 pub fn argument(rt: &impl Env, k: usize, bytes: &mut [u8]) -> usize
     ensures { result ≤ length bytes.new }
 {
-    match rt.arg(k, bytes) {
-        Ok(n) => n,
-        Err(_) => 0,
-    }
+    rt.arg(k, bytes).unwrap_or(0)
 }
 
 // How many there are.
 pub fn argument_count(rt: &impl Env) -> usize {
     let mut bytes = [0u8; 1];
-    let mut count: usize = 0;
-    while count < usize::MAX {
+    for count in 0..usize::MAX {
         if let Err(FillError::NotPresent) = rt.arg(count, &mut bytes) {
             return count;
         }
-        count += 1;
     }
-    count
+    usize::MAX
 }

@@ -4,7 +4,7 @@
 ghost use Rattle.std.specs.Prelude.{◌≡◌, ◌<◌, ◌≤◌, length};
 ghost use Rattle.files.specs.Capture.{Inside, Falls, Opens, Reads};
 
-use crate::capture_line::{Content, Line, take_character};
+use crate::capture_line::{Line, take_character};
 use crate::input::{Got, Reader};
 use std::num::wrapping_add_u64;
 use std::rt::Files;
@@ -112,10 +112,7 @@ impl Source {
 fn starts_raw(block: &[u8], filled: usize) -> bool
     requires { filled ≤ length block.now }
 {
-    if filled == 0 {
-        return false;
-    }
-    block[0] == PREAMBLE
+    0 < filled && block[0] == PREAMBLE
 }
 
 // A capture from its first byte on.
@@ -160,18 +157,10 @@ fn next_byte<R: Files + Input>(source: Source, reader: &mut Reader<R>, block: &m
 // What the line at a source comes to.
 fn item_of(line: Line, source: Source) -> Item {
     match line.content() {
-        Content::Bytes(count) => {
-            if count == 0 {
-                return Item::Nothing;
-            }
-            Item::Payload(count)
-        }
-        Content::NotHex(column) => {
-            if source.has_payload {
-                return Item::NotHex(source.line, column);
-            }
-            Item::NoCapture(source.line, column)
-        }
+        Ok(0) => Item::Nothing,
+        Ok(count) => Item::Payload(count),
+        Err(column) if source.has_payload => Item::NotHex(source.line, column),
+        Err(column) => Item::NoCapture(source.line, column),
     }
 }
 
@@ -182,10 +171,8 @@ fn source_after(item: Item, source: Source) -> Source
     let next = source.past_line();
     match item {
         Item::Payload(_) => next.past_payload(),
-        Item::Nothing => next,
-        Item::NotHex(_, _) => next,
-        Item::NoCapture(_, _) => next.over(),
-        Item::Unreadable => next.over(),
+        Item::Nothing | Item::NotHex(_, _) => next,
+        Item::NoCapture(_, _) | Item::Unreadable => next.over(),
     }
 }
 

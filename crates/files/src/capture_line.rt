@@ -41,15 +41,6 @@ pub struct Line {
     pub column: u64,
 }
 
-// What a line comes to.
-#[derive(Clone, Copy)]
-pub enum Content {
-    // So many bytes.
-    Bytes(usize),
-    // This column has no hex digit where one belongs.
-    NotHex(u64),
-}
-
 // What a character makes of a line: another state, or one more byte.
 #[derive(Clone, Copy)]
 enum Step {
@@ -61,15 +52,9 @@ impl Line {
     pub fn new(raw: bool) -> Self
         ensures { result ≡ start_of raw }
     {
-        if raw {
-            return Line {
-                state: State::Raw,
-                count: 0,
-                column: 1,
-            };
-        }
+        let state = if raw { State::Raw } else { State::Bytes };
         Line {
-            state: State::Bytes,
+            state,
             count: 0,
             column: 1,
         }
@@ -79,26 +64,20 @@ impl Line {
     pub fn ends(self, byte: u8) -> bool
         ensures { result ≡ ends_by self.state byte }
     {
-        let state = self.state;
-        match state {
+        match self.state {
             State::Raw => false,
-            State::Bytes => byte == b'\n',
-            State::Half(_) => byte == b'\n',
-            State::Comment => byte == b'\n',
-            State::Wrong(_) => byte == b'\n',
+            State::Bytes | State::Half(_) | State::Comment | State::Wrong(_) => byte == b'\n',
         }
     }
 
-    pub fn content(self) -> Content
+    // How many bytes it comes to, or the column that has no hex digit where one belongs.
+    pub fn content(self) -> Result<usize, u64>
         ensures { result ≡ content_by self.state self.count self.column }
     {
-        let state = self.state;
-        match state {
-            State::Raw => Content::Bytes(self.count),
-            State::Bytes => Content::Bytes(self.count),
-            State::Half(_) => Content::NotHex(self.column),
-            State::Comment => Content::Bytes(self.count),
-            State::Wrong(column) => Content::NotHex(column),
+        match self.state {
+            State::Raw | State::Bytes | State::Comment => Ok(self.count),
+            State::Half(_) => Err(self.column),
+            State::Wrong(column) => Err(column),
         }
     }
 }
@@ -106,25 +85,12 @@ impl Line {
 fn read_digit(byte: u8) -> Option<u8>
     ensures { result ≡ digit_of byte }
 {
-    if byte < b'0' {
-        return None;
+    match byte {
+        b'0'..=b'9' => Some(byte - b'0'),
+        b'A'..=b'F' => Some(byte - b'A' + 10),
+        b'a'..=b'f' => Some(byte - b'a' + 10),
+        _ => None,
     }
-    if byte <= b'9' {
-        return Some(byte - b'0');
-    }
-    if byte < b'A' {
-        return None;
-    }
-    if byte <= b'F' {
-        return Some(byte - b'A' + 10);
-    }
-    if byte < b'a' {
-        return None;
-    }
-    if byte <= b'f' {
-        return Some(byte - b'a' + 10);
-    }
-    None
 }
 
 // Between bytes stand blanks, and `#` starts a comment.
@@ -132,9 +98,7 @@ fn step_between(byte: u8, column: u64) -> Step
     ensures { result ≡ step_of Bytes byte column }
 {
     match byte {
-        b' ' => Step::To(State::Bytes),
-        b'\t' => Step::To(State::Bytes),
-        b'\r' => Step::To(State::Bytes),
+        b' ' | b'\t' | b'\r' => Step::To(State::Bytes),
         b'#' => Step::To(State::Comment),
         _ => match read_digit(byte) {
             Some(first) => Step::To(State::Half(first)),
@@ -172,10 +136,7 @@ fn after_byte(state: State) -> State
 {
     match state {
         State::Raw => State::Raw,
-        State::Bytes => State::Bytes,
-        State::Half(_) => State::Bytes,
-        State::Comment => State::Bytes,
-        State::Wrong(_) => State::Bytes,
+        State::Bytes | State::Half(_) | State::Comment | State::Wrong(_) => State::Bytes,
     }
 }
 
@@ -183,12 +144,10 @@ fn after_byte(state: State) -> State
 fn store(payload: &mut [u8], n: usize, byte: u8) -> usize
     ensures { (result ≡ (n + 1) % 2 ^ 64) × (payload.new ≡ slice_set payload.old n byte) }
 {
-    let next = wrapping_add_usize(n, 1);
     if n < payload.len() {
         payload[n] = byte;
-        return next;
     }
-    next
+    wrapping_add_usize(n, 1)
 }
 
 // The line with one more character. A byte that this makes whole goes into the payload.

@@ -5,28 +5,27 @@ use refusal::Refusal;
 use std::num::wrapping_add_u64;
 use writer::STDERR_FILENO;
 
-// How the reading of captures ended.
+// What was wrong with captures that were read.
 #[derive(Clone, Copy)]
-pub enum Verdict {
-    Fine,
+pub enum Fault {
     // The first refusal of a payload.
     Refused(Refusal),
     // Something could not be read. That is said already.
-    Failed,
+    Unread,
 }
 
-// How far it is: payloads so far.
+// How far it is: payloads so far, and whether anything was wrong.
 #[derive(Clone, Copy)]
 pub struct Day {
     pub payloads: u64,
-    pub verdict: Verdict,
+    pub verdict: Result<(), Fault>,
 }
 
 impl Day {
     pub fn new() -> Self {
         Day {
             payloads: 0,
-            verdict: Verdict::Fine,
+            verdict: Ok(()),
         }
     }
 
@@ -35,34 +34,24 @@ impl Day {
         self
     }
 
-    pub fn failed(self) -> Self {
-        Day {
-            payloads: self.payloads,
-            verdict: Verdict::Failed,
-        }
+    pub fn failed(mut self) -> Self {
+        self.verdict = Err(Fault::Unread);
+        self
     }
 
     // The first refusal is the verdict, unless something else was wrong.
-    fn refused(self, refusal: Refusal) -> Self {
-        let verdict = self.verdict;
-        let Verdict::Fine = verdict else {
-            return self;
-        };
-        Day {
-            payloads: self.payloads,
-            verdict: Verdict::Refused(refusal),
-        }
+    fn refused(mut self, refusal: Refusal) -> Self {
+        self.verdict = self.verdict.and(Err(Fault::Refused(refusal)));
+        self
     }
 }
 
 // How far it is, every 1,000 payloads.
 pub fn tell_progress(options: Options, day: Day) {
-    if options.progress {
-        if day.payloads % 1000 == 0 {
-            io::write_all(STDERR_FILENO, b"\r");
-            io::print_decimal(STDERR_FILENO, day.payloads);
-            io::write_all(STDERR_FILENO, b" payloads\n");
-        }
+    if options.progress && day.payloads % 1000 == 0 {
+        io::write_all(STDERR_FILENO, b"\r");
+        io::print_decimal(STDERR_FILENO, day.payloads);
+        io::write_all(STDERR_FILENO, b" payloads\n");
     }
 }
 
@@ -97,10 +86,9 @@ pub fn pass_line(line: u64, column: u64, day: Day) -> Day {
 
 // The last line.
 pub fn end(day: Day) {
-    let verdict = day.verdict;
-    match verdict {
-        Verdict::Fine => succeed(),
-        Verdict::Refused(refusal) => refuse(refusal),
-        Verdict::Failed => fail(b""),
+    match day.verdict {
+        Ok(()) => succeed(),
+        Err(Fault::Refused(refusal)) => refuse(refusal),
+        Err(Fault::Unread) => fail(b""),
     }
 }

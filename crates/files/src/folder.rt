@@ -96,8 +96,6 @@ pub fn find_command(
 {
     let mut path = io::buffer();
     let n = put_path(rt, folder, b"/commands/", name, &mut path);
-    match open_path(rt, &path[..n]) {
-        Ok(mut file) => Some(fill(&mut file, bytes)),
-        Err(_) => None,
-    }
+    let mut file = open_path(rt, &path[..n]).ok()?;
+    Some(fill(&mut file, bytes))
 }

@@ -84,10 +84,8 @@ pub fn open_path<R: Files>(rt: &R, path: &[u8]) -> Result<R::File> {
     if path.contains(&0) {
         return Err(Error::from_raw_os_error(EINVAL));
     }
-    match str::from_utf8(path) {
-        Ok(text) => fs::open(rt, text),
-        Err(_) => Err(Error::from(ErrorKind::InvalidFilename)),
-    }
+    let text = str::from_utf8(path).map_err(|_| Error::from(ErrorKind::InvalidFilename))?;
+    fs::open(rt, text)
 }
 
 // Is this what stands for standard input?

@@ -38,10 +38,10 @@ pub struct Options {
     pub file: usize,
     pub second: usize,
     pub third: usize,
-    // The option that the next argument is for: 0, DEFINITIONS, FIRMWARE, BEAMS or REGION.
-    open: u8,
-    // The first option that the word does not take, 0 where there is none.
-    wrong: usize,
+    // The option that the next argument is for.
+    open: Option<Taker>,
+    // The first option that the word does not take.
+    wrong: Option<usize>,
     // Is the firmware said by something else than a number?
     is_unnumbered: bool,
     // Are the beams said by a word that there isn't?
@@ -51,13 +51,13 @@ pub struct Options {
 }
 
 // The options that take the argument behind them.
-const DEFINITIONS: u8 = 1;
-
-const FIRMWARE: u8 = 2;
-
-const BEAMS: u8 = 3;
-
-const REGION: u8 = 4;
+#[derive(Clone, Copy, PartialEq, Eq)]
+enum Taker {
+    Definitions,
+    Firmware,
+    Beams,
+    Region,
+}
 
 impl Options {
     fn new() -> Self {
@@ -78,8 +78,8 @@ impl Options {
             file: 0,
             second: 0,
             third: 0,
-            open: 0,
-            wrong: 0,
+            open: None,
+            wrong: None,
             is_unnumbered: false,
             is_unread: false,
             is_uncoded: false,
@@ -88,68 +88,49 @@ impl Options {
 
     fn with_folder(mut self, k: usize) -> Self {
         self.folder = k;
-        self.open = 0;
+        self.open = None;
         self
     }
 
     fn with_firmware(mut self, bytes: &[u8]) -> Self {
-        self.open = 0;
+        self.open = None;
         match read_numeral(bytes) {
-            Some(number) => {
-                self.firmware = number as usize;
-            }
-            None => {
-                self.is_unnumbered = true;
-            }
+            Some(number) => self.firmware = number as usize,
+            None => self.is_unnumbered = true,
         }
         self
     }
 
     fn with_beams(mut self, bytes: &[u8]) -> Self {
-        self.open = 0;
-        match find_field(b"marker\tfamily", bytes) {
-            0 => {
-                self.family = false;
-            }
-            1 => {
-                self.family = true;
-            }
-            _ => {
-                self.is_unread = true;
-            }
+        self.open = None;
+        match bytes {
+            b"marker" => self.family = false,
+            b"family" => self.family = true,
+            _ => self.is_unread = true,
         }
         self
     }
 
     fn with_region(mut self, bytes: &[u8]) -> Self {
-        self.open = 0;
+        self.open = None;
         match read_numeral(bytes) {
             Some(number) => {
                 self.has_region = true;
                 self.region = number;
             }
-            None => {
-                self.is_uncoded = true;
-            }
+            None => self.is_uncoded = true,
         }
         self
     }
 
     // One more argument that is no option.
     fn with_other(mut self, k: usize) -> Self {
-        let count = self.count;
-        match count {
-            0 => {
-                self.file = k;
-            }
-            1 => {
-                self.second = k;
-            }
-            _ => {
-                self.third = k;
-            }
+        match self.count {
+            0 => self.file = k,
+            1 => self.second = k,
+            _ => self.third = k,
         }
-        self.count = wrapping_add_usize(count, 1);
+        self.count = wrapping_add_usize(self.count, 1);
         self
     }
 
@@ -194,61 +175,49 @@ impl Options {
         self
     }
 
-    fn opened(mut self, option: u8) -> Self {
-        self.open = option;
+    fn opened(mut self, option: Taker) -> Self {
+        self.open = Some(option);
         self
     }
 
     fn with_wrong(mut self, k: usize) -> Self {
-        if self.wrong == 0 {
-            self.wrong = k;
-        }
+        self.wrong = self.wrong.or(Some(k));
         self
     }
 }
 
 // Is this an option, known or not?
 fn is_option(bytes: &[u8]) -> bool {
-    if bytes.len() < 2 {
-        return false;
-    }
-    bytes[0] == b'-' && bytes[1] == b'-'
+    bytes.starts_with(b"--")
 }
 
 fn take_option(options: Options, k: usize, bytes: &[u8]) -> Options {
-    match find_field(
-        b"--definitions\t--plain\t--colour\t--picture\t--progress\t--firmware\t--by-position\t--records\t--beams\t--region\t--words\t--missing",
-        bytes,
-    ) {
-        0 => options.opened(DEFINITIONS),
-        1 => options.plain(),
-        2 => options.with_colour(),
-        3 => options.with_picture(),
-        4 => options.with_progress(),
-        5 => options.opened(FIRMWARE),
-        6 => options.with_position(),
-        7 => options.with_records(),
-        8 => options.opened(BEAMS),
-        9 => options.opened(REGION),
-        10 => options.in_words(),
-        11 => options.with_missing(),
+    match bytes {
+        b"--definitions" => options.opened(Taker::Definitions),
+        b"--plain" => options.plain(),
+        b"--colour" => options.with_colour(),
+        b"--picture" => options.with_picture(),
+        b"--progress" => options.with_progress(),
+        b"--firmware" => options.opened(Taker::Firmware),
+        b"--by-position" => options.with_position(),
+        b"--records" => options.with_records(),
+        b"--beams" => options.opened(Taker::Beams),
+        b"--region" => options.opened(Taker::Region),
+        b"--words" => options.in_words(),
+        b"--missing" => options.with_missing(),
         _ => options.with_wrong(k),
     }
 }
 
 fn take_bytes(options: Options, k: usize, bytes: &[u8]) -> Options {
-    let open = options.open;
-    match open {
-        DEFINITIONS => return options.with_folder(k),
-        FIRMWARE => return options.with_firmware(bytes),
-        BEAMS => return options.with_beams(bytes),
-        REGION => return options.with_region(bytes),
-        _ => {}
+    match options.open {
+        Some(Taker::Definitions) => options.with_folder(k),
+        Some(Taker::Firmware) => options.with_firmware(bytes),
+        Some(Taker::Beams) => options.with_beams(bytes),
+        Some(Taker::Region) => options.with_region(bytes),
+        None if is_option(bytes) => take_option(options, k, bytes),
+        None => options.with_other(k),
     }
-    if is_option(bytes) {
-        return take_option(options, k, bytes);
-    }
-    options.with_other(k)
 }
 
 fn take_argument(rt: &impl Env, options: Options, k: usize) -> Options {
@@ -266,10 +235,8 @@ fn is_foreign(rt: &impl Env, k: usize, takes: &[u8]) -> bool {
 
 // One more argument of a word that takes these options.
 fn take_one(rt: &impl Env, options: Options, k: usize, takes: &[u8]) -> Options {
-    if options.open == 0 {
-        if is_foreign(rt, k, takes) {
-            return options.with_wrong(k);
-        }
+    if options.open.is_none() && is_foreign(rt, k, takes) {
+        return options.with_wrong(k);
     }
     take_argument(rt, options, k)
 }
@@ -277,10 +244,8 @@ fn take_one(rt: &impl Env, options: Options, k: usize, takes: &[u8]) -> Options 
 fn take_all(rt: &impl Env, takes: &[u8]) -> Options {
     let end = argument_count(rt);
     let mut options = Options::new();
-    let mut k: usize = 2;
-    while k < end {
+    for k in 2..end {
         options = take_one(rt, options, k, takes);
-        k += 1;
     }
     options
 }
@@ -304,19 +269,19 @@ fn fail_option(rt: &impl Env, k: usize) {
 // Says which option lacks its argument, or has one that it does not take. Is there such an option?
 fn fail_argument(options: Options) -> bool {
     let open = options.open;
-    if open == DEFINITIONS {
+    if open == Some(Taker::Definitions) {
         fail(b"tap: --definitions takes a folder\n");
         return true;
     }
-    if open == FIRMWARE || options.is_unnumbered {
+    if open == Some(Taker::Firmware) || options.is_unnumbered {
         fail(b"tap: --firmware takes 2 or 3\n");
         return true;
     }
-    if open == BEAMS || options.is_unread {
+    if open == Some(Taker::Beams) || options.is_unread {
         fail(b"tap: --beams takes marker or family\n");
         return true;
     }
-    if open == REGION || options.is_uncoded {
+    if open == Some(Taker::Region) || options.is_uncoded {
         fail(b"tap: --region takes the code of an F line\n");
         return true;
     }
@@ -325,8 +290,8 @@ fn fail_argument(options: Options) -> bool {
 
 // The options, if they can be taken; where the number of arguments does not fit the word its `usage` is said.
 fn judged(rt: &impl Env, options: Options, fits: bool, usage: &[u8]) -> Option<Options> {
-    if options.wrong != 0 {
-        fail_option(rt, options.wrong);
+    if let Some(k) = options.wrong {
+        fail_option(rt, k);
         return None;
     }
     if fail_argument(options) {
@@ -359,16 +324,12 @@ pub fn read_some(rt: &impl Env, takes: &[u8], usage: &[u8]) -> Option<Options> {
 pub fn next_file(rt: &impl Env, from: usize) -> usize {
     let end = argument_count(rt);
     let mut options = Options::new();
-    let mut k: usize = 2;
-    while k < end {
+    for k in 2..end {
         let before = options.count;
         options = take_argument(rt, options, k);
-        if options.count != before {
-            if from <= k {
-                return k;
-            }
+        if options.count != before && from <= k {
+            return k;
         }
-        k += 1;
     }
     end
 }

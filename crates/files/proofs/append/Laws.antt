@@ -1,56 +1,51 @@
--- The laws that the proofs of this crate and of its callers go by. Assumes nothing.
-use Rattle.std.proofs.Common.{◌≡◌, ℕ, suc, ◌+◌, ◌<◌, ◌≤◌, List, [], ◌∷◌, length, get_or, take, drop, set, sym, refl, ◌∙◌, arith, length-set, length-take-le, le-leb}
-use lib.Seq.{sets, set_out}
-use borrow.Author.Tests.{lt-leb}
-use Rattle.text.proofs.Laws.{next, done}
+-- What a copy of the bytes that have room makes of the slice. Assumes nothing.
+use Rattle.std.proofs.Common.{◌≡◌, ℕ, suc, ◌+◌, ◌-◌, ◌≤◌, zero, List, [], ◌∷◌, ◌++◌, length, take, drop, set, sym, refl, ap, ◌∙◌, arith, Bool, true, false, ◌<◌, leb, leb-true, leb-false, length-set, length-take-le}
+use Prim.Native.Nat.{min}
+use lib.Seq.{set_out}
+use borrow.Rule.Slice.PartMut.{put_mid}
+use mathlib.Core.List.{append_assoc}
+use Rattle.std.proofs.lemmas.List.{take_all}
+use Rattle.std.proofs.lemmas.List.Edits.{sets, sets-eq, paste_all}
+use Rattle.std.proofs.Math.Seq.{length-sets}
+use Rattle.std.proofs.lemmas.Slice.{put_mid-paste}
 use Rattle.files.specs.Append.{Appends}
 
--- the count of a slice's first bytes
-pub front_count : (s : List ℕ) (n : ℕ) → n ≤ length s → n ≡ length (take n s)
-front_count s n h = sym (length-take-le n s h)
-
--- ---- byte by byte: with what is left of them put, the slice is the one that is asked for
-pub record Going (s s₀ l : List ℕ) (at i place : ℕ) : Type 0 where
-  pub few : i ≤ length l
-  pub here : place ≡ at + i
-  pub inside : place ≤ length s
-  pub whole : sets s place (drop i l) ≡ sets s₀ at l
-  pub same : length s ≡ length s₀
-
-pub going_start : (s l : List ℕ) (at : ℕ) → at ≤ length s → Going s s l at 0 at
-going_start s l at h = record { few = omega arith; here = omega arith; inside = h; whole = refl; same = refl }
-
+-- ---- the bytes that have room are copied
 -- nothing is put past the end
 sets_out : (s l : List ℕ) (at : ℕ) → length s ≤ at → sets s at l ≡ s
 sets_out s [] at h = refl
 sets_out s (x ∷ xs) at h = rw (set_out s at x h) (sets_out s xs (suc at) (omega arith))
 
-module _ (s s₀ l : List ℕ) (at i place : ℕ) (so_far : Going s s₀ l at i place) where
-  pub going_as_long : length s ≡ length s₀
-  going_as_long = so_far.same
+sets_cut : (l s : List ℕ) (at n : ℕ) → length s ≤ at + n → sets s at l ≡ sets s at (take n l)
+sets_cut [] s at zero h = refl
+sets_cut [] s at (suc n) h = refl
+sets_cut (x ∷ l) s at zero h = sets_out s (x ∷ l) at (omega arith)
+sets_cut (x ∷ l) s at (suc n) h = let same : length (set s at x) ≡ length s = length-set s at x in sets_cut l (set s at x) (suc at) n (omega arith)
 
-  pub going_more : i < length l → place < length s → Going (set s place (get_or l i 0)) s₀ l at (i + 1) (place + 1)
-  going_more h room =
-      let z : place + 1 ≡ suc place = omega arith in
-      record {
-        few = omega arith;
-        here = omega (arith, so_far.here);
-        inside = rw length-set (omega arith);
-        whole = rw z (rw (next l i h) at so_far.whole);
-        same = rw length-set so_far.same;
-      }
+module _ (s l y : List ℕ) (at n k : ℕ) (here : at ≤ length s) (copied : y ≡ take n l) (long : n ≤ length l) (room : at + n ≤ length s) (is : k ≡ n) where
+  front : n ≡ length (take n l)
+  front = sym (length-take-le n l long)
 
-  pub going_full : i < length l → length s ≤ place → Appends l s₀ at place s
-  going_full h full = record {
-    next = rw (lt-leb (at + length l) (length s₀) (omega (arith, so_far.here, so_far.same))) (omega (arith, so_far.inside, so_far.same));
-    fill = sym (sets_out s (drop i l) place full) ∙ so_far.whole;
-  }
+  put_sets : put_mid at k s y ≡ sets s at (take n l)
+  put_sets =
+      put_mid-paste at k s y (take n l) n copied (sym is) front
+      ∙ paste_all s at (take n l) n front
+      ∙ ap (λ m. take at s ++ (take n l ++ drop (at + m) s)) front
+      ∙ sym (append_assoc (take at s) (take n l) (drop (at + length (take n l)) s))
+      ∙ sym (sets-eq (take n l) s at (omega (arith, front)))
 
-  pub going_done : length l ≤ i → Appends l s₀ at place s
-  going_done h = record {
-    next = rw (le-leb (at + length l) (length s₀) (omega (arith, so_far.few, so_far.here, so_far.inside, so_far.same)))
-        (omega (arith, so_far.few, so_far.here));
-    fill = rw (done l i h) at so_far.whole;
-  }
+-- n bytes of l were copied, as many as there are and have room
+pub appended : (s l y : List ℕ) (at n k : ℕ) → at ≤ length s → y ≡ take n l → n ≡ min (length l) (length s - at) → k ≡ n
+    → (at + n ≤ length (put_mid at k s y)) × Appends l s at (at + n) (put_mid at k s y)
+appended s l y at n k here copied few is = (rw put (rw length-sets (omega arith)), go (leb (at + length l) (length s)) refl)
+  where
+    put : put_mid at k s y ≡ sets s at (take n l)
+    put = put_sets s l y at n k here copied (omega arith) (omega arith) is
 
-pub ruleset going_laws = (going_start, going_as_long, going_more, going_full, going_done)
+    go : (b : Bool) → leb (at + length l) (length s) ≡ b → Appends l s at (at + n) (put_mid at k s y)
+    go true e =
+        let fits = leb-true (at + length l) (length s) e in
+        record { next = rw e (omega arith); fill = put ∙ ap (sets s at) (take_all n l (omega arith)) }
+    go false e =
+        let over : length s < at + length l = leb-false (at + length l) (length s) e in
+        record { next = rw e (omega arith); fill = put ∙ sym (sets_cut l s at n (omega arith)) }

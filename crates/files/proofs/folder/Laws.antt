@@ -13,5 +13,3 @@ loaded_inside s r n h e = (loaded_counts s r n h e).0
 
 pub loaded_count : (s : List ℕ) (r : Option ℕ) (n : ℕ) → Loads s r → r ≡ Some n → n ≡ length (take n s)
 loaded_count s r n h e = (loaded_counts s r n h e).1
-
-pub ruleset laws = (loaded_inside, loaded_count)

@@ -4,16 +4,8 @@ use Rattle.refusal.specs.declared.Refusal.{Refusal}
 use Rattle.frame_text.specs.Rules.{verdict}
 use Rattle.files.specs.Accepted.{Accepts, judged, Finds, none, some}
 use Rattle.files.specs.declared.frame_names.FrameText.{FrameText}
-use Rattle.files.specs.declared.frame_names.State.TheVariants.{Fine, Missing, Refused as RefusedBy}
+use Rattle.files.specs.declared.frame_names.State.TheVariants.{Missing}
 use Rattle.std.specs.Prelude.{Result, Ok, Err}
-
--- ---- by the verdict of n bytes
-module _ (s : List ℕ) (n : ℕ) (r : Result (Unit {0}) Refusal) (is : r ≡ verdict (take n s)) where
-  pub judged-fine : r ≡ Ok tt → record { count = n; state = Fine } ≡ judged n (verdict (take n s))
-  judged-fine e = rw (← is, e)
-
-  pub judged-refused : (x : Refusal) → r ≡ Err x → record { count = 0; state = RefusedBy x } ≡ judged n (verdict (take n s))
-  judged-refused x e = rw (← is, e)
 
 -- ---- of a file: no bytes are an accepted text
 pub none-accepted : (s : List ℕ) → Accepts s 0
@@ -33,7 +25,7 @@ module _ (s : List ℕ) (n : ℕ) (r : FrameText) (is : r ≡ judged n (verdict 
       by (Ok tt) e = record { inside = i; accepted = e }
       by (Err x) e = none-accepted s
 
-pub ruleset laws = (judged-fine, judged-refused, none-accepted, finds_none, finds_some, judged-accepted)
+pub ruleset laws = (none-accepted, finds_none, finds_some, judged-accepted)
 
 -- for callers: the part of the slice that is the text
 pub accepted-count : (s : List ℕ) (n : ℕ) → Accepts s n → n ≡ length (take n s)

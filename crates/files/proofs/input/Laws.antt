@@ -1,7 +1,7 @@
 -- The laws that callers go by: the name of an open file stands in the slice that was lent for it. Assumes nothing.
-use Rattle.std.proofs.Common.{◌≡◌, ℕ, ◌+◌, ◌*◌, ◌^◌, ◌<◌, ◌≤◌, List, length, take, sym, arith, length-take-le, w64, Fits}
+use Rattle.std.proofs.Common.{◌≡◌, ℕ, ◌≤◌, List, length, take, sym, length-take-le}
 use Rattle.io.specs.Counts.{IsPrefixLen}
-use Rattle.files.specs.Input.{Opens, Reaches, Holds}
+use Rattle.files.specs.Input.{Opens, Holds}
 use Rattle.files.specs.declared.input.Got.{Got}
 use Rattle.files.specs.declared.input.Got.TheVariants.{Bytes}
 use Rattle.files.specs.declared.input.File.{File}
@@ -15,21 +15,6 @@ name-inside name r reader n h e = (name_counts name r reader n h e).0
 
 pub name-count : (name : List ℕ) {R : Type 0} (r : File R) (reader : R) (n : ℕ) → Opens name r → r ≡ Open reader n → n ≡ length (take n name)
 name-count name r reader n h e = (name_counts name r reader n h e).1
-
-pub ruleset laws = (name-inside, name-count)
-
--- ---- reading a file
-module _ (s : List ℕ) (r : Got) (n more : ℕ) (reaches : Reaches s n r) (so : r ≡ Bytes more) (t : List ℕ) where
-  inside : n + more ≤ length s
-  inside = rw so at reaches
-
-  pub read_fits : length s ≡ length t → length t * 1 < 2 ^ 63 → Fits w64 (n + more)
-  read_fits e h = omega (arith, inside)
-
-  pub read_inside : length t ≡ length s → n + more ≤ length t
-  read_inside e = omega (arith, inside)
-
-pub ruleset read_laws = (read_fits, read_inside)
 
 -- what was read of a file
 module _ (s : List ℕ) (r : Got) (n : ℕ) (holds : Holds s r) (so : r ≡ Bytes n) where
