@@ -1,6 +1,6 @@
 // The base header's fields, read once, and behind them each candidate's, until one holds: the loops of `decode_header` of
 // frame_definition/decode.rs. One table has the loaded P lines, one the scratch rows: base first, then the candidate at hand.
-#![tactic(auto)]
+#![tactic(auto, using(crate::proofs::Laws::laws))]
 
 ghost use Rattle.std.specs.Prelude.{◌≡◌, ◌≤◌, length, Ok};
 ghost use Rattle.text.specs.Records.{Readable};
@@ -43,10 +43,9 @@ pub fn read_base(
         rows: 0,
     };
     let walked = walk_from(mpdu, text, &fields[..], count, 0, start, scratch);
-    let bit = walked.bit;
     Read {
         count,
-        bit,
+        bit: walked.bit,
         rows: walked.rows,
     }
 }
@@ -67,17 +66,15 @@ pub fn read_own(
         scratch.new result }
 {
     let first = base.count;
-    let bit = base.bit;
     let from = Walked {
-        bit,
+        bit: base.bit,
         rows: base.rows,
     };
     let count = load_params(text, start, n, fields, first);
     let walked = walk_from(mpdu, text, &fields[..], count, first, from, scratch);
-    let bit = walked.bit;
     Read {
         count,
-        bit,
+        bit: walked.bit,
         rows: walked.rows,
     }
 }
@@ -97,17 +94,15 @@ fn hold_candidate(
     ensures { Tries text.now mpdu.now start n fields.old base fields.new scratch.new result }
 {
     let read = read_own(text, mpdu, start, n, fields, scratch, base);
-    if meets_all(
+    meets_all(
         text,
         start,
         &fields[..],
         read.count,
         &scratch[..],
         read.rows,
-    ) {
-        return Some(read);
-    }
-    None
+    )
+    .then_some(read)
 }
 
 // The same. A V that finds another value in the base's rows decides before the candidate is read.
@@ -154,16 +149,13 @@ pub fn choose(
     let mut place = Place::start();
     let mut h: usize = 0;
     let mut n: usize = 0;
-    loop {
-        let Some(candidate) = next_candidate(text, place, key, h, n) else {
-            return None;
-        };
+    while let Some(candidate) = next_candidate(text, place, key, h, n) {
         place = candidate.place;
         h = candidate.number + 1;
         n = candidate.params;
-        let Some(read) = try_candidate(text, mpdu, place, n, fields, scratch, base) else {
-            continue;
-        };
-        return Some((candidate, read));
+        if let Some(read) = try_candidate(text, mpdu, place, n, fields, scratch, base) {
+            return Some((candidate, read));
+        }
     }
+    None
 }

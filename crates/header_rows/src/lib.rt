@@ -1,5 +1,5 @@
 // The rows of a header's answer: what the scratch rows tell, with the P's number for its place, and with the symbol.
-#![tactic(auto)]
+#![tactic(auto, using(crate::proofs::Laws::laws))]
 
 ghost use Rattle.std.specs.Prelude.{◌≡◌, List, map, ℕ, ◌+◌, ◌*◌, ◌≤◌, length, Ok};
 ghost use Rattle.frame_text.specs.Rules.{verdict};
@@ -85,11 +85,10 @@ fn row_of(text: &[u8], fields: &[u64], count: usize, row: Row) -> [u64; ROW_WIDT
     ensures { let ps = fields_in text.now fields.now count in
         result ≡ shown ps (definition text.now).sets (tells row) }
 {
-    let start = row.start;
     [
         number_of(fields, count, row.place),
         row.parent,
-        start.0,
+        row.start.0,
         row.bits,
         row.valued,
         row.value,
@@ -131,9 +130,7 @@ pub fn write_rows(
     ensures { let ps = fields_in text.now fields.now count in
         rows.new ≡ laid rows.old (map (shown ps (definition text.now).sets) (rows_in scratch.now n)) }
 {
-    let mut k: usize = 0;
-    while k < n {
+    for k in 0..n {
         write_row(text, fields, count, scratch, k, rows);
-        k += 1;
     }
 }
