@@ -59,15 +59,12 @@ fn heading_of(candidate: Candidate, read: Read, right: bool) -> DecodedHeader
     requires { read.bit.0 ≤ 16384 }
     ensures { result ≡ headed candidate read right }
 {
-    let flags = candidate.flags;
-    let name = candidate.name;
-    let bit = read.bit;
     DecodedHeader {
         number: candidate.number,
         key: candidate.key,
-        flags,
-        name,
-        payload: payload_offset(bit),
+        flags: candidate.flags,
+        name: candidate.name,
+        payload: payload_offset(read.bit),
         right,
         rows: read.rows,
     }
@@ -141,13 +138,20 @@ fn pick(
     ensures { Picks text.now mpdu.now sought.speed sought.key (base_of text.now fields.old base)
         sought.wanted rows.old result rows.new }
 {
-    let Some((candidate, read)) = choose(text, mpdu, sought.key, fields, scratch, base) else {
-        return Err(Refusal::NoCandidate);
-    };
+    let (candidate, read) = choose(text, mpdu, sought.key, fields, scratch, base).ok_or(
+        Refusal::NoCandidate,
+    )?;
     let right = check_crc(mpdu, sought.speed);
     let header = heading_of(candidate, read, right);
-    let wanted = sought.wanted;
-    show(text, &fields[..], &scratch[..], read, header, wanted, rows)
+    show(
+        text,
+        &fields[..],
+        &scratch[..],
+        read,
+        header,
+        sought.wanted,
+        rows,
+    )
 }
 
 // The header by the base whose P lines follow the place, after n P lines of the text; or refusal 7 or 8.
@@ -189,9 +193,7 @@ fn decode_by(
         return Err(Refusal::TooShort(mpdu.len()));
     }
     let key = base_key(text, region, speed);
-    let Some((place, params)) = find_base(text, key as u64) else {
-        return Err(Refusal::NoBase(key as usize));
-    };
+    let (place, params) = find_base(text, key as u64).ok_or(Refusal::NoBase(key as usize))?;
     let sought = Sought {
         key: key as u64,
         speed,
@@ -253,8 +255,6 @@ pub fn decode_header(
 ) -> Result<DecodedHeader, Refusal>
     ensures { Decodes text.now mpdu.now region speed rows.old result rows.new }
 {
-    match check_frame_text(text) {
-        Ok(()) => decode_accepted(text, mpdu, region, speed, rows),
-        Err(refusal) => Err(refusal),
-    }
+    check_frame_text(text)?;
+    decode_accepted(text, mpdu, region, speed, rows)
 }

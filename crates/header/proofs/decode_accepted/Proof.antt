@@ -1,8 +1,0 @@
--- `header::decode_accepted` meets its contract, by the laws of the crate. Assumes nothing.
-use Rattle.header.proofs.Laws.{laws}
-use borrow.Author.Rules.{rules}
-use Rattle.header.proofs.decode_accepted.Statement.{statement}
-use Rattle.header.proofs.decode_accepted.Tie as tie
-
-pub decode_accepted_spec : {M : Type 1} → statement M
-decode_accepted_spec = tie.close (tie.spec (λ c κs. search (rules, laws)) (λ c. search (rules, laws)) (λ c. search (rules, laws)))
