@@ -1,0 +1,8 @@
+use lib.ListN.{drop}
+use Prim.Native.Nat.{◌+◌}
+use mathlib.Core.Path.{◌≡◌}
+use Rattle.text.specs.Scan.{low}
+use Rattle.text.proofs.scan.scan_low.Given as goal
+
+abbrev pub invariant-loop-i : goal.invariant-loop-i
+invariant-loop-i l = low l.s ≡ l.i + low (drop l.i l.s)
