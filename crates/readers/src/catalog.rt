@@ -1,4 +1,6 @@
 // The index of the commands that ship: a line `C`, class, command, name, file for each, fields parted by tabs.
+#![tactic(auto, using(crate::proofs::catalog::Laws::laws))]
+
 ghost use Rattle.std.specs.Prelude.{◌≡◌};
 ghost use Rattle.text.specs.Text.{field, fields};
 ghost use Rattle.readers.specs.Lines.{lines_in};
@@ -13,20 +15,15 @@ use text::is_same;
 fn has_numbers(line: &[u8], class: u8, command: u8) -> bool
     ensures { result ≡ has_numbers class command line.now }
 {
-    if is_number(field_of(line, 1), class as usize) {
-        return is_number(field_of(line, 2), command as usize);
-    }
-    false
+    is_number(field_of(line, 1), usize::from(class))
+        && is_number(field_of(line, 2), usize::from(command))
 }
 
 // Is this their line?
 fn is_of(line: &[u8], class: u8, command: u8) -> bool
     ensures { result ≡ is_of class command line.now }
 {
-    if is_same(field_of(line, 0), b"C") {
-        return has_numbers(line, class, command);
-    }
-    false
+    is_same(field_of(line, 0), b"C") && has_numbers(line, class, command)
 }
 
 // The first line of a class and a command; no bytes where there is none.
@@ -35,8 +32,9 @@ pub fn find_command(index: &[u8], class: u8, command: u8) -> &[u8]
 {
     let mut at: usize = 0;
     while at < index.len() {
-        if is_of(line(index, at), class, command) {
-            return line(index, at);
+        let found = line(index, at);
+        if is_of(found, class, command) {
+            return found;
         }
         at = next_line(index, at);
     }

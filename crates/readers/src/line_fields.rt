@@ -1,4 +1,6 @@
 // The lines of a definition text and the fields of a line, one at a time, whatever stands in them.
+#![tactic(auto, using(crate::proofs::line_fields::Laws::step_laws, crate::proofs::line_fields::Laws::count_laws, crate::proofs::line_fields::Laws::field_laws, crate::proofs::line_fields::Laws::left_laws, crate::proofs::line_fields::Laws::letter_laws))]
+
 ghost use Rattle.std.specs.Prelude.{◌≡◌, length};
 ghost use Rattle.text.specs.Text.{split, field, fields};
 ghost use Rattle.text.specs.Place.{kind_of};
@@ -11,8 +13,7 @@ pub fn find_piece(s: &[u8], b: u8, k: usize) -> Part
     ensures { IsField b k s.now result }
 {
     let mut at = 0;
-    let mut left = k;
-    while 0 < left {
+    for _ in 0..k {
         let rest = &s[at..];
         let e = find(rest, b);
         if e == rest.len() {
@@ -22,7 +23,6 @@ pub fn find_piece(s: &[u8], b: u8, k: usize) -> Part
             };
         }
         at = at + e + 1;
-        left -= 1;
     }
     let len = find(&s[at..], b);
     Part { start: at, len }
@@ -65,12 +65,5 @@ pub fn letter_of(line: &[u8]) -> u8
 // Which field of a line s is, from 0; the number of fields where it is none of them.
 pub fn find_field(line: &[u8], s: &[u8]) -> usize {
     let n = count_pieces(line, 9);
-    let mut k: usize = 0;
-    while k < n {
-        if is_same(field_of(line, k), s) {
-            return k;
-        }
-        k += 1;
-    }
-    n
+    (0..n).find(|k| is_same(field_of(line, *k), s)).unwrap_or(n)
 }

@@ -1,4 +1,6 @@
 // Lines of a text, as the tables of rows number them. Any bytes are a text here: a line that is not there has no bytes.
+#![tactic(auto, using(crate::proofs::lines::Laws::next_laws, crate::proofs::lines::Laws::line_laws, crate::proofs::lines::Laws::seeks_laws, crate::proofs::lines::Laws::counts_laws))]
+
 ghost use Rattle.std.specs.Prelude.{◌≡◌, [], ◌∷◌, ◌≤◌, ◌<◌, length, get_or};
 ghost use Rattle.readers.specs.Lines.{line_at, lines_in, of_kind, Follows};
 
@@ -12,9 +14,10 @@ pub fn next_line(text: &[u8], at: usize) -> usize
     let rest = &text[at..];
     let n = find(rest, b'\n');
     if n < rest.len() {
-        return at + n + 1;
+        at + n + 1
+    } else {
+        text.len()
     }
-    text.len()
 }
 
 // The line that begins at a place, without its end.
@@ -36,14 +39,12 @@ pub fn find_line(text: &[u8], kind: u8, n: usize) -> &[u8]
     let mut at: usize = 0;
     let mut left = n;
     while at < text.len() {
-        if text[at] != kind {
-            at = next_line(text, at);
-            continue;
+        if text[at] == kind {
+            if left == 0 {
+                return line(text, at);
+            }
+            left -= 1;
         }
-        if left == 0 {
-            return line(text, at);
-        }
-        left -= 1;
         at = next_line(text, at);
     }
     &text[..0]

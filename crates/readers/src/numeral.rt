@@ -1,4 +1,6 @@
 // A number that a person types, and one of a field.
+#![tactic(auto, using(crate::proofs::numeral::Laws::typing_laws, crate::proofs::numeral::Laws::says_laws))]
+
 ghost use Rattle.std.specs.Prelude.{◌≡◌};
 ghost use Rattle.readers.specs.Numeral.{numeral_of, says};
 
@@ -11,24 +13,15 @@ const MOST: u64 = 1000000000000000000;
 pub fn read_numeral(bytes: &[u8]) -> Option<u64>
     ensures { result ≡ numeral_of bytes.now }
 {
-    if bytes.len() == 0 {
+    if bytes.is_empty() {
         return None;
     }
     let mut value: u64 = 0;
-    let mut i: usize = 0;
-    while i < bytes.len() {
-        let b = bytes[i];
-        if b < b'0' {
+    for b in bytes {
+        if *b < b'0' || b'9' < *b || MOST <= value {
             return None;
         }
-        if b'9' < b {
-            return None;
-        }
-        if MOST <= value {
-            return None;
-        }
-        value = value * 10 + (b - b'0') as u64;
-        i += 1;
+        value = value * 10 + u64::from(*b - b'0');
     }
     Some(value)
 }
@@ -38,8 +31,7 @@ pub fn is_number(s: &[u8], n: usize) -> bool
     ensures { result ≡ says n s.now }
 {
     match read_number(s, 255) {
-        Number::Is(m) => m as usize == n,
-        Number::Over => false,
-        Number::Not => false,
+        Number::Is(m) => usize::from(m) == n,
+        Number::Over | Number::Not => false,
     }
 }

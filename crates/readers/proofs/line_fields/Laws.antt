@@ -53,42 +53,45 @@ module _ (b : ℕ) (s : List ℕ) (at e : ℕ) (at_in : at ≤ length s) (at-e :
 
 pub ruleset step_laws = (step_inside, step_fits, step_sum-fits)
 
--- ---- piece k: `left` more from `at` on
-pub record Left (b : ℕ) (s : List ℕ) (k at left : ℕ) : Type 0 where
+-- ---- piece k: piece i begins at `at`
+pub record Left (b : ℕ) (s : List ℕ) (k at i : ℕ) : Type 0 where
   pub at_in : at ≤ length s
-  pub gets : get_or (split b s) k [] ≡ get_or (split b (drop at s)) left []
-  pub counts : k + length (split b (drop at s)) ≡ left + length (split b s)
+  pub gets : get_or (split b s) k [] ≡ get_or (split b (drop at s)) (k - i) []
+  pub counts : i + length (split b (drop at s)) ≡ length (split b s)
 
-pub left-start : (b : ℕ) (s : List ℕ) (k : ℕ) → Left b s k 0 k
-left-start b s k = record { at_in = omega arith; gets = refl; counts = refl }
+pub left-start : (b : ℕ) (s : List ℕ) (k : ℕ) → Left b s k 0 0
+left-start b s k = let z : k - 0 ≡ k = omega arith in record { at_in = omega arith; gets = rw z; counts = omega arith }
 
-pub left_in : (b : ℕ) (s : List ℕ) (k at left : ℕ) → Left b s k at left → at ≤ length s
-left_in b s k at left l = l.at_in
+pub left_in : (b : ℕ) (s : List ℕ) (k at i : ℕ) → Left b s k at i → at ≤ length s
+left_in b s k at i l = l.at_in
 
-module _ (b : ℕ) (s : List ℕ) (k at left e : ℕ) (so_far : Left b s k at left) (at-e : e ≡ cut b (take (length s - at) (drop at s))) where
+module _ (b : ℕ) (s : List ℕ) (k at i e : ℕ) (so_far : Left b s k at i) (at-e : e ≡ cut b (take (length s - at) (drop at s))) where
   -- no piece k is left
-  pub left-past : 0 < left → e ≡ length (take (length s - at) (drop at s)) → IsField b k s (record { start = length s; len = 0 })
+  pub left-past : i < k → e ≡ length (take (length s - at) (drop at s)) → IsField b k s (record { start = length s; len = 0 })
   left-past h end = record {
     inside = omega arith;
     more = le-ltb (length s + 0) (length s) (omega arith) ∙ sym (le-ltb (suc k) (length (split b s)) (omega (arith, counted)));
-    says = sym (so_far.gets ∙ ap (λ (ps : List (List ℕ)). get_or ps left []) (alone b s at e so_far.at_in at-e end) ∙ past left h);
+    says = sym (so_far.gets ∙ ap (λ (ps : List (List ℕ)). get_or ps (k - i) []) (alone b s at e so_far.at_in at-e end) ∙ past (k - i) (omega arith));
   }
     where
-      counted : k + 1 ≡ left + length (split b s)
+      counted : i + 1 ≡ length (split b s)
       counted = let c : length (split b (drop at s)) ≡ 1 = ap length (alone b s at e so_far.at_in at-e end) in omega (arith, so_far.counts)
 
       past : (n : ℕ) → 0 < n → get_or (drop at s ∷ []) n [] ≡ []
       past zero q = absurd (omega arith)
       past (suc n) q = refl
 
-  pub left-on : 0 < left → e ≤ length (take (length s - at) (drop at s)) → (e ≡ length (take (length s - at) (drop at s)) → ⊥)
-      → Left b s k (at + e + 1) (left - 1)
+  pub left-on : i < k → e ≤ length (take (length s - at) (drop at s)) → (e ≡ length (take (length s - at) (drop at s)) → ⊥)
+      → Left b s k (at + e + 1) (i + 1)
   left-on h in_e not_end = record {
     at_in = step_inside b s at e so_far.at_in at-e in_e not_end;
-    gets = so_far.gets ∙ ap (λ (ps : List (List ℕ)). get_or ps left []) p ∙ get left h;
+    gets = so_far.gets ∙ ap (λ (ps : List (List ℕ)). get_or ps (k - i) []) p ∙ get (k - i) (omega arith) ∙ ap (λ (n : ℕ). get_or (split b (drop (at + e + 1) s)) n []) less;
     counts = let c : length (split b (drop at s)) ≡ suc (length (split b (drop (at + e + 1) s))) = ap length p in omega (arith, so_far.counts);
   }
     where
+      less : k - i - 1 ≡ k - (i + 1)
+      less = omega arith
+
       p : split b (drop at s) ≡ take e (drop at s) ∷ split b (drop (at + e + 1) s)
       p = parted b s at e so_far.at_in at-e in_e not_end
 
@@ -97,10 +100,10 @@ module _ (b : ℕ) (s : List ℕ) (k at left e : ℕ) (so_far : Left b s k at le
       get (suc n) q = let z : suc n - 1 ≡ n = omega arith in rw z
 
   -- it is the next
-  pub left_here : left ≤ 0 → e ≤ length (take (length s - at) (drop at s)) → IsField b k s (record { start = at; len = e })
-  left_here h in_e = go (dec_le (e + 1) (length (take (length s - at) (drop at s))))
+  pub left_here : i ≤ k → k ≤ i → e ≤ length (take (length s - at) (drop at s)) → IsField b k s (record { start = at; len = e })
+  left_here most least in_e = go (dec_le (e + 1) (length (take (length s - at) (drop at s))))
     where
-      none : left ≡ 0
+      none : k - i ≡ 0
       none = omega arith
 
       l : length (take (length s - at) (drop at s)) ≡ length s - at
