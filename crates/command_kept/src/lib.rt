@@ -1,8 +1,10 @@
 // What the check of a command text keeps of the lines before, and how it judges a line by that.
-#![tactic(auto)]
+#![tactic(auto, using(crate::proofs::Laws::room, crate::proofs::Laws::judge_laws))]
 
 ghost use Rattle.std.specs.Prelude.{◌≡◌, ◌<◌};
 ghost use Rattle.command_kept.specs.Kept.{nothing, full, begun, far, judged_param, judged_group, judged_item, judged};
+
+use text::Misfit;
 
 // What limits and owners look at in a line: a Q's level, the shift of a G or of an item line, 0 where it has none.
 #[derive(Clone, Copy)]
@@ -10,7 +12,6 @@ pub enum Form {
     Param { level: u16 },
     Group { shift: u16 },
     Item { shift: u16 },
-    Bad,
 }
 
 // What is kept of the lines before: how many Q and G lines there were, whether the last of them is a Q, whether a level 1 Q
@@ -21,15 +22,6 @@ pub struct Kept {
     pub owned: bool,
     pub grouped: bool,
     pub items: u8,
-}
-
-// The judgement on a line: nothing is wrong, and what is kept after it; a limit is passed; no owner or parent; not a form.
-#[derive(Clone, Copy)]
-pub enum Judged {
-    On(Kept),
-    Passed,
-    Lost,
-    Wrong,
 }
 
 // Before the first line.
@@ -53,73 +45,72 @@ impl Kept {
     }
 
     // After a Q or G.
-    fn begin(self, owned: bool, grouped: bool) -> Judged
+    fn begin(self, owned: bool, grouped: bool) -> Self
         requires { self.count < 256 }
         ensures { result ≡ begun self owned grouped }
     {
-        Judged::On(Kept {
+        Kept {
             count: self.count + 1,
             owned,
             grouped,
             items: 0,
-        })
+        }
     }
 
-    fn param(self, level: u16) -> Judged
+    fn param(self, level: u16) -> Result<Kept, Misfit>
         ensures { result ≡ judged_param self level }
     {
         if self.is_full() {
-            return Judged::Passed;
+            return Err(Misfit::Passed);
         }
         if level != 1 {
-            return self.begin(true, false);
+            return Ok(self.begin(true, false));
         }
-        if self.grouped {
-            return self.begin(true, true);
+        if !self.grouped {
+            return Err(Misfit::Lost);
         }
-        Judged::Lost
+        Ok(self.begin(true, true))
     }
 
-    fn group(self, shift: u16) -> Judged
+    fn group(self, shift: u16) -> Result<Kept, Misfit>
         ensures { result ≡ judged_group self shift }
     {
         if self.is_full() {
-            return Judged::Passed;
+            return Err(Misfit::Passed);
         }
         if is_far(shift) {
-            return Judged::Lost;
+            return Err(Misfit::Lost);
         }
-        self.begin(false, true)
+        Ok(self.begin(false, true))
     }
 
-    fn item(self, shift: u16) -> Judged
+    fn item(self, shift: u16) -> Result<Kept, Misfit>
         ensures { result ≡ judged_item self shift }
     {
-        if self.owned {
-            if 32 <= self.items {
-                return Judged::Passed;
-            }
-            if is_far(shift) {
-                return Judged::Lost;
-            }
-            return Judged::On(Kept {
-                count: self.count,
-                owned: self.owned,
-                grouped: self.grouped,
-                items: self.items + 1,
-            });
+        if !self.owned {
+            return Err(Misfit::Lost);
         }
-        Judged::Lost
+        if 32 <= self.items {
+            return Err(Misfit::Passed);
+        }
+        if is_far(shift) {
+            return Err(Misfit::Lost);
+        }
+        Ok(Kept {
+            items: self.items + 1,
+            ..self
+        })
     }
 
-    pub fn judge(self, form: Form) -> Judged
+    // What is kept after a line of this form, or what is wrong with the line; None is a line of no form.
+    pub fn judge(self, form: Option<Form>) -> Result<Kept, Misfit>
         ensures { result ≡ judged self form }
     {
         match form {
-            Form::Param { level } => self.param(level),
-            Form::Group { shift } => self.group(shift),
-            Form::Item { shift } => self.item(shift),
-            Form::Bad => Judged::Wrong,
+            Some(Form::Param { level }) => self.param(level),
+            Some(Form::Group { shift }) => self.group(shift),
+            Some(Form::Item { shift }) => self.item(shift),
+            None => Err(Misfit::Wrong),
         }
     }
 }
