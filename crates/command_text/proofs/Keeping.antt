@@ -13,18 +13,19 @@ use Rattle.text.specs.Place.{cells, Steps}
 use Rattle.text.specs.declared.Place.{Place}
 use Rattle.text.specs.declared.Line.{Line}
 use Rattle.text.proofs.Tests.{alike}
-use Rattle.text.proofs.Judging.{Brief, Outcome, on, passed, astray, wrong, Meets, Checked, checked_long, checked_start, checked_end, checked_on}
-use Rattle.text.proofs.Judging.{checked_passed, checked_lost, checked_wrong}
+use Rattle.text.proofs.Judging.{Brief, Meets, Checked, checked_long, checked_start, checked_end, checked_on}
+use Rattle.text.proofs.Judging.{checked_refused}
 use Rattle.text.proofs.Honest.{checks}
 use Rattle.command_kept.specs.Kept.{nothing, judged}
 use Rattle.command_kept.specs.declared.Form.{Form}
 use Rattle.command_kept.specs.declared.Kept.{Kept}
-use Rattle.command_kept.specs.declared.Judged.{Judged}
-use Rattle.command_kept.specs.declared.Judged.TheVariants.{On, Passed, Lost, Wrong}
+use Rattle.text.specs.declared.Misfit.{Misfit}
+use Rattle.text.specs.declared.Misfit.TheVariants.{Passed, Lost, Wrong}
+use Rattle.text.specs.Misfit.{refused_at}
 use Rattle.command_text.specs.Form.{Param, Group, Detail, Record, param, group, item, form}
 use Rattle.command_text.specs.Rules.{count, items, owned, grouped, shift_in, rules}
 use Rattle.command_text.specs.Shape.{shape}
-use Rattle.std.specs.Prelude.{Option, Some, None, Ok, Err}
+use Rattle.std.specs.Prelude.{Option, Some, None, Result, Ok, Err}
 
 -- ---- what is kept
 pub record Tells (before : List Record) (k : Kept) : Type 0 where
@@ -36,19 +37,13 @@ pub record Tells (before : List Record) (k : Kept) : Type 0 where
 pub tells-nothing : (k : Kept) → k ≡ nothing → Tells [] k
 tells-nothing k e = rw e (record { counted = refl; owns = refl; groups = refl; holds = refl })
 
-abbrev pub outcome : Judged → Outcome Kept
-outcome (On k) = on k
-outcome Passed = passed
-outcome Lost = astray
-outcome Wrong = wrong
-
 module _ (before : List Record) (k : Kept) (tells : Tells before k) where
-  meets-item : (d : Detail) → Meets rules Tells before (Some (item d)) (outcome (judged k (shape (Some (item d)))))
+  meets-item : (d : Detail) → Meets rules Tells before (Some (item d)) ((judged k (shape (Some (item d)))))
   meets-item d = go k.owned (leb 32 k.items) (ltb 7 (shift_in d)) refl (sym tells.owns) (rw tells.holds) refl
     where
       go : (a b c : Bool) → k.owned ≡ a → owned before ≡ a → leb 32 (items before) ≡ b → ltb 7 (shift_in d) ≡ c
-          → Meets rules Tells before (Some (item d)) (outcome (cond a (cond b Passed (cond c Lost
-          (On (record { count = k.count; owned = k.owned; grouped = k.grouped; items = k.items + 1 })))) Lost))
+          → Meets rules Tells before (Some (item d)) ((cond a (cond b (Err Passed) (cond c (Err Lost)
+          (Ok (record { count = k.count; owned = k.owned; grouped = k.grouped; items = k.items + 1 })))) (Err Lost)))
       go false b c o p q s = (item d, refl, rw p, rw p)
       go true true c o p q s = (item d, refl, rw (p, q))
       go true false true o p q s = (item d, refl, rw (p, q), rw (p, s))
@@ -60,33 +55,33 @@ module _ (before : List Record) (k : Kept) (tells : Tells before k) where
         record { counted = tells.counted; owns = tells.owns; groups = tells.groups; holds = omega (arith, tells.holds) },
       )
 
-  meets_group : (g : Group) → Meets rules Tells before (Some (group g)) (outcome (judged k (shape (Some (group g)))))
+  meets_group : (g : Group) → Meets rules Tells before (Some (group g)) ((judged k (shape (Some (group g)))))
   meets_group g = go (leb 256 k.count) (ltb 7 g.shift) (rw tells.counted) refl
     where
       go : (a b : Bool) → leb 256 (count before) ≡ a → ltb 7 g.shift ≡ b
-          → Meets rules Tells before (Some (group g)) (outcome (cond a Passed (cond b Lost
-          (On (record { count = k.count + 1; owned = false; grouped = true; items = 0 })))))
+          → Meets rules Tells before (Some (group g)) ((cond a (Err Passed) (cond b (Err Lost)
+          (Ok (record { count = k.count + 1; owned = false; grouped = true; items = 0 })))))
       go true b p q = (group g, refl, p)
       go false true p q = (group g, refl, p, q)
       go false false p q = (group g, refl, p, q, record { counted = omega (arith, tells.counted); owns = refl; groups = refl; holds = refl })
 
-  meets-param : (q : Param) → Meets rules Tells before (Some (param q)) (outcome (judged k (shape (Some (param q)))))
+  meets-param : (q : Param) → Meets rules Tells before (Some (param q)) ((judged k (shape (Some (param q)))))
   meets-param q = go (leb 256 k.count) (eqb q.level 1) k.grouped (rw tells.counted) refl (sym tells.groups)
     where
       counted : k.count + 1 ≡ suc (count before)
       counted = omega (arith, tells.counted)
 
       go : (a b c : Bool) → leb 256 (count before) ≡ a → eqb q.level 1 ≡ b → grouped before ≡ c
-          → Meets rules Tells before (Some (param q)) (outcome (cond a Passed (cond b
-          (cond c (On (record { count = k.count + 1; owned = true; grouped = true; items = 0 })) Lost)
-          (On (record { count = k.count + 1; owned = true; grouped = false; items = 0 })))))
+          → Meets rules Tells before (Some (param q)) ((cond a (Err Passed) (cond b
+          (cond c (Ok (record { count = k.count + 1; owned = true; grouped = true; items = 0 })) (Err Lost))
+          (Ok (record { count = k.count + 1; owned = true; grouped = false; items = 0 })))))
       go true b c p s g = (param q, refl, p)
       go false true true p s g = (param q, refl, p, rw (s, g), record { counted = counted; owns = refl; groups = rw (s, g); holds = refl })
       go false true false p s g = (param q, refl, p, rw (s, g))
       go false false c p s g = (param q, refl, p, rw s, record { counted = counted; owns = refl; groups = rw s; holds = refl })
 
   -- the code's judgement is that of the rules
-  pub meets : (x : Option Record) → Meets rules Tells before x (outcome (judged k (shape x)))
+  pub meets : (x : Option Record) → Meets rules Tells before x ((judged k (shape x)))
   meets None = refl
   meets (Some (param q)) = meets-param q
   meets (Some (group g)) = meets_group g
@@ -115,26 +110,19 @@ check_start t p k e f = checked_start rules Tells t p k (tells-nothing k f) e
 pub check_end : (t : List ℕ) (p : Place) (k : Kept) → Checked rules Tells t p k → length t ≤ 60000 → length t ≤ p.at → Checks rules t (Ok tt)
 check_end t p k c short h = checks rules t _ (checked_end rules Tells t p k c short h)
 
-module _ (t : List ℕ) (p : Place) (k : Kept) (l : Line) (f : Form) (j : Judged) (c : Checked rules Tells t p k) (inside : p.at < length t)
+module _ (t : List ℕ) (p : Place) (k : Kept) (l : Line) (f : Option Form) (j : Result Kept Misfit) (c : Checked rules Tells t p k) (inside : p.at < length t)
     (step : Steps t p l)
     (form_is : f ≡ shape (form (cells t l))) (judgement : j ≡ judged k f) where
-  met : Meets rules Tells c.before (form (cells t l)) (outcome j)
+  met : Meets rules Tells c.before (form (cells t l)) j
   met = rw (judgement, form_is) (meets c.before k c.tells (form (cells t l)))
 
-  pub check_on : (k' : Kept) → j ≡ On k' → Checked rules Tells t l.next k'
-  check_on k' e = checked_on rules Tells brief t p k l c inside step (outcome j) met k' (ap outcome e)
+  pub check_on : (k' : Kept) → j ≡ Ok k' → Checked rules Tells t l.next k'
+  check_on k' e = checked_on rules Tells brief t p k l c inside step j met k' e
 
-  pub check_less : (k' : Kept) → j ≡ On k' → length t - l.next.at < length t - p.at
+  pub check_less : (k' : Kept) → j ≡ Ok k' → length t - l.next.at < length t - p.at
   check_less k' e = omega (arith, step.passes.on)
 
-  module _ (short : length t ≤ 60000) where
-    pub check_passed : j ≡ Passed → Checks rules t (Err (refusal.Limit p.line))
-    check_passed e = checks rules t _ (checked_passed rules Tells brief t p k l c inside step (outcome j) met short (ap outcome e))
+  pub check_refused : length t ≤ 60000 → (m : Misfit) → j ≡ Err m → Checks rules t (Err (refused_at m p.line))
+  check_refused short m e = checks rules t _ (checked_refused rules Tells brief t p k l c inside step j met short m e)
 
-    pub check_lost : j ≡ Lost → Checks rules t (Err (refusal.Owner p.line))
-    check_lost e = checks rules t _ (checked_lost rules Tells brief t p k l c inside step (outcome j) met short (ap outcome e))
-
-    pub check_wrong : j ≡ Wrong → Checks rules t (Err (refusal.Form p.line))
-    check_wrong e = checks rules t _ (checked_wrong rules Tells brief t p k l c inside step (outcome j) met short (ap outcome e))
-
-pub ruleset check_laws = (check_long, check_start, check_end, check_on, check_less, check_passed, check_lost, check_wrong)
+pub ruleset check_laws = (check_long, check_start, check_end, check_on, check_less, check_refused)

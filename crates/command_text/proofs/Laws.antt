@@ -14,7 +14,7 @@ use Rattle.text.specs.declared.Line.{Line}
 use Rattle.text.proofs.Laws.{cells-length}
 use Rattle.text.proofs.Tests.{and_left, and_right, count_of, value_of, optional-value_of}
 use Rattle.command_kept.specs.declared.Form.{Form}
-use Rattle.command_kept.specs.declared.Form.TheVariants.{Param, Group, Item, Bad}
+use Rattle.command_kept.specs.declared.Form.TheVariants.{Param, Group, Item}
 use Rattle.command_text.specs.Form.{Record, group, item, variant, bit_field, type_name, type_among, type_of, known}
 use Rattle.command_text.specs.Form.{param_words, param_condition, param_fields}
 use Rattle.command_text.specs.Form.{group_fields, group_form, variant_fields, variant_form, array_form, named_form, bits_fields, bits_form, bitmask_form}
@@ -22,7 +22,7 @@ use Rattle.command_text.specs.Form.{group_of, size_of, bits_of, of_type, said, p
 use Rattle.command_text.specs.Shape.{late_types, last_types, tagged, shape}
 use Rattle.command_text.specs.declared.ParamType.{ParamType}
 use Rattle.command_text.specs.declared.ParamType.TheVariants as kind
-use Rattle.std.specs.Prelude.{Option, Some, None}
+use Rattle.std.specs.Prelude.{Option, Some, None, is_some}
 
 -- ---- the names of types
 module _ (s : List ℕ) (a : Bool) (is-a : a ≡ same s (type_name kind.Variant)) where
@@ -79,12 +79,13 @@ module _ (s : List ℕ) (a : Bool) (is-a : a ≡ same s (type_name kind.Byte)) w
         pub type_late : (r : Option ParamType) → r ≡ type_among late_types s → a ≡ false → b ≡ false → c ≡ false → d ≡ false → r ≡ type_of s
         type_late r is ea eb ec ed = is ∙ rw (sym is-a ∙ ea, sym is_b ∙ eb, sym is_c ∙ ec, sym is-d ∙ ed)
 
-module _ (r a : Option ParamType) (says : r ≡ a) where
-  pub known_is : (type : ParamType) → r ≡ Some type → true ≡ known a
-  known_is type e = rw (← says, e)
+is_known : (r : Option ParamType) → is_some r ≡ known r
+is_known (Some type) = refl
+is_known None = refl
 
-  pub known-not : r ≡ None → false ≡ known a
-  known-not e = rw (← says, e)
+module _ (r a : Option ParamType) (says : r ≡ a) where
+  pub known_is : (b : Bool) → b ≡ is_some r → b ≡ known a
+  known_is b e = rw says at (e ∙ is_known r)
 
 pub of_type_lem : (s f : List ℕ) (r : Bool) → s ≡ f → r ≡ known (type_of s) → r ≡ known (type_of f)
 of_type_lem s f r part e = rw part at e
@@ -105,22 +106,21 @@ pub ruleset type_laws = (
   type_marker,
   type_late,
   known_is,
-  known-not,
 )
 
 -- ---- a line of n fields that has a form, or not
 module _ (t : List ℕ) (l : Line) (n : ℕ) (fields : Bool) (x : Option Record) where
-  pub count_bad : (l.fields ≡ n → ⊥) → Bad ≡ shape (said (eqb (length (cells t l)) n && fields) x)
+  pub count_bad : (l.fields ≡ n → ⊥) → None ≡ shape (said (eqb (length (cells t l)) n && fields) x)
   count_bad h = rw (cells-length t l.marks l.fields 0, ne_eqb l.fields n h)
 
   module _ (b : Bool) (good : b ≡ fields) (h : l.fields ≡ n) where
     decides : (eqb (length (cells t l)) n && fields) ≡ b
     decides = ap (λ (y : Bool). y && fields) (count_of t l n h) ∙ sym good
 
-    pub fields_bad : b ≡ false → Bad ≡ shape (said (eqb (length (cells t l)) n && fields) x)
+    pub fields_bad : b ≡ false → None ≡ shape (said (eqb (length (cells t l)) n && fields) x)
     fields_bad e = ap (λ (y : Bool). shape (said y x)) (sym (decides ∙ e))
 
-    fields_good : b ≡ true → (f : Form) → f ≡ shape x → f ≡ shape (said (eqb (length (cells t l)) n && fields) x)
+    fields_good : b ≡ true → (f : Option Form) → f ≡ shape x → f ≡ shape (said (eqb (length (cells t l)) n && fields) x)
     fields_good e f h = h ∙ ap (λ (y : Bool). shape (said y x)) (sym (decides ∙ e))
 
 -- what a line of a form says of its shift, its level and its type
@@ -142,35 +142,35 @@ module _ (fs : List (List ℕ)) where
 
 module _ (t : List ℕ) (l : Line) (b : Bool) (v : ℕ) where
   pub group_is : b ≡ group_fields (cells t l) → l.fields ≡ 5 → b ≡ true → v ≡ text.value 255 (field 4 (cells t l))
-      → Group v ≡ shape (said (group_form (cells t l)) (Some (group (group_of (cells t l)))))
+      → Some (Group v) ≡ shape (said (group_form (cells t l)) (Some (group (group_of (cells t l)))))
   group_is good h e at-v =
       let u : up_to 255 (field 4 (cells t l)) ≡ true = group_shift (cells t l) (sym good ∙ e) in
-      fields_good t l 5 (group_fields (cells t l)) (Some (group (group_of (cells t l)))) b good h e (Group v)
-      (ap Group (at-v ∙ value_of 255 (field 4 (cells t l)) u))
+      fields_good t l 5 (group_fields (cells t l)) (Some (group (group_of (cells t l)))) b good h e (Some (Group v))
+      (ap (λ n. Some (Group n)) (at-v ∙ value_of 255 (field 4 (cells t l)) u))
 
   pub variant_is : b ≡ variant_fields (cells t l) → l.fields ≡ 5 → b ≡ true → v ≡ optional_value 255 (field 3 (cells t l))
-      → Item v ≡ shape (said (variant_form (cells t l)) (Some (item (variant (size_of (cells t l))))))
+      → Some (Item v) ≡ shape (said (variant_form (cells t l)) (Some (item (variant (size_of (cells t l))))))
   variant_is good h e at-v =
       let u : optional_up_to 255 (field 3 (cells t l)) ≡ true = variant_shift (cells t l) (sym good ∙ e) in
-      fields_good t l 5 (variant_fields (cells t l)) (Some (item (variant (size_of (cells t l))))) b good h e (Item v)
-      (ap Item (at-v ∙ optional-value_of 255 (field 3 (cells t l)) u))
+      fields_good t l 5 (variant_fields (cells t l)) (Some (item (variant (size_of (cells t l))))) b good h e (Some (Item v))
+      (ap (λ n. Some (Item n)) (at-v ∙ optional-value_of 255 (field 3 (cells t l)) u))
 
   pub bits_is : b ≡ bits_fields (cells t l) → l.fields ≡ 4 → b ≡ true → v ≡ optional_value 255 (field 2 (cells t l))
-      → Item v ≡ shape (said (bits_form (cells t l)) (Some (item (bit_field (bits_of (cells t l))))))
+      → Some (Item v) ≡ shape (said (bits_form (cells t l)) (Some (item (bit_field (bits_of (cells t l))))))
   bits_is good h e at-v =
       let u : optional_up_to 255 (field 2 (cells t l)) ≡ true = bits_shift (cells t l) (sym good ∙ e) in
-      fields_good t l 4 (bits_fields (cells t l)) (Some (item (bit_field (bits_of (cells t l))))) b good h e (Item v)
-      (ap Item (at-v ∙ optional-value_of 255 (field 2 (cells t l)) u))
+      fields_good t l 4 (bits_fields (cells t l)) (Some (item (bit_field (bits_of (cells t l))))) b good h e (Some (Item v))
+      (ap (λ n. Some (Item n)) (at-v ∙ optional-value_of 255 (field 2 (cells t l)) u))
 
   pub param_is : b ≡ param_fields (cells t l) → l.fields ≡ 6 → b ≡ true → v ≡ text.value 1 (field 1 (cells t l))
-      → Param v ≡ shape (param_said (cells t l))
+      → Some (Param v) ≡ shape (param_said (cells t l))
   param_is good h e at-v =
       let u : up_to 1 (field 1 (cells t l)) ≡ true = param-level (cells t l) (sym good ∙ e) in
       let k : known (type_of (field 2 (cells t l))) ≡ true = param_type_lem (cells t l) (sym good ∙ e) in
-      fields_good t l 6 (param_fields (cells t l)) (of_type (cells t l) (type_of (field 2 (cells t l)))) b good h e (Param v)
-      (ap Param (at-v ∙ value_of 1 (field 1 (cells t l)) u) ∙ go (type_of (field 2 (cells t l))) k)
+      fields_good t l 6 (param_fields (cells t l)) (of_type (cells t l) (type_of (field 2 (cells t l)))) b good h e (Some (Param v))
+      (ap (λ n. Some (Param n)) (at-v ∙ value_of 1 (field 1 (cells t l)) u) ∙ go (type_of (field 2 (cells t l))) k)
     where
-      go : (y : Option ParamType) → known y ≡ true → Param (text.worth 0 (field 1 (cells t l))) ≡ shape (of_type (cells t l) y)
+      go : (y : Option ParamType) → known y ≡ true → Some (Param (text.worth 0 (field 1 (cells t l)))) ≡ shape (of_type (cells t l) y)
       go (Some type) q = refl
       go None q = absurd (let z : ◌≡◌ {A = ℕ} 0 1 = cc in omega arith)
 
@@ -178,11 +178,11 @@ pub ruleset read_laws = (count_bad, fields_bad, group_is, variant_is, bits_is, p
 
 -- ---- by the kind
 module _ (fs : List (List ℕ)) (k : ℕ) (kind : k ≡ kind_of fs) where
-  item-shape : (b : Bool) (r : Form) (x : Record) → Item 0 ≡ shape (Some x) → r ≡ tagged b (Item 0) → r ≡ shape (said b (Some x))
+  item-shape : (b : Bool) (r : Option Form) (x : Record) → Some (Item 0) ≡ shape (Some x) → r ≡ tagged b (Item 0) → r ≡ shape (said b (Some x))
   item-shape true r x z e = e ∙ z
   item-shape false r x z e = e
 
-  module _ (r : Form) where
+  module _ (r : Option Form) where
     pub kind_param : k ≡ 81 → r ≡ shape (param_said fs) → r ≡ shape (form fs)
     kind_param q h = rw (← kind, q) h
 
@@ -212,7 +212,7 @@ module _ (fs : List (List ℕ)) (k : ℕ) (kind : k ≡ kind_of fs) where
       kind_bitmask q e = rw (← kind, q, ← e) (item-shape b r _ refl is)
 
   pub kind_none : (k ≡ 81 → ⊥) → (k ≡ 71 → ⊥) → (k ≡ 82 → ⊥) → (k ≡ 65 → ⊥) → (k ≡ 84 → ⊥) → (k ≡ 83 → ⊥)
-      → (k ≡ 85 → ⊥) → (k ≡ 75 → ⊥) → (k ≡ 77 → ⊥) → Bad ≡ shape (form fs)
+      → (k ≡ 85 → ⊥) → (k ≡ 75 → ⊥) → (k ≡ 77 → ⊥) → None ≡ shape (form fs)
   kind_none q g r a t s u c m =
       rw (← kind, ne_eqb _ _ q, ne_eqb _ _ g, ne_eqb _ _ r, ne_eqb _ _ a, ne_eqb _ _ t, ne_eqb _ _ s, ne_eqb _ _ u, ne_eqb _ _ c, ne_eqb _ _ m)
 

@@ -1,6 +1,6 @@
 // The command text: which texts are accepted, and which line of any other is refused by which number.
 // The forms are those of command_class/schema.rs, a line each; a field enum is read as a bit field.
-#![tactic(auto)]
+#![tactic(auto, using(text::proofs::Tests::count_other, crate::proofs::Keeping::check_laws, crate::proofs::Laws::type_laws, crate::proofs::Laws::read_laws, crate::proofs::Laws::kind_laws, crate::proofs::Laws::of_type_lem))]
 
 ghost use Rattle.std.specs.Prelude.{◌≡◌, Some};
 ghost use Rattle.text.specs.Text.{field};
@@ -12,7 +12,7 @@ ghost use Rattle.command_text.specs.Form.{said, form, group, item, variant, grou
 ghost use Rattle.command_text.specs.Rules.{rules};
 ghost use Rattle.command_text.specs.Shape.{late_types, last_types, tagged, shape};
 
-use command_kept::{Form, Judged};
+use command_kept::Form;
 use refusal::Refusal;
 use text::{Line, MOST_BYTES, Place, is_same};
 
@@ -89,10 +89,7 @@ pub fn read_type(s: &[u8]) -> Option<ParamType>
 pub fn is_type(s: &[u8]) -> bool
     ensures { result ≡ known (type_of s.now) }
 {
-    match read_type(s) {
-        Some(_) => true,
-        None => false,
-    }
+    read_type(s).is_some()
 }
 
 fn type_at(text: &[u8], line: Line, k: usize) -> bool
@@ -145,20 +142,14 @@ fn is_array(text: &[u8], line: Line) -> bool
     requires { Marked text.now line.marks line.fields }
     ensures { result ≡ array_form (cells text.now line) }
 {
-    if line.fields != 3 {
-        return false;
-    }
-    line.is_number(text, 1, 255) && line.is_number(text, 2, 1)
+    line.fields == 3 && (line.is_number(text, 1, 255) && line.is_number(text, 2, 1))
 }
 
 fn is_named(text: &[u8], line: Line) -> bool
     requires { Marked text.now line.marks line.fields }
     ensures { result ≡ named_form (cells text.now line) }
 {
-    if line.fields != 3 {
-        return false;
-    }
-    line.is_number(text, 1, 255) && line.is_name(text, 2)
+    line.fields == 3 && (line.is_number(text, 1, 255) && line.is_name(text, 2))
 }
 
 fn is_bits(text: &[u8], line: Line) -> bool
@@ -172,91 +163,71 @@ fn is_bitmask(text: &[u8], line: Line) -> bool
     requires { Marked text.now line.marks line.fields }
     ensures { result ≡ bitmask_form (cells text.now line) }
 {
-    if line.fields != 2 {
-        return false;
-    }
-    line.is_optional_number(text, 1, 255)
+    line.fields == 2 && line.is_optional_number(text, 1, 255)
 }
 
-fn read_param(text: &[u8], line: Line) -> Form
+fn read_param(text: &[u8], line: Line) -> Option<Form>
     requires { Marked text.now line.marks line.fields }
     ensures { result ≡ shape (param_said (cells text.now line)) }
 {
-    if line.fields != 6 {
-        return Form::Bad;
+    if line.fields != 6 || !is_param(text, line) {
+        return None;
     }
-    if is_param(text, line) {
-        return Form::Param {
-            level: line.value(text, 1, 1),
-        };
-    }
-    Form::Bad
+    Some(Form::Param {
+        level: line.value(text, 1, 1),
+    })
 }
 
-fn read_group(text: &[u8], line: Line) -> Form
+fn read_group(text: &[u8], line: Line) -> Option<Form>
     requires { Marked text.now line.marks line.fields }
     ensures { result ≡ shape (said (group_form (cells text.now line)) (Some (group (group_of (cells text.now line))))) }
 {
-    if line.fields != 5 {
-        return Form::Bad;
+    if line.fields != 5 || !is_group(text, line) {
+        return None;
     }
-    if is_group(text, line) {
-        return Form::Group {
-            shift: line.value(text, 4, 255),
-        };
-    }
-    Form::Bad
+    Some(Form::Group {
+        shift: line.value(text, 4, 255),
+    })
 }
 
-fn read_variant(text: &[u8], line: Line) -> Form
+fn read_variant(text: &[u8], line: Line) -> Option<Form>
     requires { Marked text.now line.marks line.fields }
     ensures { result ≡ shape (said (variant_form (cells text.now line))
         (Some (item (variant (size_of (cells text.now line)))))) }
 {
-    if line.fields != 5 {
-        return Form::Bad;
+    if line.fields != 5 || !is_variant(text, line) {
+        return None;
     }
-    if is_variant(text, line) {
-        return Form::Item {
-            shift: line.optional_value(text, 3, 255),
-        };
-    }
-    Form::Bad
+    Some(Form::Item {
+        shift: line.optional_value(text, 3, 255),
+    })
 }
 
-fn read_bits(text: &[u8], line: Line) -> Form
+fn read_bits(text: &[u8], line: Line) -> Option<Form>
     requires { Marked text.now line.marks line.fields }
     ensures { result ≡ shape (said (bits_form (cells text.now line)) (Some (item (bit_field (bits_of (cells text.now line)))))) }
 {
-    if line.fields != 4 {
-        return Form::Bad;
+    if line.fields != 4 || !is_bits(text, line) {
+        return None;
     }
-    if is_bits(text, line) {
-        return Form::Item {
-            shift: line.optional_value(text, 2, 255),
-        };
-    }
-    Form::Bad
+    Some(Form::Item {
+        shift: line.optional_value(text, 2, 255),
+    })
 }
 
 // An item line without a shift, if the line has its form.
-fn item(good: bool) -> Form
+fn item(good: bool) -> Option<Form>
     ensures { result ≡ tagged good (Form.Item 0) }
 {
-    if good {
-        Form::Item { shift: 0 }
-    } else {
-        Form::Bad
-    }
+    good.then_some(Form::Item { shift: 0 })
 }
 
 // Which form the line has, and what limits and owners look at in it.
-fn read_form(text: &[u8], line: Line) -> Form
+fn read_form(text: &[u8], line: Line) -> Option<Form>
     requires { (Marked text.now line.marks line.fields) × (line.kind ≡ kind_of (cells text.now line)) }
     ensures { result ≡ shape (form (cells text.now line)) }
 {
-    let kind = line.kind;
-    match kind {
+    match line.kind {
         b'Q' => read_param(text, line),
         b'G' => read_group(text, line),
         b'R' => read_variant(text, line),
@@ -266,7 +237,7 @@ fn read_form(text: &[u8], line: Line) -> Form
         b'U' => read_bits(text, line),
         b'K' => item(is_named(text, line)),
         b'M' => item(is_bitmask(text, line)),
-        _ => Form::Bad,
+        _ => None,
     }
 }
 
@@ -281,21 +252,10 @@ pub fn check_command_text(text: &[u8]) -> Result<(), Refusal>
     let mut kept = command_kept::start();
     while place.at < text.len() {
         let line = place.step(text);
-        match kept.judge(read_form(text, line)) {
-            Judged::On(next) => {
-                kept = next;
-                place = line.next;
-            }
-            Judged::Passed => {
-                return Err(Refusal::Limit(place.line));
-            }
-            Judged::Lost => {
-                return Err(Refusal::Owner(place.line));
-            }
-            Judged::Wrong => {
-                return Err(Refusal::Form(place.line));
-            }
-        }
+        kept = kept
+            .judge(read_form(text, line))
+            .map_err(|misfit| misfit.at(place.line))?;
+        place = line.next;
     }
     Ok(())
 }

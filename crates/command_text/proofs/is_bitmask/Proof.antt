@@ -1,8 +1,0 @@
--- `command_text::is_bitmask` meets its contract, by the laws of the crate. Assumes nothing.
-use borrow.Author.Rules.{rules}
-use Rattle.text.proofs.Tests.{tests}
-use Rattle.command_text.proofs.is_bitmask.Statement.{statement}
-use Rattle.command_text.proofs.is_bitmask.Tie as tie
-
-pub is_bitmask_spec : {M : Type 1} → statement M
-is_bitmask_spec = tie.close (tie.spec (λ c. search (rules, tests)) (λ c κs. search (rules, tests)) (λ c. search (rules, tests)))
