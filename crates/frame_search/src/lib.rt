@@ -72,6 +72,7 @@ fn take_hit(payload: &[u8], frame: FrameRecord, number: u64, mpdu: &mut [u8; 409
 }
 
 // The frame after so many of a payload's.
+#[tactic(auto, using(crate::proofs::Laws::row_there))]
 fn search_payload(payload: &[u8], aim: Aim, table: &mut Table, mpdu: &mut [u8; 4096]) -> Search
     ensures { Holds mpdu.new result }
 {
@@ -97,14 +98,11 @@ fn search_item(
     ensures { Holds mpdu.new result }
 {
     match item {
-        Item::Payload(count) => {
-            if payload.len() < count {
-                return Search::Left(aim.behind(aim.left));
-            }
-            search_payload(&payload[..count], aim, table, mpdu)
-        }
-        Item::Nothing => Search::Left(aim),
-        Item::NotHex(_, _) => Search::Left(aim),
+        Item::Payload(count) => match payload.get(..count) {
+            Some(bytes) => search_payload(bytes, aim, table, mpdu),
+            None => Search::Left(aim.behind(aim.left)),
+        },
+        Item::Nothing | Item::NotHex(_, _) => Search::Left(aim),
         Item::NoCapture(line, column) => Search::NoCapture(line, column),
         Item::Unreadable => Search::Unreadable,
     }
