@@ -1,5 +1,5 @@
 // The parts of an answer. Answers wait in the writer's buffer, of which `used` bytes are taken.
-#![tactic(auto)]
+#![tactic(auto, using(crate::proofs::Laws::laws))]
 
 pub mod table;
 
@@ -20,10 +20,8 @@ pub fn put_named(out: &mut Buffer, used: usize, word: &[u8], x: u64) -> usize {
 // Numbers, each behind a space.
 pub fn put_numbers(out: &mut Buffer, used: usize, row: &[u64]) -> usize {
     let mut n = used;
-    let mut i: usize = 0;
-    while i < row.len() {
-        n = put_value(out, n, row[i]);
-        i += 1;
+    for x in row {
+        n = put_value(out, n, *x);
     }
     n
 }

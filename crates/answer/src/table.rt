@@ -14,10 +14,8 @@ pub const PATTERN: u64 = 0xA5A5A5A5A5A5A5A5;
 pub fn fill(table: &mut [u64])
     ensures { table.new ≡ fresh (length table.old) }
 {
-    let mut i = 0;
-    while i < table.len() {
+    for i in 0..table.len() {
         table[i] = PATTERN;
-        i += 1;
     }
 }
 
@@ -25,12 +23,10 @@ pub fn fill(table: &mut [u64])
 fn is_fresh(table: &[u64]) -> bool
     ensures { result ≡ is_fresh 0xA5A5A5A5A5A5A5A5 table.now }
 {
-    let mut i = 0;
-    while i < table.len() {
-        if table[i] != PATTERN {
+    for x in table {
+        if *x != PATTERN {
             return false;
         }
-        i += 1;
     }
     true
 }
@@ -50,12 +46,10 @@ pub const SHORT: u16 = 0xA5A5;
 fn is_fresh_short(table: &[u16]) -> bool
     ensures { result ≡ is_fresh 0xA5A5 table.now }
 {
-    let mut i = 0;
-    while i < table.len() {
-        if table[i] != SHORT {
+    for x in table {
+        if *x != SHORT {
             return false;
         }
-        i += 1;
     }
     true
 }
@@ -78,12 +72,10 @@ pub const BYTE: u8 = 0xA5;
 fn is_fresh_bytes(bytes: &[u8]) -> bool
     ensures { result ≡ is_fresh 0xA5 bytes.now }
 {
-    let mut i = 0;
-    while i < bytes.len() {
-        if bytes[i] != BYTE {
+    for x in bytes {
+        if *x != BYTE {
             return false;
         }
-        i += 1;
     }
     true
 }

@@ -31,10 +31,8 @@ pub extern "C" fn bench_decode_params(
 ) -> u64
     ensures { result ≡ in_one (answer_of Answered text.now payload.now (length rows.old)) }
 {
-    let mut k: u64 = 1;
-    while k < times {
+    for _ in 1..times {
         let _ = decode_params(text, payload, Offsets::Answered, rows);
-        k += 1;
     }
     tell(decode_params(text, payload, Offsets::Answered, rows))
 }
@@ -44,10 +42,8 @@ fn decode_often(text: &[u8], payload: &[u8], rows: &mut [u64], times: u64) -> u6
     requires { verdict text.now ≡ Ok tt }
     ensures { result ≡ in_one (answer_of Answered text.now payload.now (length rows.old)) }
 {
-    let mut k: u64 = 1;
-    while k < times {
+    for _ in 1..times {
         let _ = decode_accepted(text, payload, Offsets::Answered, rows);
-        k += 1;
     }
     tell(decode_accepted(text, payload, Offsets::Answered, rows))
 }

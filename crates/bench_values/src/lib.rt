@@ -35,10 +35,8 @@ fn show_often(
     requires { verdict text.now ≡ Ok tt }
     ensures { result ≡ told (header_value text.now mpdu.now region speed row (length buffer.old)) }
 {
-    let mut k: u64 = 1;
-    while k < times {
+    for _ in 1..times {
         value_accepted(text, mpdu, region, speed, row, buffer);
-        k += 1;
     }
     tell(value_accepted(text, mpdu, region, speed, row, buffer))
 }
@@ -66,10 +64,8 @@ fn show_row_often(text: &[u8], payload: &[u8], row: usize, buffer: &mut [u8], ti
     requires { commandVerdict text.now ≡ Ok tt }
     ensures { result ≡ told (command_value Answered text.now payload.now row (length buffer.old)) }
 {
-    let mut k: u64 = 1;
-    while k < times {
+    for _ in 1..times {
         command_value::value_accepted(text, payload, Offsets::Answered, row, buffer);
-        k += 1;
     }
     tell(command_value::value_accepted(text, payload, Offsets::Answered, row, buffer))
 }

@@ -43,10 +43,8 @@ pub extern "C" fn bench_decode_header(
 ) -> u64
     ensures { result ≡ told (decoded text.now mpdu.now region speed (length rows.old)) }
 {
-    let mut k: u64 = 1;
-    while k < times {
+    for _ in 1..times {
         decode_header(text, mpdu, region, speed, rows);
-        k += 1;
     }
     tell(decode_header(text, mpdu, region, speed, rows))
 }
@@ -63,10 +61,8 @@ fn decode_often(
     requires { verdict text.now ≡ Ok tt }
     ensures { result ≡ told (decoded text.now mpdu.now region speed (length rows.old)) }
 {
-    let mut k: u64 = 1;
-    while k < times {
+    for _ in 1..times {
         decode_accepted(text, mpdu, region, speed, rows);
-        k += 1;
     }
     tell(decode_accepted(text, mpdu, region, speed, rows))
 }
@@ -96,17 +92,15 @@ fn find_candidates(text: &[u8], key: u64, many: u64) -> u64
     let mut place = Place::start();
     let mut h: usize = 0;
     let mut n: usize = 0;
-    let mut m: u64 = 0;
-    while m < many {
+    for m in 0..many {
         let Some(candidate) = next_candidate(text, place, key, h, n) else {
             return m;
         };
         place = candidate.place;
         h = candidate.number + 1;
         n = candidate.params;
-        m += 1;
     }
-    m
+    many
 }
 
 // Finds the base header and so many candidates.
@@ -127,10 +121,8 @@ pub extern "C" fn bench_find(text: &[u8], region: u64, speed: u64, many: u64, ti
         return 0;
     };
     let mut found = 0;
-    let mut k: u64 = 0;
-    while k < times {
+    for _ in 0..times {
         found = find_lines(text, region, speed, many);
-        k += 1;
     }
     found
 }
@@ -143,11 +135,9 @@ fn read_often(text: &[u8], mpdu: &[u8], key: u64, place: Place, n: usize, times:
     let mut fields = [0u64; 128 * LINE_WIDTH];
     let mut scratch = [0u64; 128 * SCRATCH_WIDTH];
     let mut rows = 0;
-    let mut k: u64 = 0;
-    while k < times {
+    for _ in 0..times {
         let base = read_base(text, mpdu, place, n, &mut fields, &mut scratch);
         rows = base.rows as u64;
-        k += 1;
     }
     rows
 }
@@ -199,13 +189,11 @@ fn walk_often(
     let count = fields.len() / LINE_WIDTH;
     let mut bit = from.bit.0;
     let mut rows = from.rows;
-    let mut k: u64 = 0;
-    while k < times {
+    for _ in 0..times {
         let walked = walk_from(mpdu, text, fields, count, first, from, scratch);
         let end = walked.bit;
         bit = end.0;
         rows = walked.rows;
-        k += 1;
     }
     BenchWalked {
         bit,
