@@ -16,7 +16,7 @@ ghost use Rattle.command_schema.specs.Loaded.{Stores};
 use crate::items::{Gathered, OPEN, gather, length_of, named_of};
 use command_class::Row;
 use command_rules::{BitShift, Rule};
-use rows::put_short_row;
+use rows::put_row;
 use text::Place;
 
 // The numbers of a loaded row.
@@ -124,7 +124,7 @@ fn store_row(table: &mut [u16], i: usize, row: Loaded)
     requires { i < 256 }
     ensures { table.new ≡ put table.old (i * loaded_width) (numbers row) }
 {
-    put_short_row(table, i * LOADED_WIDTH, &row.numbers());
+    put_row(table, i * LOADED_WIDTH, &row.numbers());
 }
 
 // Row i of a table.

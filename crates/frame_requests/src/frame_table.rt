@@ -6,7 +6,7 @@ ghost use Rattle.frame_requests.specs.Screen.{FilledFirst};
 use answer::table::SHORT;
 use pti::payload::ROW_WIDTH;
 use radio::rssi::byte_of;
-use rows::put_short_row;
+use rows::put_row;
 use screen::{FrameRecord, fill_frames};
 
 // The table of 16,384 records, and the answer of the call that filled it.
@@ -113,7 +113,7 @@ pub fn frame_table(rows: &mut [u16], n: usize) -> usize
     let mut i: usize = 0;
     while i < lent {
         let record = table.records[i];
-        put_short_row(rows, i * ROW_WIDTH, &flat_row(record));
+        put_row(rows, i * ROW_WIDTH, &flat_row(record));
         i += 1;
     }
     table.filled
