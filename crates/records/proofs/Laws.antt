@@ -130,12 +130,13 @@ pub no_more : (s : List ℕ) (at p : ℕ) (r : Option ℕ) → Passing s at p �
 no_more s at p r w at_p e = sym w.same ∙ step s p ∙ rw (not_taken (stands s p) (get_or s p 0) (sym at_p ∙ e))
 
 module _ (s : List ℕ) (at p n : ℕ) (r : Option ℕ) (w : Passing s at p) (at_p : r ≡ record_at s p) (here : r ≡ Some n) where
-  pub passing-more : n < 2 → Passing s at (p + n + 2)
+  pub passing-more : n < 2 → Passing s at (p + (n + 2))
   passing-more few =
-      record {
+      let e : p + (n + 2) ≡ p + n + 2 = omega arith in
+      rw e (record {
         same = sym (stepped s p n r at_p here ∙ rw (lt-leb 2 n few)) ∙ w.same;
         after = omega (arith, w.after);
-      }
+      })
 
   pub leads : 2 ≤ n → Follows s at (Some (record { start = record { 0 = p + 2 }; end = record { 0 = p + n } }))
   leads some =

@@ -1,5 +1,5 @@
 // The records of a payload (F1 to F6 of docs/RULES.md): how many bodies there are, and each as a part of the payload.
-#![tactic(auto)]
+#![tactic(auto, using(crate::proofs::Laws::laws))]
 
 ghost use Rattle.std.specs.Prelude.{◌≡◌, ◌<◌, ◌+◌, ◌^◌};
 ghost use Rattle.records.specs.Records.{record_at, Counts, span_of, PartOf};
@@ -39,17 +39,11 @@ fn record_at(payload: &[u8], at: usize) -> Option<usize>
     if payload.len() <= 4 {
         return None;
     }
-    if payload.len() <= at {
-        return None;
-    }
-    let n = payload[at] as usize;
-    if payload.len() <= at + n {
-        return None;
-    }
+    let n = usize::from(*payload.get(at)?);
     if payload[at - 1] != 0x5B {
         return None;
     }
-    if payload[at + n] != 0x5D {
+    if *payload.get(at + n)? != 0x5D {
         return None;
     }
     Some(n)
@@ -61,18 +55,16 @@ pub fn next_body(payload: &[u8], at: usize) -> Option<Span>
     ensures { Follows payload.now at result }
 {
     let mut place = at;
-    loop {
-        let Some(n) = record_at(payload, place) else {
-            return None;
-        };
+    while let Some(n) = record_at(payload, place) {
         if 2 <= n {
             return Some(Span {
                 start: PayloadOffset(place + 2),
                 end: PayloadOffset(place + n),
             });
         }
-        place = place + n + 2;
+        place += n + 2;
     }
+    None
 }
 
 // The number of bodies of a payload, or refusal 4.
@@ -85,39 +77,31 @@ pub fn count_records(payload: &[u8]) -> Result<usize, Refusal>
     }
     let mut count: usize = 0;
     let mut at: usize = 1;
-    loop {
-        let Some(span) = next_body(payload, at) else {
-            return Ok(count);
-        };
+    while let Some(span) = next_body(payload, at) {
         count += 1;
         at = span.end.0 + 2;
     }
+    Ok(count)
 }
 
 // Where body k of a payload lies, from 0; an empty span at its start where there is none or the payload is too long.
 pub fn find_body(payload: &[u8], k: usize) -> Span
     ensures { IsBody payload.now k result }
 {
-    if MOST_PAYLOAD < payload.len() {
-        return Span {
-            start: PayloadOffset(0),
-            end: PayloadOffset(0),
-        };
-    }
-    let mut left: usize = k;
-    let mut at: usize = 1;
-    loop {
-        let Some(span) = next_body(payload, at) else {
-            return Span {
-                start: PayloadOffset(0),
-                end: PayloadOffset(0),
-            };
-        };
-        if left == 0 {
-            return span;
+    if payload.len() <= MOST_PAYLOAD {
+        let mut left: usize = k;
+        let mut at: usize = 1;
+        while let Some(span) = next_body(payload, at) {
+            if left == 0 {
+                return span;
+            }
+            left -= 1;
+            at = span.end.0 + 2;
         }
-        left -= 1;
-        at = span.end.0 + 2;
+    }
+    Span {
+        start: PayloadOffset(0),
+        end: PayloadOffset(0),
     }
 }
 
