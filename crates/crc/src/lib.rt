@@ -1,9 +1,9 @@
 // The checksum and the CRC of ITU-T G.9959, and whether an MPDU ends in the one that its speed asks for.
-#![tactic(auto)]
+#![tactic(auto, using(crate::proofs::Laws::laws))]
 
 mod table;
 
-ghost use Rattle.std.specs.Prelude.{◌≡◌, ◌+◌, ◌*◌, ◌<◌};
+ghost use Rattle.std.specs.Prelude.{◌≡◌, ◌<◌};
 ghost use Rattle.crc.specs.Crc.{checksum, crc, right};
 ghost use Rattle.crc.specs.Register.{crc_byte, TurnTable};
 
@@ -14,10 +14,8 @@ pub fn checksum8(body: &[u8]) -> u8
     ensures { result ≡ checksum body.now }
 {
     let mut sum: u8 = 0xFF;
-    let mut i: usize = 0;
-    while i < body.len() {
-        sum = sum ^ body[i];
-        i += 1;
+    for b in body {
+        sum ^= *b;
     }
     sum
 }
@@ -27,7 +25,7 @@ fn crc_byte(turned: &[u16; 256], r: u16, b: u8) -> u16
     requires { TurnTable turned.now }
     ensures { (result ≡ crc_byte r b) × (b < 256) }
 {
-    let at = ((r >> 8) ^ (b as u16)) as usize;
+    let at = usize::from((r >> 8) ^ u16::from(b));
     turned[at] ^ (r << 8)
 }
 
@@ -36,10 +34,8 @@ fn crc_by(turned: &[u16; 256], body: &[u8]) -> u16
     ensures { result ≡ crc body.now }
 {
     let mut r: u16 = 0x1D0F;
-    let mut i: usize = 0;
-    while i < body.len() {
-        r = crc_byte(turned, r, body[i]);
-        i += 1;
+    for b in body {
+        r = crc_byte(turned, r, *b);
     }
     r
 }
@@ -49,13 +45,6 @@ pub fn crc16(body: &[u8]) -> u16
     ensures { result ≡ crc body.now }
 {
     crc_by(&TURNED, body)
-}
-
-// Two bytes as one number, high byte first.
-fn joined(high: u8, low: u8) -> u16
-    ensures { result ≡ high * 256 + low }
-{
-    (high as u16) * 256 + low as u16
 }
 
 // Is the MPDU right at its speed? It ends in a checksum at speeds 0 and 1, in a CRC above.
@@ -77,5 +66,5 @@ pub fn check_crc(mpdu: &[u8], speed: u64) -> bool
     let high = n - 2;
     let last = n - 1;
     let sum = crc16(&mpdu[..high]);
-    sum == joined(mpdu[high], mpdu[last])
+    sum == u16::from_be_bytes([mpdu[high], mpdu[last]])
 }
