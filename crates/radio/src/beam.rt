@@ -17,22 +17,13 @@ pub struct BeamTarget {
     pub power: u16,
 }
 
-fn smaller(a: usize, b: usize) -> usize
-    ensures value { result ≡ cond (leb a b) a b }
-    ensures upper_bound { result ≤ b }
-{
-    if a <= b { a } else { b }
-}
-
 // The width of a beam at a rate, in m middle bytes.
 fn beam_width(rate: u8, m: usize) -> usize
     ensures value { result ≡ width_of rate m }
     ensures upper_bound { result ≤ m }
 {
-    if rate == 3 {
-        return smaller(4, m);
-    }
-    smaller(3, m)
+    let most = if rate == 3 { 4 } else { 3 };
+    m.min(most)
 }
 
 // Do the first `width` middle bytes stand again at a place, with their marker?
@@ -40,20 +31,7 @@ fn repeats_at(middle: &[u8], at: usize, width: usize) -> bool
     requires { (at < length middle.now) × (width ≤ length middle.now) }
     ensures { result ≡ (eqb (get_or middle.now at 0) 0x55 && starts_with (take width middle.now) (drop at middle.now)) }
 {
-    if middle[at] != BEAM_MARKER {
-        return false;
-    }
-    if middle.len() - at < width {
-        return false;
-    }
-    let mut i: usize = 0;
-    while i < width {
-        if middle[i] != middle[at + i] {
-            return false;
-        }
-        i += 1;
-    }
-    true
+    middle[at] == BEAM_MARKER && middle[at..].starts_with(&middle[..width])
 }
 
 // Counts how often a beam repeats in the middle bytes of a record. Each candidate repetition is compared with the first, and the
@@ -68,9 +46,9 @@ pub fn beam_count(rate: u8, middle: &[u8]) -> usize
         if repeats_at(middle, at, width) {
             count += 1;
             at += width;
-            continue;
+        } else {
+            at += 1;
         }
-        at += 1;
     }
     count
 }
@@ -90,26 +68,14 @@ pub fn is_repeated(rate: u8, middle: &[u8]) -> bool
     false
 }
 
-fn one_more(byte: u8) -> u16
-    ensures { result ≡ byte + 1 }
-{
-    byte as u16 + 1
-}
-
-fn joined(high: u8, low: u8) -> u16
-    ensures { result ≡ high * 256 + low }
-{
-    high as u16 * 256 + low as u16
-}
-
 // A byte of a beam, as it is told.
 fn byte_told(middle: &[u8], at: usize) -> u16
     ensures { result ≡ told_by at middle.now (get_or middle.now at 0) }
 {
-    if middle.len() <= at {
-        return 0;
+    match middle.get(at) {
+        Some(byte) => u16::from(*byte) + 1,
+        None => 0,
     }
-    one_more(middle[at])
 }
 
 fn ordinary_target(middle: &[u8]) -> BeamTarget
@@ -133,7 +99,7 @@ fn long_target(middle: &[u8]) -> BeamTarget
             power: 0,
         };
     }
-    let number = joined(middle[1], middle[2]);
+    let number = u16::from_be_bytes([middle[1], middle[2]]);
     BeamTarget {
         node: number % NODES + 1,
         hash,
