@@ -5,6 +5,7 @@ use mathlib.Core.List.{List, [], ◌∷◌}
 use Prim.Native.Nat.{ℕ, zero, suc, ◌+◌, ◌-◌, ◌≤◌, ◌<◌, max}
 use native.Mathlib.Omega.{arith}
 use native.Mathlib.Numerals.{add-one}
+use native.Mathlib.Decide.{ℕ_discrete as dec_eq}
 use lib.Dec.{leb, eqb}
 use lib.ListN.{length, get_or, take, drop}
 use lib.Seq.{take_all}
@@ -12,7 +13,6 @@ use borrow.Author.Tests.{le-leb, lt-leb, eq-eqb, ne_eqb, leb-true}
 use Rattle.laws.proofs.Bools.{and_left, and_right}
 use Rattle.laws.proofs.Lists.{next, done}
 use Rattle.utf8.specs.declared.Lead.{Lead}
-use Rattle.utf8.specs.declared.Lead.TheVariants.{Then, Never}
 use Rattle.utf8.specs.Table.{Row, table, within, fits, fits_one, agree, longest, begins, cut}
 use Rattle.utf8.specs.Lead.{rest, tails, told}
 use Rattle.std.specs.Prelude.{Option, Some, None}
@@ -134,37 +134,37 @@ module _ (b : ℕ) where
   row : (n : ℕ) → (first_of (get_or table n [])).0 ≤ b → b ≤ (first_of (get_or table n [])).1 → rest table b ≡ Some (others_of (get_or table n []))
   row n l u = (begun table 0 b n refl l u).others
 
-  pub lead_00 : b ≤ 0x7f → rest table b ≡ told (Then 0 0x80 0xbf)
+  pub lead_00 : b ≤ 0x7f → rest table b ≡ told (Some (record { more = 0; low = 0x80; high = 0xbf }))
   lead_00 u = row 0 (omega arith) u
 
-  pub lead_80 : 0x7f < b → b < 0xc2 → rest table b ≡ told Never
+  pub lead_80 : 0x7f < b → b < 0xc2 → rest table b ≡ told None
   lead_80 l u = rw (lt-leb b 0x7f l) (low (drop 1 table) 0xc2 b [] refl u).rest_is
 
-  pub lead_c2 : 0xc2 ≤ b → b ≤ 0xdf → rest table b ≡ told (Then 1 0x80 0xbf)
+  pub lead_c2 : 0xc2 ≤ b → b ≤ 0xdf → rest table b ≡ told (Some (record { more = 1; low = 0x80; high = 0xbf }))
   lead_c2 l u = row 1 (omega arith) u
 
-  pub lead_e0 : 0xdf < b → b ≤ 0xe0 → rest table b ≡ told (Then 2 0xa0 0xbf)
+  pub lead_e0 : 0xdf < b → b ≤ 0xe0 → rest table b ≡ told (Some (record { more = 2; low = 0xa0; high = 0xbf }))
   lead_e0 l u = row 2 (omega arith) u
 
-  pub lead_e1 : 0xe0 < b → b ≤ 0xec → rest table b ≡ told (Then 2 0x80 0xbf)
+  pub lead_e1 : 0xe0 < b → b ≤ 0xec → rest table b ≡ told (Some (record { more = 2; low = 0x80; high = 0xbf }))
   lead_e1 l u = row 3 (omega arith) u
 
-  pub lead_ed : 0xec < b → b ≤ 0xed → rest table b ≡ told (Then 2 0x80 0x9f)
+  pub lead_ed : 0xec < b → b ≤ 0xed → rest table b ≡ told (Some (record { more = 2; low = 0x80; high = 0x9f }))
   lead_ed l u = row 4 (omega arith) u
 
-  pub lead_ee : 0xed < b → b ≤ 0xef → rest table b ≡ told (Then 2 0x80 0xbf)
+  pub lead_ee : 0xed < b → b ≤ 0xef → rest table b ≡ told (Some (record { more = 2; low = 0x80; high = 0xbf }))
   lead_ee l u = row 5 (omega arith) u
 
-  pub lead_f0 : 0xef < b → b ≤ 0xf0 → rest table b ≡ told (Then 3 0x90 0xbf)
+  pub lead_f0 : 0xef < b → b ≤ 0xf0 → rest table b ≡ told (Some (record { more = 3; low = 0x90; high = 0xbf }))
   lead_f0 l u = row 6 (omega arith) u
 
-  pub lead_f1 : 0xf0 < b → b ≤ 0xf3 → rest table b ≡ told (Then 3 0x80 0xbf)
+  pub lead_f1 : 0xf0 < b → b ≤ 0xf3 → rest table b ≡ told (Some (record { more = 3; low = 0x80; high = 0xbf }))
   lead_f1 l u = row 7 (omega arith) u
 
-  pub lead_f4 : 0xf3 < b → b ≤ 0xf4 → rest table b ≡ told (Then 3 0x80 0x8f)
+  pub lead_f4 : 0xf3 < b → b ≤ 0xf4 → rest table b ≡ told (Some (record { more = 3; low = 0x80; high = 0x8f }))
   lead_f4 l u = row 8 (omega arith) u
 
-  pub lead_f5 : 0xf4 < b → rest table b ≡ told Never
+  pub lead_f5 : 0xf4 < b → rest table b ≡ told None
   lead_f5 l = rw (
     lt-leb b 0x7f (omega arith),
     lt-leb b 0xdf (omega arith),
@@ -215,7 +215,7 @@ length-tails : (n lo hi : ℕ) → length (tails n lo hi) ≡ n
 length-tails zero lo hi = refl
 length-tails (suc n) lo hi = ap suc (length-tails n 0x80 0xBF)
 
-pub cut-never : (s : List ℕ) (r : Lead) → 1 ≤ length s → rest table (get_or s 0 0) ≡ told r → r ≡ Never
+pub cut-never : (s : List ℕ) (r : Option Lead) → 1 ≤ length s → rest table (get_or s 0 0) ≡ told r → r ≡ None
     → record { size = 1; well = false } ≡ cut s
 unfolding cut
 cut-never [] r n t e = absurd (omega arith)
@@ -231,21 +231,20 @@ cut_some x xs rs q =
     let m : max 1 (suc (agree rs xs)) ≡ suc (agree rs xs) = omega arith in
     rw ((by_lead x xs).size_by_lem, (by_lead x xs).well_by_lem, q, m)
 
-cut-told : (s : List ℕ) (r : Lead) (n lo hi k : ℕ) → rest table (get_or s 0 0) ≡ told r → r ≡ Then n lo hi
-    → k ≡ agree (tails n lo hi) (take (length s - 1) (drop 1 s)) → 1 ≤ length s
-    → cut s ≡ record { size = k + 1; well = eqb (suc k) (suc n) }
-cut-told [] r n lo hi k t e f h = absurd (omega arith)
-cut-told (x ∷ xs) r n lo hi k t e f h =
-    let q : rest table x ≡ Some (tails n lo hi) = rw e at t in
-    let a : agree (tails n lo hi) xs ≡ k = rw (take_all (length (x ∷ xs) - 1) xs (omega arith)) at (sym f) in
-    rw (cut_some x xs (tails n lo hi) q, a, length-tails, add-one)
+same_next : (k n : ℕ) → eqb (suc k) (suc n) ≡ eqb k n
+same_next k n = go (dec_eq k n)
+  where
+    go : Dec (k ≡ n) → eqb (suc k) (suc n) ≡ eqb k n
+    go (yes e) = rw (eq-eqb k n e, eq-eqb (suc k) (suc n) (ap suc e)) refl
+    go (no h) = rw (ne_eqb k n h, ne_eqb (suc k) (suc n) (λ z. h (omega arith))) refl
 
-module _ (s : List ℕ) (r : Lead) (n lo hi k : ℕ) (t : rest table (get_or s 0 0) ≡ told r) (e : r ≡ Then n lo hi) (f : k
-    ≡ agree (tails n lo hi) (take (length s - 1) (drop 1 s))) (some-s : 1 ≤ length s) where
-  pub cut-well : k ≡ n → record { size = n + 1; well = true } ≡ cut s
-  cut-well h = rw (cut-told s r n lo hi k t e f some-s, eq-eqb (suc k) (suc n) (ap suc h), h)
+pub cut-told : (s : List ℕ) (r : Option Lead) (l : Lead) (k : ℕ) → rest table (get_or s 0 0) ≡ told r → r ≡ Some l
+    → k ≡ agree (tails l.more l.low l.high) (take (length s - 1) (drop 1 s)) → 1 ≤ length s
+    → record { size = k + 1; well = eqb k l.more } ≡ cut s
+cut-told [] r l k t e f h = absurd (omega arith)
+cut-told (x ∷ xs) r l k t e f h =
+    let q : rest table x ≡ Some (tails l.more l.low l.high) = rw e at t in
+    let a : agree (tails l.more l.low l.high) xs ≡ k = rw (take_all (length (x ∷ xs) - 1) xs (omega arith)) at (sym f) in
+    rw (cut_some x xs (tails l.more l.low l.high) q, a, length-tails, add-one, same_next)
 
-  pub cut_ill : (k ≡ n → ⊥) → record { size = k + 1; well = false } ≡ cut s
-  cut_ill h = rw (cut-told s r n lo hi k t e f some-s, ne_eqb (suc k) (suc n) (λ z. h (omega arith)))
-
-pub ruleset laws = (lead_laws, fit_laws, cut-never, cut-well, cut_ill)
+pub ruleset laws = (lead_laws, fit_laws, cut-never, cut-told)
