@@ -1,6 +1,6 @@
 // The nodes that a bit mask addresses: BM1 of docs/RULES.md. How many they are is counted a word of eight bytes at a time; they are listed
 // from one set bit of a word to the next.
-#![tactic(auto)]
+#![tactic(auto, using(crate::proofs::Laws::laws))]
 
 ghost use Rattle.std.specs.Prelude.{◌≡◌, ◌+◌, ◌-◌, ◌*◌, ◌/◌, ◌%◌, ◌^◌, ◌<◌, ◌≤◌, length, take, drop};
 ghost use Rattle.std.proofs.lemmas.List.Edits.{sets};
@@ -15,7 +15,7 @@ pub const MOST_BYTES: usize = 8191;
 fn wide(byte: u8) -> u64
     ensures { result ≡ byte % 256 }
 {
-    byte as u64
+    u64::from(byte)
 }
 
 // Four bytes as a number, the first lowest.
@@ -58,7 +58,7 @@ fn bytes_of_word(left: usize) -> usize
     requires { 0 < left }
     ensures { (0 < result) × (result ≤ 8) × (result ≤ left) }
 {
-    if left < 8 { left } else { 8 }
+    left.min(8)
 }
 
 // How many nodes the mask addresses, counted a word at a time.
