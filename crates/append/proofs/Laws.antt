@@ -39,8 +39,8 @@ module _ (b b₀ bytes : List ℕ) (at i : ℕ) (inv : Going b b₀ bytes at i) 
         same = rw l.fill (length-sets b (at + i) (get_or bytes i 0 ∷ []) ∙ inv.same);
       }
 
-  pub going_done : length bytes ≤ i → Laid bytes b₀ at (at + i) b
-  going_done h = record { next = omega (arith, inv.inside); fill = rw (done bytes i h) at inv.whole }
+  pub going_done : length bytes ≤ i → Laid bytes b₀ at (at + length bytes) b
+  going_done h = record { next = refl; fill = rw (done bytes i h) at inv.whole }
 
 -- ---- texts
 pub laid_none : (b : List ℕ) (at : ℕ) → Laid [] b at at b

@@ -1,5 +1,5 @@
 // Text appended to a lent buffer: written as far as there is room, and counted in any case.
-#![tactic(auto)]
+#![tactic(auto, using(crate::proofs::Laws::laws))]
 
 ghost use Rattle.std.specs.Prelude.{[], ◌∷◌};
 ghost use Rattle.append.specs.Append.{Room, Laid};
@@ -11,7 +11,6 @@ pub fn append_byte(buffer: &mut [u8], at: usize, b: u8) -> usize
 {
     if at < buffer.len() {
         buffer[at] = b;
-        return at + 1;
     }
     at + 1
 }
@@ -21,11 +20,8 @@ pub fn append(buffer: &mut [u8], at: usize, bytes: &[u8]) -> usize
     requires { Room at bytes.now }
     ensures { Laid bytes.now buffer.old at result buffer.new }
 {
-    let mut i = 0;
-    while i < bytes.len() {
-        let b = bytes[i];
-        append_byte(buffer, at + i, b);
-        i += 1;
+    for (i, b) in bytes.iter().enumerate() {
+        append_byte(buffer, at + i, *b);
     }
-    at + i
+    at + bytes.len()
 }

@@ -1,14 +1,16 @@
 -- Laws of bytes put into a buffer. Assumes nothing.
 use mathlib.Core.Path.{◌≡◌, refl, sym, ap, ◌∙◌}
 use mathlib.Core.Bool.{Bool, true, false, cond}
-use mathlib.Core.List.{List, [], ◌∷◌, ◌++◌}
-use Prim.Native.Nat.{ℕ, suc, ◌+◌, ◌≤◌, ◌<◌}
+use mathlib.Core.List.{List, [], ◌∷◌, ◌++◌, append_assoc}
+use Prim.Native.Nat.{ℕ, suc, ◌+◌, ◌-◌, ◌≤◌, ◌<◌}
 use native.Mathlib.Omega.{arith}
 use lib.Dec.{leb}
-use lib.ListN.{length, get_or, set, take, drop, length-set, length-append}
+use lib.ListN.{length, set, take, drop, length-append}
 use lib.Seq.{sets, sets-eq, take_at}
 use borrow.Author.Tests.{le-leb, lt-leb}
-use Rattle.laws.proofs.Lists.{next, done}
+use borrow.Rule.Slice.PartMut.{put_mid}
+use Rattle.std.proofs.lemmas.Slice.{put_mid-paste}
+use Rattle.std.proofs.lemmas.List.Edits.{paste_all}
 use Rattle.refusal.specs.declared.Refusal.TheVariants.{MoreBytes}
 use Rattle.buffer.specs.Buffer.{answer_in, answer_by, buffer_after, Writes}
 use Rattle.std.specs.Prelude.{Result, Ok, Err}
@@ -19,25 +21,12 @@ pub sets-append : (to : List ℕ) (n : ℕ) (a b : List ℕ) → sets to n (a ++
 sets-append to n [] b = let z : n + 0 ≡ n = omega arith in rw z
 sets-append to n (x ∷ a) b = let z : n + suc (length a) ≡ suc n + length a = omega arith in rw z (sets-append (set to n x) (suc n) a b)
 
--- ---- byte by byte: with what is left of them put, the buffer is the one that is asked for
-pub record Puts (to to₀ bytes : List ℕ) (at i : ℕ) : Type 0 where
-  pub in_bytes : i ≤ length bytes
-  pub same : length to ≡ length to₀
-  pub fill : sets to (at + i) (drop i bytes) ≡ sets to₀ at bytes
-
-pub put-start : (to bytes : List ℕ) (at : ℕ) → Puts to to bytes at 0
-put-start to bytes at =
-    let z : at + 0 ≡ at = omega arith in
-    record { in_bytes = omega arith; same = refl; fill = rw z }
-
-module _ (to to₀ bytes : List ℕ) (at i : ℕ) (inv : Puts to to₀ bytes at i) where
-  pub put-more : i < length bytes → Puts (set to (at + i) (get_or bytes i 0)) to₀ bytes at (i + 1)
-  put-more h =
-      let z : at + (i + 1) ≡ suc (at + i) = omega arith in
-      record { in_bytes = omega arith; same = rw length-set inv.same; fill = rw z (rw (next bytes i h) at inv.fill) }
-
-  pub put_done : length bytes ≤ i → to ≡ sets to₀ at bytes
-  put_done h = rw (done bytes i h) at inv.fill
+-- bytes put as a part of a buffer, which has room for them
+pub put_part : (to bytes p : List ℕ) (at : ℕ) → p ≡ bytes → at + length bytes ≤ length to → put_mid at (at + length bytes - at) to p ≡ sets to at bytes
+put_part to bytes p at e room =
+    let k : length bytes ≡ at + length bytes - at = omega arith in
+    put_mid-paste at (at + length bytes - at) to p bytes (length bytes) e k refl ∙ paste_all to at bytes (length bytes) refl
+    ∙ sym (sets-eq bytes to at room ∙ append_assoc (take at to) bytes (drop (at + length bytes) to))
 
 -- ---- the answer
 module _ (l b : List ℕ) (n : ℕ) (is : n ≡ length l) where
@@ -83,4 +72,4 @@ module _ (l b : List ℕ) (r : Result ℕ Refusal) (b' : List ℕ) (n : ℕ) (so
   pub front_written : take n b' ≡ l
   front_written = front_by (Ok tt) l b (length l) r b' n (λ z. refl) so.answer so.buffer e
 
-pub ruleset laws = (put-start, put-more, put_done, writes_short, writes_room)
+pub ruleset laws = (put_part, writes_short, writes_room)

@@ -1,5 +1,5 @@
 // Text in a lent buffer: written if there is room, else only counted.
-#![tactic(auto)]
+#![tactic(auto, using(crate::proofs::Laws::laws))]
 
 ghost use Rattle.std.specs.Prelude.{◌≡◌, ◌+◌, ◌≤◌, length};
 ghost use Rattle.std.proofs.lemmas.List.Edits.{sets};
@@ -12,11 +12,7 @@ pub fn put(buffer: &mut [u8], at: usize, bytes: &[u8])
     requires { at + length bytes.now ≤ length buffer.old }
     ensures { buffer.new ≡ sets buffer.old at bytes.now }
 {
-    let mut i = 0;
-    while i < bytes.len() {
-        buffer[at + i] = bytes[i];
-        i += 1;
-    }
+    buffer[at..at + bytes.len()].copy_from_slice(bytes);
 }
 
 // Writes bytes at the front of a buffer, if it has room.
