@@ -2,7 +2,7 @@
 use mathlib.Core.Path.{◌≡◌, refl, sym, ◌∙◌}
 use mathlib.Core.Bool.{Bool, true, false, cond}
 use mathlib.Core.List.{List, [], ◌∷◌}
-use Prim.Native.Nat.{ℕ, ◌+◌, ◌-◌, ◌*◌, ◌≤◌, ◌<◌}
+use Prim.Native.Nat.{ℕ, ◌+◌, ◌-◌, ◌*◌, ◌^◌, ◌≤◌, ◌<◌}
 use native.Mathlib.Omega.{arith}
 use lib.ListN.{length, get_or, drop}
 use borrow.Author.Tests.{le-leb, lt-leb, eq-eqb, ne_eqb}
@@ -28,12 +28,16 @@ module _ (s : List ℕ) (v i : ℕ) (inv : digits_from 0 s ≡ digits_from v (dr
   pub digits_more : i < length s → 48 ≤ get_or s i 0 → get_or s i 0 ≤ 57 → digits_from 0 s ≡ digits_from (v * 10 + (get_or s i 0 - 48)) (drop (i + 1) s)
   digits_more h l u = rw (inv, next s i h, le-leb _ _ l, le-leb _ _ u)
 
-  pub digits-past : i < length s → 48 ≤ get_or s i 0 → get_or s i 0 ≤ 57 → 1844674407370955161 < v → None ≡ digits_from 0 s
+  pub digits-past : i < length s → 48 ≤ get_or s i 0 → get_or s i 0 ≤ 57 → (v * 10 < 2 ^ 64 → ⊥) → None ≡ digits_from 0 s
   digits-past h l u o = sym (digits_more h l u ∙ over (v * 10 + (get_or s i 0 - 48)) (drop (i + 1) s) (omega arith))
 
-  pub digits-over : i < length s → 48 ≤ get_or s i 0 → get_or s i 0 ≤ 57 → v ≤ 1844674407370955161 → 18446744073709551615 - v * 10 < get_or s i 0 - 48
+  pub digits-over : (w : ℕ) → i < length s → 48 ≤ get_or s i 0 → get_or s i 0 ≤ 57 → v * 10 ≡ w → (w + (get_or s i 0 - 48) < 2 ^ 64 → ⊥)
       → None ≡ digits_from 0 s
-  digits-over h l u w o = sym (digits_more h l u ∙ over (v * 10 + (get_or s i 0 - 48)) (drop (i + 1) s) (omega arith))
+  digits-over w h l u e o = sym (digits_more h l u ∙ over (v * 10 + (get_or s i 0 - 48)) (drop (i + 1) s) (omega arith))
+
+  pub digits_next : (w r : ℕ) → i < length s → 48 ≤ get_or s i 0 → get_or s i 0 ≤ 57 → v * 10 ≡ w → w + (get_or s i 0 - 48) ≡ r
+      → digits_from 0 s ≡ digits_from r (drop (i + 1) s)
+  digits_next w r h l u e f = let z : v * 10 + (get_or s i 0 - 48) ≡ r = omega arith in rw z at (digits_more h l u)
 
   pub digits_done : length s ≤ i → v ≤ most → Some v ≡ digits_from 0 s
   digits_done h u = rw (inv, done s i h, le-leb _ _ u)
@@ -83,6 +87,7 @@ pub ruleset laws = (
   digits_more,
   digits-past,
   digits-over,
+  digits_next,
   digits_done,
   value-empty,
   value-zero,

@@ -158,24 +158,20 @@ pub pair_inside : (to : List ℕ) (at g : ℕ) → at + 2 ≤ length to → at +
 pair_inside to at g h = rw length-set (omega arith)
 
 -- ---- byte by byte: with what is left of them put, the buffer is the one that is asked for
-pub record Pairing (to to₀ bytes : List ℕ) (at place i : ℕ) : Type 0 where
-  pub in_bytes : i ≤ length bytes
+pub record Pairing (to to₀ bytes : List ℕ) (at i : ℕ) : Type 0 where
   pub same : length to ≡ length to₀
-  pub place_is : place ≡ at + 2 * i
-  pub fill : sets to place (pairs (drop i bytes)) ≡ sets to₀ at (pairs bytes)
+  pub fill : sets to (at + 2 * i) (pairs (drop i bytes)) ≡ sets to₀ at (pairs bytes)
 
-pub pairs_start : (to bytes : List ℕ) (at : ℕ) → Pairing to to bytes at at 0
-pairs_start to bytes at = record { in_bytes = omega arith; same = refl; place_is = omega arith; fill = refl }
+pub pairs_start : (to bytes : List ℕ) (at : ℕ) → Pairing to to bytes at 0
+pairs_start to bytes at = let e : at + 2 * 0 ≡ at = omega arith in record { same = refl; fill = rw e refl }
 
-module _ (to to₀ bytes : List ℕ) (at place i : ℕ) (p : Pairing to to₀ bytes at place i) where
-  pub pairs-more : (to' : List ℕ) → to' ≡ sets to place (pairs (get_or bytes i 0 ∷ [])) → i < length bytes
-      → Pairing to' to₀ bytes at (place + 2) (i + 1)
+module _ (to to₀ bytes : List ℕ) (at i : ℕ) (p : Pairing to to₀ bytes at i) where
+  pub pairs-more : (to' : List ℕ) → to' ≡ sets to (at + 2 * i) (pairs (get_or bytes i 0 ∷ [])) → i < length bytes
+      → Pairing to' to₀ bytes at (i + 1)
   pairs-more to' e l =
-      let s : place + 2 ≡ suc (suc place) = omega arith in
+      let s : at + 2 * (i + 1) ≡ suc (suc (at + 2 * i)) = omega arith in
       record {
-        in_bytes = omega arith;
         same = rw (e, length-set, length-set) p.same;
-        place_is = omega (arith, p.place_is);
         fill = rw (e, s) (rw (next bytes i l) at p.fill);
       }
 

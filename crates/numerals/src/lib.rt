@@ -1,5 +1,5 @@
 // Numbers and bytes as text: decimal, signed, hexadecimal. And decimal numbers read.
-#![tactic(auto)]
+#![tactic(auto, using(crate::proofs::Laws::laws, crate::proofs::Decimals::laws))]
 
 pub mod numbers;
 
@@ -29,17 +29,14 @@ pub fn glyph(ten: u8, d: u8) -> u8
 fn is_spelled(rest: u64, left: usize) -> bool
     ensures { result ≡ eqb rest 0 && eqb left 0 }
 {
-    if rest != 0 {
-        return false;
-    }
-    left == 0
+    rest == 0 && left == 0
 }
 
 // What is left of a number without another, or 0.
 pub fn less(n: usize, by: usize) -> usize
     ensures { result ≡ n - by }
 {
-    if n < by { 0 } else { n - by }
+    n.saturating_sub(by)
 }
 
 // Spells a number in a base, with at least so many digits, and answers where it begins.
@@ -50,16 +47,14 @@ pub fn spell(n: u64, base: u8, ten: u8, least: usize, out: &mut [u8]) -> usize
     let mut at: usize = ROOM;
     let mut rest = n;
     let mut left = least;
-    loop {
-        if is_spelled(rest, left) {
-            return at;
-        }
+    while !is_spelled(rest, left) {
         let digit = (rest % base as u64) as u8;
         at -= 1;
         out[at] = glyph(ten, digit);
         rest /= base as u64;
         left = less(left, 1);
     }
+    at
 }
 
 // A number in decimal.
@@ -108,12 +103,8 @@ fn put_pairs(buffer: &mut [u8], at: usize, bytes: &[u8])
     requires { at + 2 * length bytes.now ≤ length buffer.old }
     ensures { buffer.new ≡ sets buffer.old at (pairs bytes.now) }
 {
-    let mut place = at;
-    let mut i = 0;
-    while i < bytes.len() {
-        put_pair(buffer, place, bytes[i]);
-        place += 2;
-        i += 1;
+    for (i, b) in bytes.iter().enumerate() {
+        put_pair(buffer, at + 2 * i, *b);
     }
 }
 

@@ -23,24 +23,15 @@ fn read_digits(s: &[u8]) -> Option<u64>
     ensures { result ≡ digits_from 0 s.now }
 {
     let mut v: u64 = 0;
-    let mut i = 0;
-    while i < s.len() {
-        let b = s[i];
-        if b < b'0' {
+    for b in s {
+        if *b < b'0' {
             return None;
         }
-        if b'9' < b {
+        if b'9' < *b {
             return None;
         }
-        let digit = (b - b'0') as u64;
-        if 1844674407370955161 < v {
-            return None;
-        }
-        if 18446744073709551615 - v * 10 < digit {
-            return None;
-        }
-        v = v * 10 + digit;
-        i += 1;
+        let digit = u64::from(*b - b'0');
+        v = v.checked_mul(10)?.checked_add(digit)?;
     }
     Some(v)
 }
