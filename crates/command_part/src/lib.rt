@@ -1,5 +1,5 @@
 // Where the command of an MPDU lies: behind its header, before its checksum (H26 of docs/RULES.md).
-#![tactic(auto)]
+#![tactic(auto, using(crate::proofs::Laws::laws))]
 
 ghost use Rattle.std.specs.Prelude.{◌≡◌, ◌+◌, ◌≤◌, length};
 ghost use Rattle.records.specs.Records.{PartOf};

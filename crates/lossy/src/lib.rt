@@ -1,6 +1,6 @@
 // Bytes shown as UTF-8 in a lent buffer: U+FFFD for each maximal subpart of what is ill-formed, and no zero byte at the end. Counterpart of Rust's
 // `String::from_utf8_lossy` and `trim_end_matches('\0')`.
-#![tactic(auto)]
+#![tactic(auto, using(crate::proofs::Laws::laws))]
 
 ghost use Rattle.std.specs.Prelude.{◌≡◌, ◌+◌, ◌*◌, ◌^◌, ◌≤◌, ◌<◌, length, take, cond};
 ghost use Rattle.std.proofs.lemmas.List.Edits.{sets};
