@@ -1,7 +1,7 @@
 // The frame in a record's body: F7 to F12, F16, FV1, FV2, BF1 and BF2 of docs/RULES.md.
 #![tactic(auto, using(crate::proofs::Laws::laws))]
 
-ghost use Rattle.std.specs.Prelude.{◌≡◌, ◌||◌, ◌≤◌, ◌<◌, ◌%◌, ◌^◌, leb, ltb, length, Some};
+ghost use Rattle.std.specs.Prelude.{◌≡◌, ◌||◌, ◌≤◌, ◌<◌, ◌%◌, ◌^◌, leb, ltb, length, Some, MatchOption};
 ghost use Rattle.refusal.specs.Refusal.{most_payload};
 ghost use Rattle.radio.specs.Speed.{RateTable};
 ghost use Rattle.radio.specs.Beam.{beams_of, no_target};
@@ -93,32 +93,26 @@ pub struct PtiFrame {
     pub target: BeamTarget,
 }
 
-// The header's length by its version, a body's first byte; 0 for a version that there isn't.
-fn header_length(version: u8) -> usize
-    ensures value { result ≡ header_of version }
-    ensures upper_bound { result ≤ 19 }
+// The header's length by its version, a body's first byte, if there is such a version.
+fn header_length(version: u8) -> Option<usize>
+    ensures { MatchOption result (header_of version ≡ 0) (λ n. (n ≡ header_of version) × (0 < n) × (n ≤ 19)) }
 {
-    if version == 2 {
-        return 12;
+    match version {
+        2 => Some(12),
+        3 => Some(19),
+        _ => None,
     }
-    if version == 3 {
-        return 19;
-    }
-    0
 }
 
-// The trailer's length by the start tag; 0 where there is no such tag.
-fn trailer_length(start: u8) -> usize
-    ensures value { result ≡ trailer_of start }
-    ensures upper_bound { result ≤ 6 }
+// The trailer's length by the start tag, if it is one.
+fn trailer_length(start: u8) -> Option<usize>
+    ensures { MatchOption result (trailer_of start ≡ 0) (λ n. (n ≡ trailer_of start) × (0 < n) × (n ≤ 6)) }
 {
-    if start == HW_RX_START {
-        return 6;
+    match start {
+        HW_RX_START => Some(6),
+        HW_TX_START => Some(5),
+        _ => None,
     }
-    if start == HW_TX_START {
-        return 5;
-    }
-    0
 }
 
 fn direction_of(start: u8) -> Direction
@@ -249,20 +243,8 @@ fn is_whole(parts: Parts) -> bool
 fn lay_out(body: &[u8]) -> Option<(BodyOffset, BodyOffset)>
     ensures { result ≡ layout_of body.now }
 {
-    if body.len() == 0 {
-        return None;
-    }
-    let header = header_length(body[0]);
-    if header == 0 {
-        return None;
-    }
-    if body.len() < header {
-        return None;
-    }
-    let trailer = trailer_length(body[header - 1]);
-    if trailer == 0 {
-        return None;
-    }
+    let header = header_length(*body.first()?)?;
+    let trailer = trailer_length(*body.get(header - 1)?)?;
     if body.len() <= header + trailer {
         return None;
     }
@@ -324,9 +306,7 @@ pub fn split_body(rates: &[u8; 512], body: &[u8], rules: Rules) -> Option<Parts>
     requires width_bound { rules.width ≤ 5 }
     ensures { result ≡ split_of rules body.now }
 {
-    let Some((middle, end)) = lay_out(body) else {
-        return None;
-    };
+    let (middle, end) = lay_out(body)?;
     split_between(rates, body, rules, middle, end)
 }
 
@@ -342,7 +322,7 @@ fn mpdu_length(beam: bool, middle: &[u8]) -> usize
     if beam {
         return m;
     }
-    let l = middle[LENGTH_INDEX_IN_HEADER] as usize;
+    let l = usize::from(middle[LENGTH_INDEX_IN_HEADER]);
     if l <= m { l } else { m }
 }
 
@@ -418,8 +398,6 @@ pub fn parse_record(body: &[u8], firmware: usize, reading: Reading) -> Result<Pt
     if MOST_FRAME < body.len() {
         return Err(Refusal::TooLong(body.len()));
     }
-    let Some(parts) = split_body(&RATES, body, rules) else {
-        return Err(Refusal::NotAFrame);
-    };
+    let parts = split_body(&RATES, body, rules).ok_or(Refusal::NotAFrame)?;
     Ok(frame_of(body, reading, parts))
 }
