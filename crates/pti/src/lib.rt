@@ -2,7 +2,7 @@
 // The counterpart of zniff-rs's pti/mod.rs and pti/speed.rs, whose calls are all to be had here. A payload holds records between
 // brackets (crate `records`); a record's body holds at most one frame (crate `frame`), whose MPDU stays a part of the payload; its rate
 // and its beams are the radio's (crate `radio`). What is left to this crate is every frame of a payload, as rows of a table.
-#![tactic(auto)]
+#![tactic(auto, using(crate::proofs::Laws::laws))]
 
 pub mod payload;
 

@@ -12,7 +12,7 @@ use radio::rssi::byte_of;
 use radio::speed::RATES;
 use records::{PayloadOffset, Span, next_body};
 use refusal::{MOST_PAYLOAD, Refusal};
-use rows::put_short_row;
+use rows::put_row;
 
 // The columns of a frame's row: F17, FP1 and BF2 of docs/RULES.md.
 pub const DIRECTION: usize = 0;
@@ -63,10 +63,7 @@ pub fn direction_number(direction: Direction) -> u16
 pub fn beams_number(beams: Option<u16>) -> u16
     ensures { result ≡ beams_number beams }
 {
-    match beams {
-        Some(n) => n,
-        None => 0,
-    }
+    beams.unwrap_or(0)
 }
 
 // The row of the frame of record `number`, whose body starts at a place of the payload: three bytes behind its opening bracket.
@@ -101,10 +98,10 @@ fn frames_in(rates: &[u8; 512], body: &[u8], rules: Rules) -> usize
     ensures value { result ≡ cond (is_frame rules body.now) 1 0 }
     ensures upper_bound { result ≤ 1 }
 {
-    let Some(_) = split_body(rates, body, rules) else {
-        return 0;
-    };
-    1
+    match split_body(rates, body, rules) {
+        Some(_) => 1,
+        None => 0,
+    }
 }
 
 fn count_frames(rates: &[u8; 512], payload: &[u8], rules: Rules) -> usize
@@ -114,15 +111,13 @@ fn count_frames(rates: &[u8; 512], payload: &[u8], rules: Rules) -> usize
 {
     let mut count: usize = 0;
     let mut at: usize = 1;
-    loop {
-        let Some(span) = next_body(payload, at) else {
-            return count;
-        };
+    while let Some(span) = next_body(payload, at) {
         let start = span.start.0;
         let end = span.end.0;
         count += frames_in(rates, &payload[start..end], rules);
         at = end + 2;
     }
+    count
 }
 
 // How many rows a table must have room for. They are counted only if it has not room for as many as a payload of this length can have.
@@ -151,7 +146,7 @@ fn write_row(
     ensures { WritesRow frame number body.0 n table.old result table.new }
 {
     let row = row_of(frame, number, body);
-    put_short_row(table, n * ROW_WIDTH, &row);
+    put_row(table, n * ROW_WIDTH, &row);
     n + 1
 }
 
