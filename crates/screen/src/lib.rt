@@ -1,5 +1,5 @@
 // Frame records for the screen, filled from the flat rows of `parse_payload`: F19 of docs/RULES.md.
-#![tactic(auto)]
+#![tactic(auto, using(crate::proofs::Laws::laws))]
 
 ghost use Rattle.std.specs.Prelude.{◌≡◌, ◌≤◌, ◌+◌, ◌*◌, drop, length};
 ghost use Rattle.screen.specs.Screen.{record_of, fillable_of, Filled};
@@ -20,7 +20,7 @@ pub struct FrameRecord {
     pub channel: u8,
     pub rate: u8,
     pub rssi: i8,
-    // whether there is a beam count; `beams` is 0 where there is none
+    // whether there is a beam count; `beams` is 0 where there is none: C reads both fields, so no Option
     pub is_beam: bool,
     pub beams: u16,
     // the MPDU's, in the payload
@@ -79,10 +79,8 @@ pub extern "C" fn fill_frames(frames: &mut [FrameRecord], rows: &[u16], n: usize
     ensures { Filled rows.now n frames.old result frames.new }
 {
     let m = fillable(n, frames.len(), rows.len());
-    let mut i: usize = 0;
-    while i < m {
+    for i in 0..m {
         frames[i] = record_at(rows, i);
-        i += 1;
     }
     m
 }

@@ -23,7 +23,4 @@ offset_bounds-frames-i c = record { fits = omega (arith, few _ _ _ _ c.fillable-
 pub loop-i-preserved : goal.loop-i-preserved
 loop-i-preserved c =
     let there = few _ _ _ _ c.fillable-m.ensures in
-    record {
-      upto = omega arith;
-      table = rw (c.record_at.ensures, c.loop-i.invariant.table) (filled_more c.args.rows.now c.loop-i.i c.args.frames.now (omega arith));
-    }
+    rw (c.record_at.ensures, c.loop-i.invariant) (filled_more c.args.rows.now c.loop-i.i c.args.frames.now (omega arith))
