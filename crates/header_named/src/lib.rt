@@ -1,5 +1,5 @@
 // The rows of one candidate that is named, whether it holds or not.
-#![tactic(auto)]
+#![tactic(auto, using(crate::proofs::Laws::laws))]
 
 ghost use Rattle.std.specs.Prelude.{◌≡◌, ◌*◌, ◌≤◌, length, Ok};
 ghost use Rattle.refusal.specs.Refusal.{most_frame};
@@ -26,10 +26,7 @@ fn find_named(text: &[u8], key: u64, number: u64) -> Option<Candidate>
     let mut place = Place::start();
     let mut h: usize = 0;
     let mut n: usize = 0;
-    loop {
-        let Some(candidate) = next_candidate(text, place, key, h, n) else {
-            return None;
-        };
+    while let Some(candidate) = next_candidate(text, place, key, h, n) {
         if candidate.number as u64 == number {
             return Some(candidate);
         }
@@ -37,6 +34,7 @@ fn find_named(text: &[u8], key: u64, number: u64) -> Option<Candidate>
         h = candidate.number + 1;
         n = candidate.params;
     }
+    None
 }
 
 // Where P lines begin, and how many P lines come before.
@@ -64,8 +62,7 @@ fn read_behind(
         let own = lines_at text.now lines.place lines.params in
         Gives (rows_of text.now mpdu.now (trees bs) (trees own)) rows.old result rows.new }
 {
-    let place = lines.place;
-    let read = read_own(text, mpdu, place, lines.params, fields, scratch, base);
+    let read = read_own(text, mpdu, lines.place, lines.params, fields, scratch, base);
     write_rows(text, &fields[..], read.count, &scratch[..], read.rows, rows);
     read.rows
 }
@@ -83,8 +80,14 @@ fn read_rows(text: &[u8], mpdu: &[u8], first: Lines, second: Lines, rows: &mut [
 {
     let mut fields = [0u64; 128 * LINE_WIDTH];
     let mut scratch = [0u64; 128 * SCRATCH_WIDTH];
-    let place = first.place;
-    let base = read_base(text, mpdu, place, first.params, &mut fields, &mut scratch);
+    let base = read_base(
+        text,
+        mpdu,
+        first.place,
+        first.params,
+        &mut fields,
+        &mut scratch,
+    );
     read_behind(text, mpdu, second, &mut fields, &mut scratch, base, rows)
 }
 
@@ -99,16 +102,11 @@ pub fn read_named(
     requires { (verdict text.now ≡ Ok tt) × (length mpdu.now ≤ most_frame) × (128 * row_width ≤ length rows.old) }
     ensures { ReadsNamed text.now mpdu.now key number rows.old result rows.new }
 {
-    let Some((place, params)) = find_base(text, key) else {
-        return None;
-    };
-    let Some(candidate) = find_named(text, key, number) else {
-        return None;
-    };
-    let behind = candidate.place;
+    let (place, params) = find_base(text, key)?;
+    let candidate = find_named(text, key, number)?;
     let first = Lines { place, params };
     let second = Lines {
-        place: behind,
+        place: candidate.place,
         params: candidate.params,
     };
     Some(read_rows(text, mpdu, first, second, rows))
