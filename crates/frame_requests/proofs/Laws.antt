@@ -1,8 +1,6 @@
 -- Laws of the requests on frames. Assumes nothing.
 use Rattle.std.proofs.Common.{◌≡◌, ℕ, ◌*◌, ◌<◌, ◌≤◌, Bool, true, false, cond, eqb, leb, List, length, take, sym, refl, ◌∙◌, arith, length-take-le, le-leb}
 use borrow.Author.Tests.{lt-leb}
-use Rattle.request.specs.declared.Two.{Two}
-use Rattle.request.specs.declared.Two.TheVariants.{Are as TwoAre, Not as NotTwo}
 use Rattle.request.specs.Request.{two_of}
 use Rattle.request.proofs.Laws.{two_words, two_laws, request_laws}
 use Rattle.pti.specs.Payload.{row_width}
@@ -10,20 +8,17 @@ use Rattle.screen.specs.declared.FrameRecord.{FrameRecord}
 use Rattle.screen.proofs.Laws.{fillable_bounds}
 use Rattle.libtap.proofs.Standing.{standing_laws}
 use Rattle.frame_requests.specs.declared.frame_table.FrameTable.{FrameTable}
-use Rattle.frame_requests.specs.declared.frames.Asked.{Asked}
-use Rattle.frame_requests.specs.declared.frames.Asked.TheVariants.{Table}
-use Rattle.frame_requests.specs.declared.frames.By.{By}
-use Rattle.frame_requests.specs.declared.frames.By.TheVariants.{Capture as Captured, Not as NotBy}
 use Rattle.frame_requests.specs.declared.frames.Capture.{Capture}
 use Rattle.frame_requests.specs.Frames.{by_two, named_of, by_of, Asks}
 use Rattle.frame_requests.specs.Screen.{FilledFirst}
+use Rattle.std.specs.Prelude.{Option, Some, None}
 
 -- ---- the first four numbers of a row
 pub row_front : (row : List ℕ) → 8 ≤ length row → 4 ≡ length (take 4 row)
 row_front row h = sym (length-take-le 4 row (omega arith))
 
 -- ---- a table and a payload
-module _ (held : List ℕ) (r : Asked) (numbers n : ℕ) (told : Asks held r) (is : r ≡ Table numbers n) where
+module _ (held : List ℕ) (r : Option (ℕ × ℕ)) (numbers n : ℕ) (told : Asks held r) (is : r ≡ Some (numbers, n)) where
   asked : (numbers ≤ 16384 * row_width) × (n ≤ length held)
   asked = rw is at told
 
@@ -34,38 +29,38 @@ module _ (held : List ℕ) (r : Asked) (numbers n : ℕ) (told : Asks held r) (i
   asked-numbers = asked.0
 
 -- ---- the firmware that a request names
-module _ (words : List ℕ) (r : Two) (is : r ≡ two_of words) where
-  pub named_none : r ≡ NotTwo → NotBy ≡ named_of words
+module _ (words : List ℕ) (r : Option (ℕ × ℕ × ℕ)) (is : r ≡ two_of words) where
+  pub named_none : r ≡ None → None ≡ named_of words
   named_none e = rw (← is, e)
 
-  module _ (firmware reading at : ℕ) (are : r ≡ TwoAre firmware reading at) where
-    pub named-over : 1 < reading → NotBy ≡ named_of words
+  module _ (firmware reading at : ℕ) (are : r ≡ Some (firmware, reading, at)) where
+    pub named-over : 1 < reading → None ≡ named_of words
     named-over o = rw (← is, are, lt-leb reading 1 o)
 
     pub named_is : reading ≤ 1 → (family : Bool) → family ≡ eqb reading 1
-        → Captured (record { firmware = firmware; family = family }) at ≡ named_of words
+        → Some ((record { firmware = firmware; family = family }), at) ≡ named_of words
     named_is few family e = rw (← is, are, le-leb reading 1 few, e)
 
-pub by_named : (words : List ℕ) (named : Bool) (r : By) → r ≡ named_of words → named ≡ true → r ≡ by_of named words
+pub by_named : (words : List ℕ) (named : Bool) (r : Option (Capture × ℕ)) → r ≡ named_of words → named ≡ true → r ≡ by_of named words
 by_named words named r is e = rw e is
 
-pub by_plain : (words : List ℕ) (named : Bool) → named ≡ false → Captured (record { firmware = 2; family = false }) 0 ≡ by_of named words
+pub by_plain : (words : List ℕ) (named : Bool) → named ≡ false → Some ((record { firmware = 2; family = false }), 0) ≡ by_of named words
 by_plain words named e = rw e
 
 -- where the other words start, there are such
-pub by_rest : (words : List ℕ) (named : Bool) (r : By) (capture : Capture) (at : ℕ) → r ≡ by_of named words → r ≡ Captured capture at
+pub by_rest : (words : List ℕ) (named : Bool) (r : Option (Capture × ℕ)) (capture : Capture) (at : ℕ) → r ≡ by_of named words → r ≡ Some (capture, at)
     → at ≤ length words
 by_rest words named r capture at is e =
     by_name named (two_of words) (λ a b n h. two_words words (two_of words) a b n refl h) (sym is ∙ e)
   where
-    by_reading : (t : Bool) (q : Capture) (n : ℕ) → n ≤ length words → cond t (Captured q n) NotBy ≡ Captured capture at → at ≤ length words
+    by_reading : (t : Bool) (q : Capture) (n : ℕ) → n ≤ length words → cond t (Some (q, n)) None ≡ Some (capture, at) → at ≤ length words
     by_reading true q n few h = let z : n ≡ at = cc in omega arith
     by_reading false q n few h = absurd (let z : ◌≡◌ {A = ℕ} 0 1 = cc in omega arith)
 
-    by_name : (t : Bool) (two : Two) → ((a b n : ℕ) → two ≡ TwoAre a b n → n ≤ length words)
-        → cond t (by_two two) (Captured (record { firmware = 2; family = false }) 0) ≡ Captured capture at → at ≤ length words
-    by_name true (TwoAre a b n) inside h = by_reading (leb b 1) (record { firmware = a; family = eqb b 1 }) n (inside a b n refl) h
-    by_name true NotTwo inside h = absurd (let z : ◌≡◌ {A = ℕ} 0 1 = cc in omega arith)
+    by_name : (t : Bool) (two : Option (ℕ × ℕ × ℕ)) → ((a b n : ℕ) → two ≡ Some (a, b, n) → n ≤ length words)
+        → cond t (by_two two) (Some ((record { firmware = 2; family = false }), 0)) ≡ Some (capture, at) → at ≤ length words
+    by_name true (Some (a, b, n)) inside h = by_reading (leb b 1) (record { firmware = a; family = eqb b 1 }) n (inside a b n refl) h
+    by_name true None inside h = absurd (let z : ◌≡◌ {A = ℕ} 0 1 = cc in omega arith)
     by_name false two inside h = let z : 0 ≡ at = cc in omega arith
 
 -- ---- as many records as are filled stand in the table of frame records

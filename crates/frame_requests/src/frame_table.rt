@@ -55,14 +55,7 @@ fn beams_of(is_beam: bool, beams: u16) -> u16 {
 
 // Whether two flat rows are the same.
 fn same(a: &[u16; ROW_WIDTH], b: &[u16; ROW_WIDTH]) -> bool {
-    let mut i: usize = 0;
-    while i < ROW_WIDTH {
-        if a[i] != b[i] {
-            return false;
-        }
-        i += 1;
-    }
-    true
+    a == b
 }
 
 // The flat row of a record: the pattern in each number for one that nothing has been written to.
@@ -110,11 +103,9 @@ pub fn frame_table(rows: &mut [u16], n: usize) -> usize
     let fresh = untouched();
     let records = [fresh; 16384];
     let table = fill_first(records, rows, n, lent);
-    let mut i: usize = 0;
-    while i < lent {
+    for i in 0..lent {
         let record = table.records[i];
-        put_row(rows, i * ROW_WIDTH, &flat_row(record));
-        i += 1;
+        put_short_row(rows, i * ROW_WIDTH, &flat_row(record));
     }
     table.filled
 }

@@ -9,19 +9,12 @@ use answer::{put_numbers, put_refusal, put_value};
 use libtap::frames::tap_parse_payload;
 use pti::payload::{HASH, NODE, POWER, RECORD, ROW_WIDTH};
 use readers::line_fields::field_of;
-use request::{Two, read_bytes, read_leading, read_two};
+use request::{read_bytes, read_leading, read_two};
 use std::num::wrapping_add_usize;
 use writer::{Buffer, put, put_number};
 
 // The numbers of the most rows that a request may ask for.
 const NUMBERS: usize = 16384 * ROW_WIDTH;
-
-// A table and a payload: how many numbers the one has, and how many bytes the other, all of them decoded.
-#[derive(Clone, Copy)]
-enum Asked {
-    Table(usize, usize),
-    Not,
-}
 
 // What a request says of its bytes: the firmware that wrote them, and whether beams are a family of their own.
 #[derive(Clone, Copy)]
@@ -30,62 +23,49 @@ pub struct Capture {
     pub family: bool,
 }
 
-// The same, and where the other words of the request start.
-#[derive(Clone, Copy)]
-pub enum By {
-    Capture(Capture, usize),
-    Not,
-}
-
 // `FIRMWARE READING`. The reading is 0 or 1.
-fn read_named(words: &[u8]) -> By
+fn read_named(words: &[u8]) -> Option<(Capture, usize)>
     ensures { result ≡ named_of words.now }
 {
-    let Two::Are(firmware, reading, at) = read_two(words) else {
-        return By::Not;
-    };
+    let (firmware, reading, at) = read_two(words)?;
     if 1 < reading {
-        return By::Not;
+        return None;
     }
-    By::Capture(
+    Some((
         Capture {
             firmware: firmware as usize,
             family: reading == 1,
         },
         at,
-    )
+    ))
 }
 
 // The same, if the word asks for them; else firmware 2 and reading 0.
-pub fn read_by(words: &[u8], named: bool) -> By
+pub fn read_by(words: &[u8], named: bool) -> Option<(Capture, usize)>
     ensures { result ≡ by_of named words.now }
 {
     if named {
         return read_named(words);
     }
-    By::Capture(
+    Some((
         Capture {
             firmware: 2,
             family: false,
         },
         0,
-    )
+    ))
 }
 
 // `CAP PAYLOAD`
-fn read_asked(words: &[u8], bytes: &mut [u8]) -> Asked
+fn read_asked(words: &[u8], bytes: &mut [u8]) -> Option<(usize, usize)>
     ensures { Asks bytes.new result }
 {
-    let Some((cap, at)) = read_leading(words) else {
-        return Asked::Not;
-    };
+    let (cap, at) = read_leading(words)?;
     if MOST_ROWS < cap {
-        return Asked::Not;
+        return None;
     }
-    let Some(n) = read_bytes(&words[at..], bytes) else {
-        return Asked::Not;
-    };
-    Asked::Table(cap as usize * ROW_WIDTH, n)
+    let n = read_bytes(&words[at..], bytes)?;
+    Some((cap as usize * ROW_WIDTH, n))
 }
 
 // `frames CAP PAYLOAD` and `framesby FIRMWARE READING CAP PAYLOAD`; with the other word by the slice of frame records
@@ -97,12 +77,8 @@ pub fn frames(
     out: &mut Buffer,
     used: usize,
 ) -> Option<usize> {
-    let By::Capture(capture, at) = read_by(words, named) else {
-        return None;
-    };
-    let Asked::Table(numbers, n) = read_asked(&words[at..], bytes) else {
-        return None;
-    };
+    let (capture, at) = read_by(words, named)?;
+    let (numbers, n) = read_asked(&words[at..], bytes)?;
     let mut rows = [SHORT; NUMBERS];
     Some(answer_frames(
         &bytes[..n],
@@ -175,11 +151,9 @@ fn put_rows(out: &mut Buffer, used: usize, named: bool, rows: &[u16], count: usi
     requires { count * row_width ≤ length rows.now }
 {
     let mut n = used;
-    let mut i = 0;
-    while i < count {
+    for i in 0..count {
         let row = widened(rows, i);
         n = put_row(out, n, named, &row);
-        i += 1;
     }
     n
 }
@@ -193,10 +167,8 @@ fn widened(rows: &[u16], i: usize) -> [u64; ROW_WIDTH]
     requires { i * row_width + row_width ≤ length rows.now }
 {
     let mut row = [0u64; ROW_WIDTH];
-    let mut k: usize = 0;
-    while k < ROW_WIDTH {
+    for k in 0..ROW_WIDTH {
         row[k] = wide(rows[i * ROW_WIDTH + k]);
-        k += 1;
     }
     row
 }

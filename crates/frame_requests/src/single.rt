@@ -1,5 +1,5 @@
 // The requests on rates and on single records.
-use crate::frames::{By, FRAME, put_frame, put_target, put_word, read_by};
+use crate::frames::{FRAME, put_frame, put_target, put_word, read_by};
 use answer::{put_bytes, put_named, put_refusal};
 use libtap::TapAnswer;
 use libtap::frames::{
@@ -11,12 +11,8 @@ use writer::{Buffer, put};
 
 // `rate CHANNEL REGION`
 pub fn rate(words: &[u8], out: &mut Buffer, used: usize) -> Option<usize> {
-    let Some((channel, at)) = read_leading(words) else {
-        return None;
-    };
-    let Some(region) = read_value(&words[at..]) else {
-        return None;
-    };
+    let (channel, at) = read_leading(words)?;
+    let region = read_value(&words[at..])?;
     let rate = tap_speed_for(channel as usize, region as usize);
     Some(put_named(out, used, b"rate", rate as u64))
 }
@@ -30,9 +26,7 @@ fn put_count(out: &mut Buffer, used: usize, count: TapAnswer) -> usize {
 
 // `count PAYLOAD`
 pub fn count(words: &[u8], bytes: &mut [u8], out: &mut Buffer, used: usize) -> Option<usize> {
-    let Some(n) = read_bytes(words, bytes) else {
-        return None;
-    };
+    let n = read_bytes(words, bytes)?;
     let count = tap_count_records(&bytes[..n]);
     Some(put_count(out, used, count))
 }
@@ -47,12 +41,8 @@ fn put_body(out: &mut Buffer, used: usize, payload: &[u8], k: usize) -> usize {
 
 // `body K PAYLOAD`
 pub fn body(words: &[u8], bytes: &mut [u8], out: &mut Buffer, used: usize) -> Option<usize> {
-    let Some((k, at)) = read_leading(words) else {
-        return None;
-    };
-    let Some(n) = read_bytes(&words[at..], bytes) else {
-        return None;
-    };
+    let (k, at) = read_leading(words)?;
+    let n = read_bytes(&words[at..], bytes)?;
     Some(put_body(out, used, &bytes[..n], k as usize))
 }
 
@@ -64,12 +54,8 @@ pub fn record(
     out: &mut Buffer,
     used: usize,
 ) -> Option<usize> {
-    let By::Capture(capture, at) = read_by(words, named) else {
-        return None;
-    };
-    let Some(n) = read_bytes(&words[at..], bytes) else {
-        return None;
-    };
+    let (capture, at) = read_by(words, named)?;
+    let n = read_bytes(&words[at..], bytes)?;
     let frame = tap_parse_record(&bytes[..n], capture.firmware, capture.family);
     Some(put_single(out, used, named, frame))
 }

@@ -6,7 +6,7 @@ ghost use Rattle.std.specs.Prelude.{◌-◌, ◌≤◌, length};
 use answer::{put_named, put_refusal};
 use libtap::TapAnswer;
 use libtap::listings::tap_judge_listing;
-use request::{Two, read_both, read_bytes, read_two};
+use request::{read_both, read_bytes, read_two};
 use text::find;
 use writer::{Buffer, put};
 
@@ -61,12 +61,8 @@ fn judge_words(
     if e == words.len() {
         return None;
     }
-    let Some(n) = read_bytes(&words[..e], bytes) else {
-        return None;
-    };
-    let Some((mpdu, listing)) = read_both(&words[e + 1..], &mut bytes[n..]) else {
-        return None;
-    };
+    let n = read_bytes(&words[..e], bytes)?;
+    let (mpdu, listing) = read_both(&words[e + 1..], &mut bytes[n..])?;
     let asked = Asked {
         region,
         speed,
@@ -79,8 +75,6 @@ fn judge_words(
 
 // `listing REGION SPEED TEXT MPDU LISTING`
 pub fn listing(words: &[u8], bytes: &mut [u8], out: &mut Buffer, used: usize) -> Option<usize> {
-    let Two::Are(region, speed, at) = read_two(words) else {
-        return None;
-    };
+    let (region, speed, at) = read_two(words)?;
     judge_words(&words[at..], region, speed, bytes, out, used)
 }

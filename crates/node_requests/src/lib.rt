@@ -18,10 +18,8 @@ fn wide(node: u16) -> u64 {
 // Nodes, each behind a space.
 fn put_nodes(out: &mut Buffer, used: usize, nodes: &[u16]) -> usize {
     let mut n = used;
-    let mut i: usize = 0;
-    while i < nodes.len() {
-        n = put_value(out, n, wide(nodes[i]));
-        i += 1;
+    for node in nodes {
+        n = put_value(out, n, wide(*node));
     }
     n
 }
@@ -65,9 +63,7 @@ fn list_header(
 
 // `headernodes CAP ROW REGION SPEED TEXT MPDU`
 pub fn headernodes(words: &[u8], bytes: &mut [u8], out: &mut Buffer, used: usize) -> Option<usize> {
-    let Some(asked) = read_header_row(words, MOST_ROWS, bytes) else {
-        return None;
-    };
+    let asked = read_header_row(words, MOST_ROWS, bytes)?;
     let room = asked.cap;
     let mut nodes = [SHORT; 16384];
     Some(list_header(bytes, asked, &mut nodes[..room], out, used))
@@ -102,9 +98,7 @@ pub fn commandnodes(
     out: &mut Buffer,
     used: usize,
 ) -> Option<usize> {
-    let Some(asked) = read_command_row(words, MOST_ROWS, bytes) else {
-        return None;
-    };
+    let asked = read_command_row(words, MOST_ROWS, bytes)?;
     let room = asked.cap;
     let mut nodes = [SHORT; 16384];
     Some(list_command(bytes, asked, &mut nodes[..room], out, used))

@@ -15,18 +15,14 @@ fn put_verdict(out: &mut Buffer, used: usize, verdict: TapAnswer) -> usize {
 
 // `frametext TEXT`
 pub fn frametext(words: &[u8], bytes: &mut [u8], out: &mut Buffer, used: usize) -> Option<usize> {
-    let Some(n) = read_bytes(words, bytes) else {
-        return None;
-    };
+    let n = read_bytes(words, bytes)?;
     let verdict = tap_check_frame_text(&bytes[..n]);
     Some(put_verdict(out, used, verdict))
 }
 
 // `commandtext TEXT`
 pub fn commandtext(words: &[u8], bytes: &mut [u8], out: &mut Buffer, used: usize) -> Option<usize> {
-    let Some(n) = read_bytes(words, bytes) else {
-        return None;
-    };
+    let n = read_bytes(words, bytes)?;
     let verdict = tap_check_command_text(&bytes[..n]);
     Some(put_verdict(out, used, verdict))
 }
@@ -39,15 +35,11 @@ fn answer_tidy(text: &[u8], buffer: &mut [u8], out: &mut Buffer, used: usize) ->
 
 // `tidy CAP TEXT`
 pub fn tidy(words: &[u8], bytes: &mut [u8], out: &mut Buffer, used: usize) -> Option<usize> {
-    let Some((cap, at)) = read_leading(words) else {
-        return None;
-    };
+    let (cap, at) = read_leading(words)?;
     if MOST_BYTES < cap {
         return None;
     }
-    let Some(n) = read_bytes(&words[at..], bytes) else {
-        return None;
-    };
+    let n = read_bytes(&words[at..], bytes)?;
     let room = cap as usize;
     let mut buffer = [BYTE; 196608];
     Some(answer_tidy(&bytes[..n], &mut buffer[..room], out, used))

@@ -87,11 +87,7 @@ impl Input {
         }
         let start = self.start;
         let end = self.end;
-        let mut i = start;
-        while i < end {
-            lines[i - start] = lines[i];
-            i += 1;
-        }
+        lines.copy_within(start..end, 0);
         end - start
     }
 

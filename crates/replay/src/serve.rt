@@ -155,13 +155,11 @@ pub fn serve(
 ) {
     let mut input = Input::empty(false);
     let mut used: usize = 0;
-    let mut turns = TURNS;
-    while turns > 0 {
+    for _ in 0..TURNS {
         let Turn::Next(next, n) = step(input, reader, lines, bytes, rows, out, used) else {
             return;
         };
         input = next;
         used = n;
-        turns -= 1;
     }
 }

@@ -16,8 +16,6 @@ use Rattle.text.specs.Text.{missing}
 use Rattle.text.specs.Scan.{cut}
 use Rattle.text.proofs.Laws.{front_count}
 use Rattle.numerals.specs.Numbers.{value_of}
-use Rattle.request.specs.declared.Two.{Two}
-use Rattle.request.specs.declared.Two.TheVariants.{Are as TwoAre, Not as NotTwo}
 use Rattle.request.specs.Request.{led, leading_of, digit_of, Decoded, bytes, none, onto, pairs_of, bytes_of}
 use Rattle.request.specs.Request.{paired, further, two_of, fitting, Decodes, first_of, second_of, fitting_both, InBoth, DecodesBoth}
 use Rattle.std.specs.Prelude.{Option, Some, None}
@@ -265,18 +263,18 @@ taken_before s n e l h = front_count s n (omega arith)
 
 -- ---- two numbers that others follow
 module _ (s : List ℕ) (r : Option (ℕ × ℕ)) (first : r ≡ leading_of s) where
-  pub two_none : r ≡ None → NotTwo ≡ two_of s
+  pub two_none : r ≡ None → None ≡ two_of s
   two_none e = rw (← first, e)
 
   module _ (v at : ℕ) (is : r ≡ Some (v, at)) (q : Option (ℕ × ℕ)) (next : q ≡ leading_of (take (length s - at) (drop at s))) where
     rest_is : q ≡ leading_of (drop at s)
     rest_is = rw (tail s at) at next
 
-    pub two_one : q ≡ None → NotTwo ≡ two_of s
+    pub two_one : q ≡ None → None ≡ two_of s
     two_one e = rw (← first, is, ← rest_is, e)
 
     module _ (w from : ℕ) (also : q ≡ Some (w, from)) where
-      pub two_are : TwoAre v w (at + from) ≡ two_of s
+      pub two_are : Some (v, w, (at + from)) ≡ two_of s
       two_are = rw (← first, is, ← rest_is, also)
 
       pub two_fits : length s * 1 < 2 ^ 63 → Fits w64 (at + from)
@@ -285,17 +283,18 @@ module _ (s : List ℕ) (r : Option (ℕ × ℕ)) (first : r ≡ leading_of s) w
           omega (arith, leading_inside s r v at first is, rw length-drop at rest)
 
 -- where the others start, there are such
-pub two_words : (s : List ℕ) (r : Two) (v w at : ℕ) → r ≡ two_of s → r ≡ TwoAre v w at → at ≤ length s
+pub two_words : (s : List ℕ) (r : Option (ℕ × ℕ × ℕ)) (v w at : ℕ) → r ≡ two_of s → r ≡ Some (v, w, at) → at ≤ length s
 two_words s r v w at is e = one (leading_of s) (λ n m h. leading_inside s (leading_of s) n m refl h) (sym is ∙ e)
   where
     two : (n m : ℕ) (q : Option (ℕ × ℕ)) → m ≤ length s → ((k from : ℕ) → q ≡ Some (k, from) → from ≤ length (drop m s))
-        → paired n m q ≡ TwoAre v w at → at ≤ length s
+        → paired n m q ≡ Some (v, w, at) → at ≤ length s
     two n m (Some (k, from)) few inside h =
-        let z : m + from ≡ at = cc in
+        let both : ◌≡◌ {A = ℕ × ℕ × ℕ} (n, k, m + from) (v, w, at) = cc in
+        let z : m + from ≡ at = ap (λ p. p.2) both in
         omega (arith, inside k from refl, length-drop m s)
     two n m None few inside h = absurd (let z : ◌≡◌ {A = ℕ} 0 1 = cc in omega arith)
 
-    one : (p : Option (ℕ × ℕ)) → ((n m : ℕ) → p ≡ Some (n, m) → m ≤ length s) → further s p ≡ TwoAre v w at → at ≤ length s
+    one : (p : Option (ℕ × ℕ)) → ((n m : ℕ) → p ≡ Some (n, m) → m ≤ length s) → further s p ≡ Some (v, w, at) → at ≤ length s
     one (Some (n, m)) inside h =
         two n m (leading_of (drop m s)) (inside n m refl) (λ k from t. leading_inside (drop m s) (leading_of (drop m s)) k from refl t) h
     one None inside h = absurd (let z : ◌≡◌ {A = ℕ} 0 1 = cc in omega arith)

@@ -8,8 +8,6 @@ use lib.Dec.{eqb}
 use lib.ListN.{length, take, drop}
 use borrow.Author.Tests.{le-leb, lt-leb, eqb-true, eqb-false}
 use Rattle.laws.proofs.Lists.{tail}
-use Rattle.request.specs.declared.Two.{Two}
-use Rattle.request.specs.declared.Two.TheVariants.{Are as TwoAre, Not as NotTwo}
 use Rattle.request.specs.declared.row.HeaderRow.{HeaderRow}
 use Rattle.request.specs.declared.row.CommandRow.{CommandRow}
 use Rattle.request.specs.Request.{leading_of, two_of, first_of, second_of, fitting_both, DecodesBoth}
@@ -36,26 +34,26 @@ module _ (most : ℕ) (a : Asked) (held : List ℕ) (cap : ℕ) (numbers others 
   reads n e is = record { words = drop from others; says = says; few = few; bytes = rw is at behind }
 
 -- ---- `CAP ROW REGION SPEED TEXT MPDU`
-module _ (most : ℕ) (s held : List ℕ) (r : Two) (first : r ≡ two_of s) where
-  pub header-none : r ≡ NotTwo → AsksHeader most s held None
+module _ (most : ℕ) (s held : List ℕ) (r : Option (ℕ × ℕ × ℕ)) (first : r ≡ two_of s) where
+  pub header-none : r ≡ None → AsksHeader most s held None
   header-none e = rw (← first, e)
 
-  module _ (cap row at : ℕ) (is : r ≡ TwoAre cap row at) where
+  module _ (cap row at : ℕ) (is : r ≡ Some (cap, row, at)) where
     pub header-over : most < cap → AsksHeader most s held None
     header-over o = rw (← first, is) (go (two_of (drop at s)))
       where
-        go : (q : Two) → readable most (length held) (header_end cap row (drop at s) q) ≡ false
-        go (TwoAre region speed from) = rw (lt-leb cap most o)
-        go NotTwo = refl
+        go : (q : Option (ℕ × ℕ × ℕ)) → readable most (length held) (header_end cap row (drop at s) q) ≡ false
+        go (Some (region, speed, from)) = rw (lt-leb cap most o)
+        go None = refl
 
-    module _ (few : cap ≤ most) (q : Two) (next : q ≡ two_of (rest s at)) where
+    module _ (few : cap ≤ most) (q : Option (ℕ × ℕ × ℕ)) (next : q ≡ two_of (rest s at)) where
       second : q ≡ two_of (drop at s)
       second = rw (tail s at) at next
 
-      pub header-half : q ≡ NotTwo → AsksHeader most s held None
+      pub header-half : q ≡ None → AsksHeader most s held None
       header-half e = rw (← first, is, ← second, e)
 
-      module _ (region speed from : ℕ) (also : q ≡ TwoAre region speed from) (b : Option (ℕ × ℕ))
+      module _ (region speed from : ℕ) (also : q ≡ Some (region, speed, from)) (b : Option (ℕ × ℕ))
           (told : DecodesBoth (first_of (rest (rest s at) from)) (second_of (rest (rest s at) from)) held b) where
         says : header_of s ≡ asked cap (row ∷ region ∷ speed ∷ []) (drop from (rest s at))
         says = rw (tail s at, ← first, is, ← second, also)
@@ -83,14 +81,14 @@ module _ (most : ℕ) (s held : List ℕ) (r : Option (ℕ × ℕ)) (first : r �
     pub command_mode : 1 < mode → AsksCommand most s held None
     command_mode o = rw (← first, is, lt-leb mode 1 o)
 
-    module _ (small : mode ≤ 1) (q : Two) (next : q ≡ two_of (rest s at)) where
+    module _ (small : mode ≤ 1) (q : Option (ℕ × ℕ × ℕ)) (next : q ≡ two_of (rest s at)) where
       numbers : q ≡ two_of (drop at s)
       numbers = rw (tail s at) at next
 
-      pub command_half : q ≡ NotTwo → AsksCommand most s held None
+      pub command_half : q ≡ None → AsksCommand most s held None
       command_half e = rw (← first, is, le-leb mode 1 small, ← numbers, e)
 
-      module _ (cap row from : ℕ) (also : q ≡ TwoAre cap row from) where
+      module _ (cap row from : ℕ) (also : q ≡ Some (cap, row, from)) where
         asks : command_of s ≡ asked cap (row ∷ mode ∷ []) (drop from (rest s at))
         asks = rw (tail s at, ← first, is, le-leb mode 1 small, ← numbers, also)
 

@@ -1,6 +1,5 @@
 -- Words of requests, worked out.
 use Rattle.std.specs.Prelude.{◌≡◌, refl, [], ◌∷◌, Some, None}
-use Rattle.request.specs.declared.Two.TheVariants.{Are as TwoAre, Not as NotTwo}
 use Rattle.request.specs.Request.{leading_of, two_of, bytes_of, bytes, none}
 use Rattle.request.specs.Row.{asked, unasked, header_of, command_of}
 
@@ -15,10 +14,10 @@ last_empty : leading_of (51 ∷ 32 ∷ []) ≡ Some (3, 2)
 last_empty = refl
 
 -- `3 12 5b`, and `3 12`
-two_lead : two_of (51 ∷ 32 ∷ 49 ∷ 50 ∷ 32 ∷ 53 ∷ 98 ∷ []) ≡ TwoAre 3 12 5
+two_lead : two_of (51 ∷ 32 ∷ 49 ∷ 50 ∷ 32 ∷ 53 ∷ 98 ∷ []) ≡ Some (3, 12, 5)
 two_lead = refl
 
-nothing-behind : two_of (51 ∷ 32 ∷ 49 ∷ 50 ∷ []) ≡ NotTwo
+nothing-behind : two_of (51 ∷ 32 ∷ 49 ∷ 50 ∷ []) ≡ None
 nothing-behind = refl
 
 -- `-`, `5b02`, `5B`, `5b0`, and no word

@@ -3,8 +3,6 @@ use Rattle.std.specs.Prelude.{◌≡◌, ℕ, ◌+◌, ◌-◌, ◌*◌, ◌≤�
 use Rattle.text.specs.Text.{missing}
 use Rattle.text.specs.Scan.{cut}
 use Rattle.numerals.specs.Numbers.{value_of}
-use Rattle.request.specs.declared.Two.{Two}
-use Rattle.request.specs.declared.Two.TheVariants.{Are as TwoAre, Not as NotTwo}
 
 -- ---- "Numbers are decimal", without leading zeros and at most 2^64 - 1
 -- the number that words start with where others follow it, and where these start: words are "parted by one space"
@@ -16,15 +14,15 @@ abbrev pub leading_of : List ℕ → Option (ℕ × ℕ)
 leading_of l = cond (ltb (cut 0x20 l) (length l)) (led (value_of (take (cut 0x20 l) l)) (cut 0x20 l + 1)) None
 
 -- the two numbers that words start with where others follow them, and where these start
-abbrev pub paired : ℕ → ℕ → Option (ℕ × ℕ) → Two
-paired first at (Some (second, from)) = TwoAre first second (at + from)
-paired first at None = NotTwo
+abbrev pub paired : ℕ → ℕ → Option (ℕ × ℕ) → Option (ℕ × ℕ × ℕ)
+paired first at (Some (second, from)) = Some (first, second, (at + from))
+paired first at None = None
 
-abbrev pub further : List ℕ → Option (ℕ × ℕ) → Two
+abbrev pub further : List ℕ → Option (ℕ × ℕ) → Option (ℕ × ℕ × ℕ)
 further l (Some (first, at)) = paired first at (leading_of (drop at l))
-further l None = NotTwo
+further l None = None
 
-abbrev pub two_of : List ℕ → Two
+abbrev pub two_of : List ℕ → Option (ℕ × ℕ × ℕ)
 two_of l = further l (leading_of l)
 
 -- ---- "(Option ℕ) are lower-case hex without spaces, `-` for none"

@@ -1,7 +1,5 @@
 -- The words of a request for a row.
 use Rattle.std.specs.Prelude.{◌≡◌, Bool, false, cond, ◌&&◌, List, [], ◌∷◌, ℕ, ◌≤◌, leb, length, drop, Option, Some, None}
-use Rattle.request.specs.declared.Two.{Two}
-use Rattle.request.specs.declared.Two.TheVariants.{Are as TwoAre, Not as NotTwo}
 use Rattle.request.specs.Request.{leading_of, two_of, first_of, second_of, fitting_both, InBoth}
 use Rattle.request.specs.declared.row.CommandRow.{CommandRow}
 use Rattle.request.specs.declared.row.HeaderRow.{HeaderRow}
@@ -12,21 +10,21 @@ pub data Asked : Type 0 where
   unasked : Asked
 
 -- `CAP ROW REGION SPEED TEXT MPDU`: two numbers, and two more
-abbrev pub header_end : ℕ → ℕ → List ℕ → Two → Asked
-header_end cap row l (TwoAre region speed at) = asked cap (row ∷ region ∷ speed ∷ []) (drop at l)
-header_end cap row l NotTwo = unasked
+abbrev pub header_end : ℕ → ℕ → List ℕ → Option (ℕ × ℕ × ℕ) → Asked
+header_end cap row l (Some (region, speed, at)) = asked cap (row ∷ region ∷ speed ∷ []) (drop at l)
+header_end cap row l None = unasked
 
-abbrev pub header_from : List ℕ → Two → Asked
-header_from l (TwoAre cap row at) = header_end cap row (drop at l) (two_of (drop at l))
-header_from l NotTwo = unasked
+abbrev pub header_from : List ℕ → Option (ℕ × ℕ × ℕ) → Asked
+header_from l (Some (cap, row, at)) = header_end cap row (drop at l) (two_of (drop at l))
+header_from l None = unasked
 
 abbrev pub header_of : List ℕ → Asked
 header_of l = header_from l (two_of l)
 
 -- `MODE CAP ROW TEXT PAYLOAD`: a number of at most 1, and two more
-abbrev pub command_end : ℕ → List ℕ → Two → Asked
-command_end mode l (TwoAre cap row at) = asked cap (row ∷ mode ∷ []) (drop at l)
-command_end mode l NotTwo = unasked
+abbrev pub command_end : ℕ → List ℕ → Option (ℕ × ℕ × ℕ) → Asked
+command_end mode l (Some (cap, row, at)) = asked cap (row ∷ mode ∷ []) (drop at l)
+command_end mode l None = unasked
 
 abbrev pub command_from : List ℕ → Option (ℕ × ℕ) → Asked
 command_from l (Some (mode, at)) = cond (leb mode 1) (command_end mode (drop at l) (two_of (drop at l))) unasked

@@ -41,13 +41,6 @@ pub enum Word {
     Unknown,
 }
 
-// What words say of which the first two are numbers and others follow them: the numbers, and where the others start.
-#[derive(Clone, Copy)]
-pub enum Two {
-    Are(u64, u64, usize),
-    Not,
-}
-
 // The words of the requests that came after the base.
 fn later_word_of(word: &[u8]) -> Word {
     let words: &[u8] =
@@ -98,23 +91,17 @@ pub fn read_leading(words: &[u8]) -> Option<(u64, usize)>
     if e == words.len() {
         return None;
     }
-    let Some(n) = read_value(&words[..e]) else {
-        return None;
-    };
+    let n = read_value(&words[..e])?;
     Some((n, e + 1))
 }
 
 // The two numbers that words start with, and where the others start.
-pub fn read_two(words: &[u8]) -> Two
+pub fn read_two(words: &[u8]) -> Option<(u64, u64, usize)>
     ensures { result ≡ two_of words.now }
 {
-    let Some((first, at)) = read_leading(words) else {
-        return Two::Not;
-    };
-    let Some((second, from)) = read_leading(&words[at..]) else {
-        return Two::Not;
-    };
-    Two::Are(first, second, at + from)
+    let (first, at) = read_leading(words)?;
+    let (second, from) = read_leading(&words[at..])?;
+    Some((first, second, at + from))
 }
 
 // What a hex digit says, in lower case; 16 for what is none.
@@ -147,8 +134,7 @@ fn read_pairs(word: &[u8], bytes: &mut [u8]) -> Option<usize>
     if bytes.len() < n {
         return None;
     }
-    let mut i = 0;
-    while i < n {
+    for i in 0..n {
         let high = read_digit(word[i * 2]);
         if 16 <= high {
             return None;
@@ -158,7 +144,6 @@ fn read_pairs(word: &[u8], bytes: &mut [u8]) -> Option<usize>
             return None;
         }
         bytes[i] = high * 16 + low;
-        i += 1;
     }
     Some(n)
 }
@@ -184,11 +169,7 @@ pub fn read_both(words: &[u8], bytes: &mut [u8]) -> Option<(usize, usize)>
     if e == words.len() {
         return None;
     }
-    let Some(n) = read_bytes(&words[..e], bytes) else {
-        return None;
-    };
-    let Some(m) = read_bytes(&words[e + 1..], &mut bytes[n..]) else {
-        return None;
-    };
+    let n = read_bytes(&words[..e], bytes)?;
+    let m = read_bytes(&words[e + 1..], &mut bytes[n..])?;
     Some((n, n + m))
 }

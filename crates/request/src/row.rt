@@ -1,7 +1,7 @@
 // The words of a request for a row of a header or of a command: numbers, and then the bytes of a definition text and of what is read by it.
 ghost use Rattle.request.specs.Row.{AsksHeader, AsksCommand};
 
-use crate::{Two, read_both, read_leading, read_two};
+use crate::{read_both, read_leading, read_two};
 
 // A row of a header: how much room is asked for, its number, the region and the speed, where the MPDU starts behind the text, and where it ends.
 #[derive(Clone, Copy)]
@@ -28,19 +28,13 @@ pub struct CommandRow {
 pub fn read_header_row(words: &[u8], most: u64, bytes: &mut [u8]) -> Option<HeaderRow>
     ensures { AsksHeader most words.now bytes.new result }
 {
-    let Two::Are(cap, row, at) = read_two(words) else {
-        return None;
-    };
+    let (cap, row, at) = read_two(words)?;
     if most < cap {
         return None;
     }
     let others = &words[at..];
-    let Two::Are(region, speed, from) = read_two(others) else {
-        return None;
-    };
-    let Some((n, end)) = read_both(&others[from..], bytes) else {
-        return None;
-    };
+    let (region, speed, from) = read_two(others)?;
+    let (n, end) = read_both(&others[from..], bytes)?;
     Some(HeaderRow {
         cap: cap as usize,
         row: row as usize,
@@ -55,22 +49,16 @@ pub fn read_header_row(words: &[u8], most: u64, bytes: &mut [u8]) -> Option<Head
 pub fn read_command_row(words: &[u8], most: u64, bytes: &mut [u8]) -> Option<CommandRow>
     ensures { AsksCommand most words.now bytes.new result }
 {
-    let Some((mode, at)) = read_leading(words) else {
-        return None;
-    };
+    let (mode, at) = read_leading(words)?;
     if 1 < mode {
         return None;
     }
     let others = &words[at..];
-    let Two::Are(cap, row, from) = read_two(others) else {
-        return None;
-    };
+    let (cap, row, from) = read_two(others)?;
     if most < cap {
         return None;
     }
-    let Some((n, end)) = read_both(&others[from..], bytes) else {
-        return None;
-    };
+    let (n, end) = read_both(&others[from..], bytes)?;
     Some(CommandRow {
         cap: cap as usize,
         row: row as usize,

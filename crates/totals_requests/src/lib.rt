@@ -4,7 +4,7 @@
 use answer::table::{BYTE, put_written};
 use libtap::TapAnswer;
 use libtap::captures::{tap_add_payload, tap_print_totals};
-use request::{Two, read_bytes, read_two};
+use request::{read_bytes, read_two};
 use text::find;
 use totals::TOTALS;
 use writer::{Buffer, put, put_byte, put_number};
@@ -117,9 +117,7 @@ fn answer_words(
     if e == words.len() {
         return None;
     }
-    let Some(n) = read_bytes(&words[..e], bytes) else {
-        return None;
-    };
+    let n = read_bytes(&words[..e], bytes)?;
     let mut payload = [0u8; 262144];
     let payloads = &words[e + 1..];
     if are_bytes(payloads, &mut payload) {
@@ -130,13 +128,9 @@ fn answer_words(
 
 // `totals START FIRMWARE READING REGION TEXT PAYLOAD ..`
 pub fn totals(words: &[u8], bytes: &mut [u8], out: &mut Buffer, used: usize) -> Option<usize> {
-    let Two::Are(start, firmware, at) = read_two(words) else {
-        return None;
-    };
+    let (start, firmware, at) = read_two(words)?;
     let others = &words[at..];
-    let Two::Are(reading, region, from) = read_two(others) else {
-        return None;
-    };
+    let (reading, region, from) = read_two(others)?;
     if 1 < reading {
         return None;
     }

@@ -40,9 +40,7 @@ fn show_header(
 
 // `headervalue CAP ROW REGION SPEED TEXT MPDU`
 pub fn headervalue(words: &[u8], bytes: &mut [u8], out: &mut Buffer, used: usize) -> Option<usize> {
-    let Some(asked) = read_header_row(words, MOST_BYTES, bytes) else {
-        return None;
-    };
+    let asked = read_header_row(words, MOST_BYTES, bytes)?;
     let room = asked.cap;
     let mut buffer = [BYTE; 196608];
     Some(show_header(bytes, asked, &mut buffer[..room], out, used))
@@ -84,9 +82,7 @@ pub fn commandvalue(
     out: &mut Buffer,
     used: usize,
 ) -> Option<usize> {
-    let Some(asked) = read_command_row(words, MOST_BYTES, bytes) else {
-        return None;
-    };
+    let asked = read_command_row(words, MOST_BYTES, bytes)?;
     let room = asked.cap;
     let mut buffer = [BYTE; 196608];
     Some(show_command(bytes, asked, &mut buffer[..room], out, used))

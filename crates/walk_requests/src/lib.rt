@@ -11,7 +11,7 @@ use answer::table::{MOST_ROWS, fill, put_refused, put_touched};
 use answer::{put_named, put_numbers, put_value};
 use libtap::commands::{TapParams, tap_decode_params};
 use libtap::headers::{TapHeader, tap_decode_header};
-use request::{Two, read_both, read_leading, read_two};
+use request::{read_both, read_leading, read_two};
 use writer::{Buffer, put_number};
 
 // A request for a header: how many numbers the table has, where the MPDU starts behind the text, and where it ends.
@@ -38,9 +38,7 @@ fn read_table(words: &[u8], width: usize) -> Option<(usize, usize)>
     requires { width ≤ 10 }
     ensures { Tables words.now result }
 {
-    let Some((cap, at)) = read_leading(words) else {
-        return None;
-    };
+    let (cap, at) = read_leading(words)?;
     if MOST_ROWS < cap {
         return None;
     }
@@ -51,16 +49,10 @@ fn read_table(words: &[u8], width: usize) -> Option<(usize, usize)>
 fn read_asked(words: &[u8], bytes: &mut [u8]) -> Option<Request>
     ensures { Asks bytes.new result }
 {
-    let Some((numbers, at)) = read_table(words, header_rows::ROW_WIDTH) else {
-        return None;
-    };
+    let (numbers, at) = read_table(words, header_rows::ROW_WIDTH)?;
     let others = &words[at..];
-    let Two::Are(region, speed, from) = read_two(others) else {
-        return None;
-    };
-    let Some((n, end)) = read_both(&others[from..], bytes) else {
-        return None;
-    };
+    let (region, speed, from) = read_two(others)?;
+    let (n, end) = read_both(&others[from..], bytes)?;
     Some(Request {
         numbers,
         region,
@@ -80,9 +72,7 @@ pub fn header(
 ) -> Option<usize>
     requires { Ample rows.old }
 {
-    let Some(request) = read_asked(words, bytes) else {
-        return None;
-    };
+    let request = read_asked(words, bytes)?;
     let numbers = request.numbers;
     Some(answer_header(bytes, request, &mut rows[..numbers], out, used))
 }
@@ -99,12 +89,8 @@ fn answer_asked(
 ) -> Option<usize>
     requires { Ample rows.old }
 {
-    let Some((numbers, at)) = read_table(words, command_rows::ROW_WIDTH) else {
-        return None;
-    };
-    let Some((n, end)) = read_both(&words[at..], bytes) else {
-        return None;
-    };
+    let (numbers, at) = read_table(words, command_rows::ROW_WIDTH)?;
+    let (n, end) = read_both(&words[at..], bytes)?;
     let asked = CommandAsked {
         by,
         by_position,
@@ -137,9 +123,7 @@ pub fn commandby(
 ) -> Option<usize>
     requires { Ample rows.old }
 {
-    let Some((mode, at)) = read_leading(words) else {
-        return None;
-    };
+    let (mode, at) = read_leading(words)?;
     if 1 < mode {
         return None;
     }

@@ -40,15 +40,11 @@ pub fn turned(
     out: &mut Buffer,
     used: usize,
 ) -> Option<usize> {
-    let Some((cap, at)) = read_leading(words) else {
-        return None;
-    };
+    let (cap, at) = read_leading(words)?;
     if MOST_BYTES < cap {
         return None;
     }
-    let Some(n) = read_bytes(&words[at..], bytes) else {
-        return None;
-    };
+    let n = read_bytes(&words[at..], bytes)?;
     let room = cap as usize;
     let mut buffer = [BYTE; 196608];
     Some(answer_turned(is_xml, &bytes[..n], &mut buffer[..room], out, used))
