@@ -74,6 +74,13 @@ module _ (a b c k : ℕ) where
   pub among_second : (k ≡ a → ⊥) → k ≡ b → true ≡ among a b c k
   among_second h e = rw (ne_eqb k a h, eq-eqb k b e)
 
+  -- the same, told by the test
+  pub first_among : k ≡ a → eqb k a ≡ among a b c k
+  first_among e = rw (eq-eqb k a e)
+
+  pub second_among : (k ≡ a → ⊥) → k ≡ b → eqb k b ≡ among a b c k
+  second_among h e = rw (ne_eqb k a h, eq-eqb k b e)
+
   pub among-third : (k ≡ a → ⊥) → (k ≡ b → ⊥) → eqb k c ≡ among a b c k
   among-third h e = rw (ne_eqb k a h, ne_eqb k b e)
 
@@ -85,4 +92,4 @@ among_either a b k h = rw (ne_eqb k a h) (go (eqb k b))
     go true = refl
     go false = refl
 
-pub ruleset among_laws = (among_first, among_second, among-third, among_either)
+pub ruleset among_laws = (among_first, among_second, first_among, second_among, among-third, among_either)

@@ -5,6 +5,7 @@ use mathlib.Core.List.{List}
 use Prim.Native.Nat.{ℕ, ◌≤◌}
 use native.Mathlib.Omega.{arith}
 use lib.Dec.{eqb}
+use borrow.Author.Tests.{ne_eqb}
 use lib.ListN.{length}
 use Rattle.text.specs.Place.{In}
 use Rattle.text.specs.Records.{Readable}
@@ -58,6 +59,9 @@ module _ (t : List ℕ) (p : Place) (v kind : ℕ) (begin : Begins t p kind) whe
   pub value_not : (kind ≡ 75 → ⊥) → false ≡ value_in v (from t p)
   value_not h = rw (begin.lines, (const_alone begin.said (λ z. h (begin.kind ∙ z))).0) refl
 
+  pub value_other : (kind ≡ 75 → ⊥) → eqb kind 75 ≡ value_in v (from t p)
+  value_other h = ne_eqb kind 75 h ∙ value_not h
+
   module _ (is-k : kind ≡ 75) where
     pub value-numbered : among 84 83 75 kind ≡ true
     value-numbered = rw is-k refl
@@ -77,4 +81,4 @@ module _ (t : List ℕ) (p : Place) (v kind : ℕ) (begin : Begins t p kind) whe
         go (item (const w n)) e says = rw says
         go (item (bitmask n)) e says = absurd (let y : ◌≡◌ {A = ℕ} 0x4d 75 = e in omega arith)
 
-pub ruleset value_laws = (value_not, value-numbered, value_is)
+pub ruleset value_laws = (value_other, value-numbered, value_is)

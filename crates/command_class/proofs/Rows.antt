@@ -33,6 +33,7 @@ use Rattle.command_class.proofs.Saying.{kind_letter}
 use Rattle.command_class.proofs.Finding.{Lined, lined, same_line, read_other}
 use Rattle.command_class.proofs.Beginning.{follows_at}
 use Rattle.std.specs.Prelude.{Option, Some, None}
+use Rattle.std.specs.Option.{unwrap_or}
 
 -- ---- what may be missing
 module _ (l : List ℕ) where
@@ -208,13 +209,12 @@ module _ (t : List ℕ) (l : Line) (good : Good t l) where
 
 -- ---- a field that names a type
 module _ (s : List ℕ) (r : Option ParamType) (is : r ≡ type_of s) where
-  pub type_says : (type : ParamType) → r ≡ Some type → type_of s ≡ Some type
-  type_says type e = sym is ∙ e
-
-  pub type_never : known (type_of s) ≡ true → r ≡ None → type_of s ≡ Some Byte
-  type_never h e = absurd (let z : false ≡ true = rw (sym is ∙ e) at h in let w : ◌≡◌ {A = ℕ} 0 1 = cc in omega arith)
-
-pub ruleset type_laws = (type_says, type_never)
+  pub type_says : known (type_of s) ≡ true → (type : ParamType) → type ≡ unwrap_or r Byte → type_of s ≡ Some type
+  type_says h type e = sym is ∙ go r (rw (← is) at h) ∙ ap Some (sym e)
+    where
+      go : (r : Option ParamType) → known r ≡ true → r ≡ Some (unwrap_or r Byte)
+      go (Some x) h = refl
+      go None h = absurd (let w : ◌≡◌ {A = ℕ} 0 1 = cc in omega arith)
 
 pub ruleset row_laws = (
   group_has,

@@ -1,6 +1,6 @@
 // The definition that an accepted command text stands for, and looking things up in it: every loop reads on from a place where a line begins.
 // Counterpart of command_class/schema.rs.
-#![tactic(auto)]
+#![tactic(auto, using(crate::proofs::Numbering::name_laws, crate::proofs::Naming::const_laws, crate::proofs::Naming::value_laws, crate::proofs::Finding::among_laws, crate::proofs::Beginning::begin_laws, crate::proofs::Rows::optional_laws, crate::proofs::Rows::row_laws, crate::proofs::Rows::read_laws, crate::proofs::Params::condition_laws, crate::proofs::Numbering::numbered_laws, crate::proofs::Params::param_laws, crate::proofs::Rows::last_kind, crate::proofs::Rows::type_says))]
 
 ghost use Rattle.std.specs.Prelude.{◌≡◌, true, false, ◌<◌, eqb, length, Some};
 ghost use Rattle.text.specs.Fields.{fields_at};
@@ -30,6 +30,18 @@ pub struct Row {
     pub ascii: bool,
 }
 
+// What a line says whose kind has none of the numbers.
+const BLANK: Row = Row {
+    kind: 0,
+    level: 0,
+    typed: ParamType::Byte,
+    offset: 0,
+    mask: 0,
+    shift: 0,
+    value: 0,
+    ascii: false,
+};
+
 // A line, and the place after it.
 #[derive(Clone, Copy)]
 pub struct Read {
@@ -49,10 +61,7 @@ struct Condition {
 pub fn is_entry(kind: u8) -> bool
     ensures { result ≡ among letter_q letter_g letter_g kind }
 {
-    if kind == b'Q' {
-        return true;
-    }
-    kind == b'G'
+    kind == b'Q' || kind == b'G'
 }
 
 // The number that a field says, or NO_NUMBER where it is missing.
@@ -61,8 +70,7 @@ fn or_missing(s: &[u8]) -> u16
 {
     match text::read_optional(s, 255) {
         Optional::Given(n) => n,
-        Optional::Missing => NO_NUMBER,
-        Optional::Wrong => NO_NUMBER,
+        Optional::Missing | Optional::Wrong => NO_NUMBER,
     }
 }
 
@@ -71,10 +79,7 @@ fn type_of(s: &[u8]) -> ParamType
     requires { known (type_of s.now) ≡ true }
     ensures { type_of s.now ≡ Some result }
 {
-    match command_text::read_type(s) {
-        Some(found) => found,
-        None => ParamType::Byte,
-    }
+    command_text::read_type(s).unwrap_or(ParamType::Byte)
 }
 
 // What a G line says.
@@ -84,13 +89,10 @@ fn read_group(text: &[u8], line: Line) -> Row
 {
     Row {
         kind: b'G',
-        level: 0,
-        typed: ParamType::Byte,
         offset: line.value(text, 2, 255),
         mask: line.value(text, 3, 255),
         shift: line.value(text, 4, 255),
-        value: 0,
-        ascii: false,
+        ..BLANK
     }
 }
 
@@ -101,13 +103,11 @@ fn read_variant(text: &[u8], line: Line) -> Row
 {
     Row {
         kind: b'R',
-        level: 0,
-        typed: ParamType::Byte,
         offset: line.value(text, 1, 255),
         mask: line.value(text, 2, 255),
         shift: line.optional_value(text, 3, 255),
-        value: 0,
         ascii: line.value(text, 4, 1) == 1,
+        ..BLANK
     }
 }
 
@@ -118,13 +118,9 @@ fn read_array(text: &[u8], line: Line) -> Row
 {
     Row {
         kind: b'A',
-        level: 0,
-        typed: ParamType::Byte,
-        offset: 0,
-        mask: 0,
-        shift: 0,
         value: line.value(text, 1, 255),
         ascii: line.value(text, 2, 1) == 1,
+        ..BLANK
     }
 }
 
@@ -135,13 +131,8 @@ fn read_bitmask(text: &[u8], line: Line) -> Row
 {
     Row {
         kind: b'M',
-        level: 0,
-        typed: ParamType::Byte,
-        offset: 0,
-        mask: 0,
-        shift: 0,
         value: or_missing(line.field(text, 1)),
-        ascii: false,
+        ..BLANK
     }
 }
 
@@ -150,8 +141,7 @@ fn read_row(text: &[u8], line: Line) -> Row
     requires { (Good text.now line) × (among letter_t letter_s letter_k (read_as line.kind) ≡ false) × (eqb line.kind letter_q ≡ false) }
     ensures { Tells text.now line result }
 {
-    let kind = line.kind;
-    match kind {
+    match line.kind {
         b'G' => read_group(text, line),
         b'R' => read_variant(text, line),
         b'A' => read_array(text, line),
@@ -164,25 +154,15 @@ pub fn kind_at(text: &[u8], place: Place) -> u8
     requires { (Readable rules text.now place) × (place.at < length text.now) }
     ensures { Begins text.now place result }
 {
-    let at = place.at;
-    let kind = text[at];
-    if kind == b'U' {
-        return b'S';
-    }
-    kind
+    let kind = text[place.at];
+    if kind == b'U' { b'S' } else { kind }
 }
 
 // Is it a kind whose numbers stand in front of its name: a T, S or K?
 fn is_numbered(kind: u8) -> bool
     ensures { result ≡ among letter_t letter_s letter_k kind }
 {
-    if kind == b'T' {
-        return true;
-    }
-    if kind == b'S' {
-        return true;
-    }
-    kind == b'K'
+    kind == b'T' || (kind == b'S' || kind == b'K')
 }
 
 // The last two fields of a Q line, which begin at `at`.
@@ -218,9 +198,7 @@ fn read_param(text: &[u8], place: Place) -> Read
             typed: type_of(&text[at..type_end]),
             offset: condition.offset,
             mask: condition.mask,
-            shift: 0,
-            value: 0,
-            ascii: false,
+            ..BLANK
         },
         next: Place {
             at: condition.end + 1,
@@ -241,38 +219,24 @@ fn read_numbered(text: &[u8], place: Place, kind: u8) -> Row
     if kind == b'K' {
         return Row {
             kind,
-            level: 0,
-            typed: ParamType::Byte,
-            offset: 0,
-            mask: 0,
-            shift: 0,
             value: number,
-            ascii: false,
+            ..BLANK
         };
     }
     if kind == b'T' {
         return Row {
             kind,
-            level: 0,
-            typed: ParamType::Byte,
-            offset: 0,
             mask: number,
-            shift: 0,
-            value: 0,
-            ascii: false,
+            ..BLANK
         };
     }
     let shift = end + 1;
     let shift_end = text::field_end(text, shift);
     Row {
         kind,
-        level: 0,
-        typed: ParamType::Byte,
-        offset: 0,
         mask: number,
         shift: text::read_optional_value(&text[shift..shift_end], 255),
-        value: 0,
-        ascii: false,
+        ..BLANK
     }
 }
 
@@ -292,10 +256,9 @@ pub fn read_at(text: &[u8], place: Place) -> Read
         return read_param(text, place);
     }
     let line = place.step(text);
-    let next = line.next;
     Read {
         row: read_row(text, line),
-        next,
+        next: line.next,
     }
 }
 
@@ -313,11 +276,7 @@ fn is_const(text: &[u8], place: Place, value: u16) -> bool
     ensures { result ≡ value_in value (from text.now place) }
 {
     let kind = kind_at(text, place);
-    if kind != b'K' {
-        return false;
-    }
-    let row = read_numbered(text, place, kind);
-    row.value == value
+    kind == b'K' && read_numbered(text, place, kind).value == value
 }
 
 // The line of the first K with a value under the Q before the place, or 0.

@@ -1,8 +1,0 @@
--- `command_class::pass_at` meets its contract, by the laws of the crate. Assumes nothing.
-use borrow.Author.Rules.{rules}
-use Rattle.command_class.proofs.Beginning.{begin_laws}
-use Rattle.command_class.proofs.pass_at.Statement.{statement}
-use Rattle.command_class.proofs.pass_at.Tie as tie
-
-pub pass_at_spec : {M : Type 1} → statement M
-pass_at_spec = tie.close (tie.spec (λ c κs. search (rules, begin_laws)) (λ c. search (rules, begin_laws)))
