@@ -16,14 +16,12 @@ use utf8::Piece;
 fn end_of(s: &[u8]) -> usize
     ensures { (take result s.now ≡ trim s.now) × (result ≤ length s.now) }
 {
-    let mut e = s.len();
-    while 0 < e {
-        if s[e - 1] != 0 {
-            return e;
+    for i in (0..s.len()).rev() {
+        if s[i] != 0 {
+            return i + 1;
         }
-        e -= 1;
     }
-    e
+    0
 }
 
 // How many bytes stand for a piece.

@@ -34,9 +34,7 @@ fn short_word(bytes: &[u8]) -> u64
     ensures { result ≡ little bytes.now }
 {
     let mut word: u64 = 0;
-    let mut i = bytes.len();
-    while 0 < i {
-        i -= 1;
+    for i in (0..bytes.len()).rev() {
         word = word * 256 + wide(bytes[i]);
     }
     word
