@@ -134,7 +134,8 @@ fn success_tag(direction: Direction) -> u8
     }
 }
 
-// How many bits of its byte say the region, by the firmware that wrote the record; 0 for a firmware that there isn't.
+// How many bits of its byte say the region, by the firmware that wrote the record; 0 for a firmware that there isn't. No Option: other crates
+// read this number, and its promise to them stays.
 pub fn region_bits(firmware: usize) -> u8
     ensures value { result ≡ region_bits firmware }
     ensures upper_bound { result ≤ 5 }

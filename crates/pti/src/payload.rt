@@ -203,6 +203,7 @@ fn write_frames(
     let mut n: usize = 0;
     let mut number: u16 = 0;
     let mut body = first;
+    // No `while let`: a body is at hand before the first turn, and the next is looked for at a turn's end.
     loop {
         n = write_frame(rates, payload, rules, body, number, table, n);
         number += 1;

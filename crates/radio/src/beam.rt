@@ -9,7 +9,7 @@ pub const BEAM_MARKER: u8 = 0x55;
 const NODES: u16 = 4096;
 
 // Whom a beam wakes: the node, the hash of its home id and, at Long Range, the power. Each is one more than its number, and 0 where the beam ends
-// before it.
+// before it. No Options: these are the numbers of the flat row that C reads.
 #[derive(Clone, Copy)]
 pub struct BeamTarget {
     pub node: u16,

@@ -85,6 +85,7 @@ pub fn count_records(payload: &[u8]) -> Result<usize, Refusal>
 }
 
 // Where body k of a payload lies, from 0; an empty span at its start where there is none or the payload is too long.
+// No Option: C is handed the two places in any case.
 pub fn find_body(payload: &[u8], k: usize) -> Span
     ensures { IsBody payload.now k result }
 {
