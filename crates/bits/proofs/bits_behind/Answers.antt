@@ -1,5 +1,5 @@
-use Rattle.std.proofs.Common.{◌≡◌, ◌∙◌, ◌+◌, ◌/◌, ◌≤◌, length, arith, rules}
-use Rattle.bits.proofs.Laws.{part_long, part_byte, whole_more, whole_fits, whole_last, whole-last_fits}
+use Rattle.std.proofs.Common.{◌∙◌, ◌+◌, ◌/◌, ◌≤◌, length, arith, rules}
+use Rattle.bits.proofs.Laws.{part_long, part_byte, whole_more, whole_last, whole-last_fits}
 use Rattle.bits.proofs.bits_behind.Goals as goal
 
 pub loop-byte-preserved : goal.loop-byte-preserved
