@@ -1,6 +1,6 @@
 // The nodes that a field of a header addresses: BM2 and BM4 of docs/RULES.md. The header is read into rows of its own, and the row that is asked
 // for must be a BITMASK of whole bytes at a whole byte.
-#![tactic(auto)]
+#![tactic(auto, using(crate::proofs::Laws::laws, crate::proofs::Types::type_laws))]
 
 ghost use Rattle.std.specs.Prelude.{◌≡◌, ◌+◌, ◌*◌, ◌≤◌, length, Ok};
 ghost use Rattle.frame_text.specs.Rules.{verdict};
@@ -21,35 +21,20 @@ pub fn param_type(text: &[u8], number: u64) -> Option<ParamType>
     requires { verdict text.now ≡ Ok tt }
     ensures { result ≡ param_type text.now number }
 {
-    match find_param(text, number) {
-        Some((field, _)) => {
-            let kind = field.kind;
-            Some(kind)
-        }
-        None => None,
-    }
+    let (field, _) = find_param(text, number)?;
+    Some(field.kind)
 }
 
 fn is_bitmask(kind: ParamType) -> bool
     ensures { result ≡ is_bitmask kind }
 {
-    match kind {
-        ParamType::Hex => false,
-        ParamType::Number => false,
-        ParamType::NumberSigned => false,
-        ParamType::NodeNumber => false,
-        ParamType::Boolean => false,
-        ParamType::Bitmask => true,
-    }
+    matches!(kind, ParamType::Bitmask)
 }
 
 fn is_typed(typed: Option<ParamType>) -> bool
     ensures { result ≡ is_typed typed }
 {
-    match typed {
-        Some(kind) => is_bitmask(kind),
-        None => false,
-    }
+    typed.is_some_and(|kind| is_bitmask(kind))
 }
 
 // Is it such a field, of the P line of this number, with so many bits from the bit `start` on?
@@ -95,15 +80,11 @@ pub fn row_nodes(
 ) -> Result<usize, Refusal>
     ensures { LentNodes text.now mpdu.now rows.now row nodes.old result nodes.new }
 {
-    match check_frame_text(text) {
-        Ok(()) => {
-            if rows.len() / ROW_WIDTH <= row {
-                return Err(Refusal::NoSuchField(row));
-            }
-            nodes_of_row(text, mpdu, rows, row, nodes)
-        }
-        Err(refusal) => Err(refusal),
+    check_frame_text(text)?;
+    if rows.len() / ROW_WIDTH <= row {
+        return Err(Refusal::NoSuchField(row));
     }
+    nodes_of_row(text, mpdu, rows, row, nodes)
 }
 
 // The nodes of a row of the header by a text that is accepted; or refusal 4 to 7, 11 or 8.
@@ -119,15 +100,11 @@ pub fn nodes_accepted(
     ensures { HeaderNodes text.now mpdu.now region speed row nodes.old result nodes.new }
 {
     let mut rows = [0u64; MOST_NUMBERS];
-    match decode_accepted(text, mpdu, region, speed, &mut rows) {
-        Ok(header) => {
-            if header.rows <= row {
-                return Err(Refusal::NoSuchField(row));
-            }
-            nodes_of_row(text, mpdu, &rows, row, nodes)
-        }
-        Err(refusal) => Err(refusal),
+    let header = decode_accepted(text, mpdu, region, speed, &mut rows)?;
+    if header.rows <= row {
+        return Err(Refusal::NoSuchField(row));
     }
+    nodes_of_row(text, mpdu, &rows, row, nodes)
 }
 
 // The nodes of a row of the header of an MPDU, rising, each once; or refusal 1 to 7, 11 or 8, and nothing is written.
@@ -141,8 +118,6 @@ pub fn header_nodes(
 ) -> Result<usize, Refusal>
     ensures { HeaderNodes text.now mpdu.now region speed row nodes.old result nodes.new }
 {
-    match check_frame_text(text) {
-        Ok(()) => nodes_accepted(text, mpdu, region, speed, row, nodes),
-        Err(refusal) => Err(refusal),
-    }
+    check_frame_text(text)?;
+    nodes_accepted(text, mpdu, region, speed, row, nodes)
 }
