@@ -1,6 +1,6 @@
 // What is shown of a field of a header: VT1 and VT9 of docs/RULES.md. The header is read, and of its rows only the one that is asked for is written into a
 // table of our own: it names the P line, whose type and define set say the rest.
-#![tactic(auto)]
+#![tactic(auto, using(crate::proofs::Laws::laws))]
 
 mod lookup;
 
@@ -35,10 +35,7 @@ struct Shown {
 fn value_of(valued: u64, value: u64) -> Option<u64>
     ensures { result ≡ value_by valued value }
 {
-    if valued == 1 {
-        return Some(value);
-    }
-    None
+    (valued == 1).then_some(value)
 }
 
 // The bytes of a field over 64 bits, if they are whole bytes at a whole byte; else none.
@@ -69,12 +66,10 @@ fn field_value(
     ensures { Writes (field_text text.now mpdu.now (Some (meant text.now field)) shown.start shown.bits shown.valued
         shown.value shown.symbol) buffer.old result buffer.new }
 {
-    let set = field.set;
-    let kind = field.kind;
-    let symbol = symbol_text(text, set, shown.symbol);
+    let symbol = symbol_text(text, field.set, shown.symbol);
     let bytes = bytes_of(mpdu, shown.start, shown.bits);
     let value = value_of(shown.valued, shown.value);
-    display_value(symbol, kind, value, bytes, buffer)
+    display_value(symbol, field.kind, value, bytes, buffer)
 }
 
 // What is shown of a row of a header.
@@ -115,15 +110,11 @@ pub fn value_accepted(
     ensures { HeaderValue text.now mpdu.now region speed row buffer.old result buffer.new }
 {
     let mut rows = [0u64; MOST_NUMBERS];
-    match decode_row(text, mpdu, region, speed, row, &mut rows) {
-        Ok(header) => {
-            if header.rows <= row {
-                return Err(Refusal::NoSuchField(row));
-            }
-            row_value(text, mpdu, &rows, row, buffer)
-        }
-        Err(refusal) => Err(refusal),
+    let header = decode_row(text, mpdu, region, speed, row, &mut rows)?;
+    if header.rows <= row {
+        return Err(Refusal::NoSuchField(row));
     }
+    row_value(text, mpdu, &rows, row, buffer)
 }
 
 // A value of the header of an MPDU as people read it: of the field in a row, from 0. Answers its length, or refuses by 1 to 7, 11 or 12; a refusal
@@ -138,8 +129,6 @@ pub fn header_value(
 ) -> Result<usize, Refusal>
     ensures { HeaderValue text.now mpdu.now region speed row buffer.old result buffer.new }
 {
-    match check_frame_text(text) {
-        Ok(()) => value_accepted(text, mpdu, region, speed, row, buffer),
-        Err(refusal) => Err(refusal),
-    }
+    check_frame_text(text)?;
+    value_accepted(text, mpdu, region, speed, row, buffer)
 }
