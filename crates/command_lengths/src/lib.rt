@@ -2,7 +2,7 @@
 // command_class/decode.rs.
 // Of an entry later lengths, conditions and counts want only whether it has a value, and its low byte: `es` are the first entries of a list, one number
 // each. A number of a definition that may be missing is NO_NUMBER of command_class where it is.
-#![tactic(auto)]
+#![tactic(auto, using(crate::proofs::Laws::laws))]
 
 ghost use Rattle.std.specs.Prelude.{◌≡◌};
 ghost use Rattle.command_lengths.specs.Entries.{earlier, entries, given};
@@ -45,11 +45,7 @@ fn entry_at(es: &[u16], offset: u16) -> Earlier
 fn does_meet(e: Earlier, mask: u16) -> bool
     ensures { result ≡ meets mask e }
 {
-    match e {
-        Earlier::Value(b) => b & mask != 0,
-        Earlier::NoValue => false,
-        Earlier::NoEntry => false,
-    }
+    matches!(e, Earlier::Value(b) if b & mask != 0)
 }
 
 // Does the condition of a Q hold?
