@@ -23,8 +23,7 @@ use Rattle.command_rules.specs.Param.{in_payload}
 use Rattle.command_rules.specs.Walk.{ended, after, once, members, turn, repetition_row, repetitions}
 use Rattle.command_groups.specs.Steps.{Gives, GivesGroup, IsTook, IsNothing, Repeats}
 use Rattle.command_groups.specs.declared.Taken.{Taken}
-use Rattle.command_groups.specs.declared.Repetition.{Repetition}
-use Rattle.command_groups.specs.declared.Repetition.TheVariants.{Took, Nothing}
+use Rattle.std.specs.Prelude.{Option, Some, None}
 use Rattle.command_rules.proofs.Bounds.{Bound, turn_bound, repetitions_bound}
 
 pub row_is : (line at end k f t : ℕ) → f ≡ in_payload at → t ≡ in_payload end
@@ -65,7 +64,7 @@ module _ (x l body : List ℕ) (count i at n : ℕ) (loaded : IsLoaded x l count
   pub repetition_fits : length body < 65536 → Fits w64 (m.count + 1)
   repetition_fits b = let b1 = bound.inside in let b2 = bound.few in let z = given.count in omega arith
 
-  pub repetition_nothing : (line k : ℕ) → m.end.0 ≤ at → Repeats body line (members_of (drop i (heads_of x))) k at n s t 0 t₁ Nothing
+  pub repetition_nothing : (line k : ℕ) → m.end.0 ≤ at → Repeats body line (members_of (drop i (heads_of x))) k at n s t 0 t₁ None
   repetition_nothing line k h =
       let b0 = bound.forward in
       let b2 = bound.few in
@@ -76,7 +75,7 @@ module _ (x l body : List ℕ) (count i at n : ℕ) (loaded : IsLoaded x l count
 
   pub repetition_took : (line k : ℕ) (row : Row) (t' : List ℕ) → row ≡ repetition_row line at m.end.0 k → t' ≡ written s t₁ 0 (row ∷ [])
       → at < m.end.0
-      → Repeats body line (members_of (drop i (heads_of x))) k at n s t 0 t' (Took m.end (m.count + 1))
+      → Repeats body line (members_of (drop i (heads_of x))) k at n s t 0 t' (Some (record { end = m.end; count = m.count + 1 }))
   repetition_took line k row t' er et h =
       let z = given.end in
       let own : row ≡ repetition_row line at (turn body (members_of (drop i (heads_of x))) at n).end k = rw z at er in
@@ -90,11 +89,11 @@ module _ (x l body : List ℕ) (count i at n : ℕ) (loaded : IsLoaded x l count
       }
 
 -- in a part of the table: from row k on
-repeats-from : (body : List ℕ) (line : ℕ) (qs : List Parameter) (number at n s left : ℕ) (t ys : List ℕ) (k rest : ℕ) (r : Repetition)
+repeats-from : (body : List ℕ) (line : ℕ) (qs : List Parameter) (number at n s left : ℕ) (t ys : List ℕ) (k rest : ℕ) (r : Option Taken)
     → rest ≡ row_at s k (length t) → left ≡ s - k
     → Repeats body line qs number at n left (take (length t - rest) (drop rest t)) 0 ys r
     → Repeats body line qs number at n s t k (take rest t ++ (ys ++ drop (length t - rest) (drop rest t))) r
-repeats-from body line qs number at n s left t ys k rest (Took e c) is behind w =
+repeats-from body line qs number at n s left t ys k rest (Some r) is behind w =
     record {
       took = w.took;
       end = w.end;
@@ -102,13 +101,13 @@ repeats-from body line qs number at n s left t ys k rest (Took e c) is behind w 
       rows =
           part_back s t ys k rest left (repetition_row line at (turn body qs at n).end number ∷ (turn body qs at n).rows) is behind w.rows;
     }
-repeats-from body line qs number at n s left t ys k rest Nothing is behind w =
+repeats-from body line qs number at n s left t ys k rest None is behind w =
     record {
       took = w.took;
       rows = part_back s t ys k rest left [] is behind (w.rows ∙ sym (written_none left (take (length t - rest) (drop rest t)) 0)) ∙ written_none s t k;
     }
 
-pub repetition_part : (x body : List ℕ) (line i number at n s left : ℕ) (t ys : List ℕ) (k rest : ℕ) (r : Repetition)
+pub repetition_part : (x body : List ℕ) (line i number at n s left : ℕ) (t ys : List ℕ) (k rest : ℕ) (r : Option Taken)
     → Repeats body line (members_of (drop i (heads_of x))) number at n left (take (length t - rest) (drop rest t)) 0 ys r
     → rest ≡ row_at s k (length t) → left ≡ s - k
     → Repeats body line (members_of (drop i (heads_of x))) number at n s t k (take rest t ++ (ys ++ drop (length t - rest) (drop rest t))) r
@@ -157,9 +156,14 @@ module _ (body : List ℕ) (qs : List Parameter) (line most start n s : ℕ) (t�
         times = let q = rw e at g.times in omega arith;
       }
 
-  pub turns_end : most ≤ k → GivesGroup (repetitions body line qs most 0 start n) s t₀ n t (record { end = o; count = next; times = k })
+  pub turns_end : most ≤ k → GivesGroup (repetitions body line qs most 0 start n) s t₀ n t (record { end = o; count = next; times = most })
   unfolding repetitions
-  turns_end h = let z : most - k ≡ 0 = omega arith in none_left t refl (rw z refl)
+  turns_end h =
+      let z : most - k ≡ 0 = omega arith in
+      let w = none_left t refl (rw z refl) in
+      let u = w.times in
+      let v = g.within in
+      record { rows = w.rows; count = w.count; end = w.end; times = omega arith }
 
   pub turns-low : n < 2 ^ 47 → n + next < 2 ^ 48
   turns-low h = let a = g.few in let b = g.count in omega arith
@@ -207,19 +211,19 @@ module _ (body : List ℕ) (qs : List Parameter) (line most start n s : ℕ) (t�
             same = rw (w.rows, length-written) g.same;
           }
 
-    module _ (t' : List ℕ) (r : Repetition) (given : Repeats body line qs k o.0 (n + next) s t (n + next) t' r) where
-      pub turns-nothing : r ≡ Nothing → GivesGroup (repetitions body line qs most 0 start n) s t₀ n t' (record { end = o; count = next; times = k })
+    module _ (t' : List ℕ) (r : Option Taken) (given : Repeats body line qs k o.0 (n + next) s t (n + next) t' r) where
+      pub turns-nothing : r ≡ None → GivesGroup (repetitions body line qs most 0 start n) s t₀ n t' (record { end = o; count = next; times = k })
       unfolding repetitions
       turns-nothing f =
           let v : IsNothing body line qs k o.0 (n + next) s t (n + next) t' = rw f at given in
           none_left t' v.rows (rw (left_over, v.took) refl)
 
-      module _ (q : BodyOffset) (c : ℕ) (f : r ≡ Took q c) where
-        pub turns-fits : Fits w64 (next + c)
-        turns-fits = small t' q c (rw f at given)
+      module _ (m : Taken) (f : r ≡ Some m) where
+        pub turns-fits : Fits w64 (next + m.count)
+        turns-fits = small t' m.end m.count (rw f at given)
 
-        pub turns-take : Turns body qs line most start n s t₀ t' q.0 (next + c) (k + 1)
-        turns-take = taken t' q c (rw f at given)
+        pub turns-take : Turns body qs line most start n s t₀ t' m.end.0 (next + m.count) (k + 1)
+        turns-take = taken t' m.end m.count (rw f at given)
 
 pub ruleset turns_laws = (turns-start, turns_end, turns-low, turns_next_low, turns-nothing, turns-fits, turns-take)
 

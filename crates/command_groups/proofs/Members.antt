@@ -23,13 +23,12 @@ use Rattle.command_rows.proofs.Laws.{written_none, length-written, written-more}
 use Rattle.command_rules.specs.Param.{size_at, param_rows, param_entry}
 use Rattle.command_param.specs.Steps.{IsRead, ReadsParam}
 use Rattle.command_param.specs.declared.Param.{Param}
-use Rattle.command_param.specs.declared.Param.TheVariants.{Read, Absent}
 use Rattle.command_rules.specs.Walk.{ended, after, members}
 use Rattle.command_groups.specs.Steps.{Gives}
 use Rattle.command_groups.proofs.Entries.{Kept, kept-part, kept-start, kept_push}
 use Rattle.command_rules.proofs.Bounds.{members_bound}
 use Rattle.command_groups.proofs.Answers.{is_read, is_absent_lem}
-use Rattle.std.specs.Prelude.{None}
+use Rattle.std.specs.Prelude.{Option, Some, None}
 
 -- what is left of the members, from loaded row j on
 pub record Members (t body : List ℕ) (count i start n parent s : ℕ) (d₀ d kept : List ℕ) (have at next j : ℕ) : Type 0 where
@@ -152,26 +151,26 @@ module _ (t l body : List ℕ) (count i n parent s : ℕ) (loaded : IsLoaded t l
               same_kept = rw (ek, length-set) g.same_kept;
             }
 
-    module _ (q : Loaded) (is-q : q ≡ loaded_at l j) (h : j < count) (x : Bool) (is_x : x ≡ is_member q) (d' : List ℕ) (r : Param)
+    module _ (q : Loaded) (is-q : q ≡ loaded_at l j) (h : j < count) (x : Bool) (is_x : x ≡ is_member q) (d' : List ℕ) (r : Option Param)
         (given : ReadsParam body (field_in t q) (entries (take have kept)) o.0 (n + next) parent s d next d' r) (member : x ≡ true) where
       m : MemberAt t l count loaded j q is-q h
       m = member_at t l count loaded j q is-q h (sym is_x ∙ member)
 
-      pub members-missing : r ≡ Absent → Gives (members body (members_of (drop i (heads_of t))) start [] n parent) s d₀ 0 d'
+      pub members-missing : r ≡ None → Gives (members body (members_of (drop i (heads_of t))) start [] n parent) s d₀ 0 d'
           (record { end = o; count = next })
       members-missing f =
           let v = is_absent_lem t q m.param m.is body kept g.es have g.kept_are o.0 (n + next) parent s d next d' r given f in
           absent m.param m.rest h v.there d' v.rows
 
-      module _ (e : BodyOffset) (y c : ℕ) (f : r ≡ Read e y c) where
-        pub members-fits : Fits w64 (next + c)
-        members-fits = small m.param m.rest h d' e y c
-            (is_read t q m.param m.is body kept g.es have g.kept_are o.0 (n + next) parent s d next d' r given e y c f)
+      module _ (v : Param) (f : r ≡ Some v) where
+        pub members-fits : Fits w64 (next + v.count)
+        members-fits = small m.param m.rest h d' v.end v.entry v.count
+            (is_read t q m.param m.is body kept g.es have g.kept_are o.0 (n + next) parent s d next d' r given v f)
 
-        pub members-take : (kept' : List ℕ) (have' : ℕ) → kept' ≡ set kept have y → have' ≡ least (have + 1) 256
-            → Members t body count i start n parent s d₀ d' kept' have' e.0 (next + c) (j + 1)
-        members-take = taken m.param m.rest h d' e y c
-            (is_read t q m.param m.is body kept g.es have g.kept_are o.0 (n + next) parent s d next d' r given e y c f)
+        pub members-take : (kept' : List ℕ) (have' : ℕ) → kept' ≡ set kept have v.entry → have' ≡ least (have + 1) 256
+            → Members t body count i start n parent s d₀ d' kept' have' v.end.0 (next + v.count) (j + 1)
+        members-take = taken m.param m.rest h d' v.end v.entry v.count
+            (is_read t q m.param m.is body kept g.es have g.kept_are o.0 (n + next) parent s d next d' r given v f)
 
 pub ruleset members_laws =
     (members-start, members-part, members_end, members-low, members_next_low, members_stop, members-stands, members-missing, members-fits, members-take)

@@ -1,6 +1,6 @@
 -- What the functions of the walk answer, over the definitions of the rules. The table t, which passes over s rows, becomes t', from row k
 -- on.
-use Rattle.std.specs.Prelude.{true, false, ◌≡◌, List, ◌∷◌, ℕ, ◌+◌, ltb, length, set}
+use Rattle.std.specs.Prelude.{true, false, ◌≡◌, List, ◌∷◌, ℕ, ◌+◌, ltb, length, set, Option, Some, None}
 use Rattle.records.specs.declared.BodyOffset.{BodyOffset}
 use Rattle.command_class.specs.Definition.{Parameter}
 use Rattle.command_lengths.specs.Entries.{no_entry}
@@ -11,8 +11,6 @@ use Rattle.command_rules.specs.declared.Offsets.{Offsets}
 use Rattle.command_rules.specs.declared.Offsets.TheVariants.{Answered, Position}
 use Rattle.command_groups.specs.declared.Taken.{Taken}
 use Rattle.command_groups.specs.declared.Repeated.{Repeated}
-use Rattle.command_groups.specs.declared.Repetition.{Repetition}
-use Rattle.command_groups.specs.declared.Repetition.TheVariants.{Took, Nothing}
 
 -- a list: its rows, how many they are, where it ends
 pub record Gives (w : Walked) (s : ℕ) (t : List ℕ) (k : ℕ) (t' : List ℕ) (r : Taken) : Type 0 where
@@ -40,9 +38,9 @@ module _ (body : List ℕ) (line : ℕ) (qs : List Parameter) (number at n s : �
     pub took : ltb at (turn body qs at n).end ≡ false
     pub rows : t' ≡ t
 
-  abbrev pub Repeats : Repetition → Type 0
-  Repeats (Took e c) = IsTook e c
-  Repeats Nothing = IsNothing
+  abbrev pub Repeats : Option Taken → Type 0
+  Repeats (Some r) = IsTook r.end r.count
+  Repeats None = IsNothing
 
 -- ---- the entries that are kept, after an absent Q or a group
 

@@ -1,6 +1,6 @@
 // A group of a command: its members, its repetitions, and how often it repeats; and the entries that a list keeps.
 // Each function writes the rows for which there is room in its part of the table, and counts all.
-#![tactic(auto)]
+#![tactic(auto, using(crate::proofs::Entries::keep_laws, crate::proofs::Entries::unvalued_laws, crate::proofs::Groups::repetition_laws, crate::proofs::Answers::param_laws, crate::proofs::Groups::turns_laws, crate::proofs::Members::members_laws, crate::proofs::Groups::often_laws))]
 
 ghost use Rattle.std.specs.Prelude.{◌≡◌, [], ◌+◌, ◌-◌, ◌^◌, ◌≤◌, ◌<◌, length, drop, set};
 ghost use Rattle.command_lengths.specs.Entries.{entries};
@@ -34,18 +34,11 @@ pub struct Turn {
     pub skip: usize,
 }
 
-// What a list takes: where it ends, and how many rows it has.
+// What a list or a repetition takes: where it ends, and how many rows it has.
 #[derive(Clone, Copy)]
 pub struct Taken {
     pub end: BodyOffset,
     pub count: usize,
-}
-
-// What a repetition takes.
-#[derive(Clone, Copy)]
-pub enum Repetition {
-    Took { end: BodyOffset, count: usize },
-    Nothing,
 }
 
 // What a group takes, and how often it repeats.
@@ -100,18 +93,15 @@ pub fn param_at(
     es: &[u16],
     rows: &mut [u64],
     k: usize,
-) -> Param
+) -> Option<Param>
     requires { (Stands text.now q) × (length body.now < 65536) × (spot.row < 2 ^ 50) × (k < 2 ^ 50) }
     ensures { ReadsParam body.now (field_in text.now q) (entries es.now) spot.at.0 spot.row spot.parent
         spot.skip rows.old k rows.new result }
 {
     let rest = command_rows::row_at(spot.skip, k, rows.len());
-    let at = spot.at;
     let here = Spot {
-        at,
-        row: spot.row,
-        parent: spot.parent,
-        skip: command_rows::less(spot.skip, k),
+        skip: spot.skip.saturating_sub(k),
+        ..spot
     };
     command_param::decode_param(text, q, body, here, es, &mut rows[rest..])
 }
@@ -135,37 +125,28 @@ fn read_members(
     let mut have: usize = 0;
     let mut at = spot.at;
     let mut next: usize = 0;
-    let mut j = group.first;
-    while j < group.count {
+    for j in group.first..group.count {
         let q = command_schema::loaded_at(loaded, j);
-        if q.is_member() {
-            let here = Spot {
-                at,
-                row: spot.row + next,
-                parent: spot.parent,
-                skip: spot.skip,
+        if !q.is_member() {
+            return Taken {
+                end: at,
+                count: next,
             };
-            let Param::Read {
-                end,
-                entry,
-                count: more,
-            } = param_at(text, q, body, here, &kept[..have], rows, next)
-            else {
-                return Taken {
-                    end: at,
-                    count: next,
-                };
-            };
-            have = keep(kept, have, entry);
-            next += more;
-            at = end;
-            j += 1;
-            continue;
         }
-        return Taken {
-            end: at,
-            count: next,
+        let here = Spot {
+            at,
+            row: spot.row + next,
+            ..spot
         };
+        let Some(read) = param_at(text, q, body, here, &kept[..have], rows, next) else {
+            return Taken {
+                end: at,
+                count: next,
+            };
+        };
+        have = keep(kept, have, read.entry);
+        next += read.count;
+        at = read.end;
     }
     Taken {
         end: at,
@@ -209,13 +190,12 @@ fn members_at(
         repetition.skip rows.old 1 rows.new result }
 {
     let rest = command_rows::row_at(repetition.skip, 1, rows.len());
-    let at = repetition.at;
     let first = repetition.row + 1;
     let spot = Spot {
-        at,
+        at: repetition.at,
         row: first,
         parent: first as u64,
-        skip: command_rows::less(repetition.skip, 1),
+        skip: repetition.skip.saturating_sub(1),
     };
     read_members(text, loaded, group, body, spot, kept, &mut rows[rest..])
 }
@@ -229,7 +209,7 @@ fn read_repetition(
     repetition: Turn,
     kept: &mut [u16],
     rows: &mut [u64],
-) -> Repetition
+) -> Option<Taken>
     requires { (IsLoaded text.now loaded.now group.count) × (group.first ≤ group.count) × (length body.now < 65536)
         × (length kept.old ≡ most_entries) × (repetition.row < 2 ^ 48) }
     ensures { Repeats body.now group.line (members_of (drop group.first (heads_of text.now))) repetition.number
@@ -240,7 +220,7 @@ fn read_repetition(
     let taken = members_at(text, loaded, group, body, repetition, kept, rows);
     let end = taken.end;
     if end.0 <= at.0 {
-        return Repetition::Nothing;
+        return None;
     }
     command_rows::write_row(
         rows,
@@ -248,10 +228,10 @@ fn read_repetition(
         0,
         repetition_row(group.line, at, end, repetition.number),
     );
-    Repetition::Took {
+    Some(Taken {
         end,
         count: taken.count + 1,
-    }
+    })
 }
 
 // The same into the table from the repetition's row on.
@@ -263,7 +243,7 @@ fn repetition_at(
     repetition: Turn,
     kept: &mut [u16],
     rows: &mut [u64],
-) -> Repetition
+) -> Option<Taken>
     requires { (IsLoaded text.now loaded.now group.count) × (group.first ≤ group.count) × (length body.now < 65536)
         × (length kept.old ≡ most_entries) × (repetition.row < 2 ^ 48) }
     ensures { Repeats body.now group.line (members_of (drop group.first (heads_of text.now))) repetition.number
@@ -271,12 +251,9 @@ fn repetition_at(
         repetition.row repetition.skip rows.old repetition.row rows.new result }
 {
     let rest = command_rows::row_at(repetition.skip, repetition.row, rows.len());
-    let at = repetition.at;
     let here = Turn {
-        number: repetition.number,
-        at,
-        row: repetition.row,
-        skip: command_rows::less(repetition.skip, repetition.row),
+        skip: repetition.skip.saturating_sub(repetition.row),
+        ..repetition
     };
     read_repetition(text, loaded, group, body, here, kept, &mut rows[rest..])
 }
@@ -308,30 +285,27 @@ pub fn read_group(
     let mut kept = [0u16; MOST_ENTRIES];
     let mut from = spot.at;
     let mut next: usize = 0;
-    let mut times: usize = 0;
-    while times < most {
+    for times in 0..most {
         let repetition = Turn {
             number: times,
             at: from,
             row: spot.row + next,
             skip: spot.skip,
         };
-        let Repetition::Took { end, count: more } = repetition_at(
-            text, loaded, group, body, repetition, &mut kept, rows,
-        ) else {
+        let Some(taken) = repetition_at(text, loaded, group, body, repetition, &mut kept, rows)
+        else {
             return Repeated {
                 end: from,
                 count: next,
                 times,
             };
         };
-        next += more;
-        from = end;
-        times += 1;
+        next += taken.count;
+        from = taken.end;
     }
     Repeated {
         end: from,
         count: next,
-        times,
+        times: most,
     }
 }

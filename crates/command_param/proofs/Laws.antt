@@ -24,10 +24,9 @@ use Rattle.command_rows.proofs.Laws.{written_none, written-left_out, written-mor
 use Rattle.command_rules.specs.Param.{in_payload, value_of, valued, or_zero, const_line, entry_of, bit_rows, child_rows, row_of, bytes_at, size_at, param_rows}
 use Rattle.command_rules.specs.Param.{param_entry}
 use Rattle.command_param.specs.Steps.{WritesParam, ReadsParam}
-use Rattle.command_param.specs.declared.Param.TheVariants.{Read, Absent}
 use Rattle.command_param.specs.declared.Wrote.{Wrote}
 use Rattle.command_param.proofs.Bits.{total_is, none_of}
-use Rattle.std.specs.Prelude.{Option, Some, None}
+use Rattle.std.specs.Prelude.{Option, Some, None, unwrap_or}
 
 -- ---- its own row
 pub row_is : (t : List ℕ) (q : Loaded) (bs : List ℕ) (start parent : ℕ) (value : Option ℕ) (a v k lacking : ℕ) → value ≡ value_of bs
@@ -80,7 +79,12 @@ part_children t q bs d ys start parent s left rest b c w er el eb h =
     rw (eq-eqb (length bs) 1 h, ← eb)
     (record { rows = part_back s d ys 1 rest left (bit_rows b parent start (under (from t (after q)))) er el w.rows; count = w.count })
 
-pub ruleset row_laws = (row_is, no_children, no_bits, left_out_children, part_children)
+-- the value of a row, or 0
+pub zero_is : (value : Option ℕ) (v : ℕ) → v ≡ unwrap_or value 0 → v ≡ or_zero value
+zero_is (Some x) v e = e
+zero_is None v e = e
+
+pub ruleset row_laws = (row_is, zero_is, no_children, no_bits, left_out_children, part_children)
 
 -- ---- its own row in the table
 pub own_left_out : (s : ℕ) (d : List ℕ) (row : Row) (b : Bool) → b ≡ left_out s 1 (length d) → b ≡ true → d ≡ written s d 0 (row ∷ [])
@@ -128,7 +132,7 @@ module _ (t : List ℕ) (q : Loaded) (body ns : List ℕ) (at n parent skip : �
   here : s ≡ size_at body (field_in t q) (entries ns) at
   here = rw (is-rule, is-rest) at is-s
 
-  pub param_absent : s ≡ None → ReadsParam body (field_in t q) (entries ns) at n parent skip d 0 d Absent
+  pub param_absent : s ≡ None → ReadsParam body (field_in t q) (entries ns) at n parent skip d 0 d None
   param_absent e = record { there = sym here ∙ e; rows = refl }
 
   module _ (size : Length) (e : s ≡ Some size) where
@@ -148,10 +152,7 @@ module _ (t : List ℕ) (q : Loaded) (body ns : List ℕ) (at n parent skip : �
     agreed = size_agrees (given q.optionaloffs) (given q.optionalmask) (rule_in q) (entries ns) (length body - at) size there
 
     pub param_read : (d' : List ℕ) (w : Wrote) → WritesParam body (field_in t q) at size n parent skip d d' w
-        → ReadsParam body (field_in t q) (entries ns) at n parent skip d 0 d' (Read (record { 0 = at + size.taken }) w.entry w.count)
+        → ReadsParam body (field_in t q) (entries ns) at n parent skip d 0 d' (Some (record { end = record { 0 = at + size.taken }; entry = w.entry; count = w.count }))
     param_read d' w wrote = record { size = size; there = there; end = refl; agrees = agreed; entry = wrote.entry; count = wrote.count; rows = wrote.rows }
 
-pub remaining_none : (size at : ℕ) → size ≤ at → 0 ≡ size - at
-remaining_none size at h = omega arith
-
-pub ruleset param_laws = (param_absent, param-inside, param_end_fits, param_read, remaining_none)
+pub ruleset param_laws = (param_absent, param-inside, param_end_fits, param_read)

@@ -18,7 +18,7 @@ use Rattle.command_text.specs.Rules.{rules}
 use Rattle.command_schema.specs.Loaded.{after, field_in, Stands}
 use Rattle.command_schema.specs.declared.Loaded.{Loaded}
 use Rattle.text.specs.declared.Place.{Place}
-use Rattle.command_rules.specs.Param.{big_endian, value_of, valued, or_zero, const_line, entry_of}
+use Rattle.command_rules.specs.Param.{big_endian, value_of, valued, const_line, entry_of}
 use Rattle.std.specs.Prelude.{Option, Some, None}
 
 -- ---- read_uint: what is read so far, and what is left
@@ -72,12 +72,6 @@ module _ (value : Option ℕ) where
   pub valued_not : value ≡ None → 0 ≡ valued value
   valued_not q = rw q
 
-  pub zero_is : (v : ℕ) → value ≡ Some v → v ≡ or_zero value
-  zero_is v q = rw q
-
-  pub zero-not : value ≡ None → 0 ≡ or_zero value
-  zero-not q = rw q
-
   module _ (t : List ℕ) (q : Loaded) where
     pub const_not : value ≡ None → 0 ≡ const_line (field_in t q) value
     const_not e = rw e
@@ -93,4 +87,4 @@ module _ (value : Option ℕ) where
 pub after-readable : (t : List ℕ) (q : Loaded) (p : Place) → Stands t q → p ≡ after q → Readable rules t p
 after-readable t q p stands e = rw e stands.readable
 
-pub ruleset value_laws = (after-readable, entry_none, entry_is, valued_is, valued_not, zero_is, zero-not, const_not, const_other, const_is)
+pub ruleset value_laws = (after-readable, entry_none, entry_is, valued_is, valued_not, const_not, const_other, const_is)

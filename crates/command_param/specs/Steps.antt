@@ -1,5 +1,5 @@
 -- What the functions answer that read a Q, over the definitions of the rules. The table t, which passes over s rows, becomes t', from row k on.
-use Rattle.std.specs.Prelude.{cond, ◌≡◌, List, ℕ, ◌+◌, eqb, length, Some, None}
+use Rattle.std.specs.Prelude.{cond, ◌≡◌, List, ℕ, ◌+◌, eqb, length, Option, Some, None}
 use Rattle.std.specs.Int.Bits.{bit_and}
 use Rattle.records.specs.declared.BodyOffset.{BodyOffset}
 use Rattle.command_text.specs.Letters.{letter_t}
@@ -13,7 +13,6 @@ use Rattle.command_rows.specs.Rows.{written}
 use Rattle.command_rules.specs.Param.{size_at, param_rows, param_entry}
 use Rattle.command_param.specs.declared.Wrote.{Wrote}
 use Rattle.command_param.specs.declared.Param.{Param}
-use Rattle.command_param.specs.declared.Param.TheVariants.{Read, Absent}
 
 -- the value of a T or S line, by the numbers of the line
 abbrev pub bit_number : ℕ → Line → ℕ
@@ -41,6 +40,6 @@ module _ (body : List ℕ) (q : Field) (es : List Earlier) (at n parent s : ℕ)
     pub there : size_at body q es at ≡ None
     pub rows : t' ≡ t
 
-  abbrev pub ReadsParam : Param → Type 0
-  ReadsParam (Read e x c) = IsRead e x c
-  ReadsParam Absent = IsAbsent
+  abbrev pub ReadsParam : Option Param → Type 0
+  ReadsParam (Some p) = IsRead p.end p.entry p.count
+  ReadsParam None = IsAbsent

@@ -1,6 +1,6 @@
 // One Q of a command: whether it exists, its value, its row and its bit children. Counterpart of `read_uint`, `decode_bits` and `decode_param` of
 // command_class/decode.rs.
-#![tactic(auto)]
+#![tactic(auto, using(crate::proofs::Bits::line_laws, crate::proofs::Values::value_laws, crate::proofs::Bits::children_laws, crate::proofs::Laws::param_laws, crate::proofs::Laws::row_laws, crate::proofs::Values::uint_laws, crate::proofs::Laws::own_laws, crate::proofs::Laws::written_laws))]
 
 ghost use Rattle.std.specs.Prelude.{◌≡◌, [], ◌∷◌, ◌+◌, ◌-◌, ◌%◌, ◌^◌, ◌≤◌, ◌<◌, length};
 ghost use Rattle.command_text.specs.Letters.{letter_t, letter_s};
@@ -9,7 +9,7 @@ ghost use Rattle.command_class.specs.Find.{from, among};
 ghost use Rattle.command_lengths.specs.Entries.{entries, earlier};
 ghost use Rattle.command_rows.specs.Rows.{written, Writes};
 ghost use Rattle.command_schema.specs.Loaded.{after, field_in, Stands};
-ghost use Rattle.command_rules.specs.Param.{in_payload, value_of, valued, or_zero, const_line, entry_of, bit_row, bit_rows, child_rows, row_of};
+ghost use Rattle.command_rules.specs.Param.{in_payload, value_of, valued, const_line, entry_of, bit_row, bit_rows, child_rows, row_of};
 ghost use Rattle.command_param.specs.Steps.{bit_number, WritesParam, ReadsParam};
 
 use command_class::Row as Line;
@@ -21,15 +21,12 @@ use records::{BodyOffset, PayloadOffset};
 // Bytes of command class and command that precede a command's params.
 const CMD_HEADER: usize = 2;
 
-// What reading a Q gives: where it ends in the body, the entry that it is for those after it, how many rows it has; or that it does not exist.
+// What reading a Q that exists gives: where it ends in the body, the entry that it is for those after it, how many rows it has.
 #[derive(Clone, Copy)]
-pub enum Param {
-    Read {
-        end: BodyOffset,
-        entry: u16,
-        count: usize,
-    },
-    Absent,
+pub struct Param {
+    pub end: BodyOffset,
+    pub entry: u16,
+    pub count: usize,
 }
 
 // Where a Q is read: its place in the body, the number of its own row, its parent's row + 1, or 0, and how many rows the table passes over.
@@ -56,19 +53,6 @@ pub fn in_payload(at: BodyOffset) -> PayloadOffset
     at.in_payload(PayloadOffset(CMD_HEADER))
 }
 
-fn wide(x: u8) -> u64
-    ensures value { result ≡ x }
-    ensures upper_bound { result < 256 }
-{
-    x as u64
-}
-
-fn as_u16(x: u8) -> u16
-    ensures { result ≡ x }
-{
-    x as u16
-}
-
 // A number of 1 to 8 bytes, the first highest.
 pub fn read_uint(bytes: &[u8]) -> Option<u64>
     ensures { result ≡ value_of bytes.now }
@@ -80,10 +64,8 @@ pub fn read_uint(bytes: &[u8]) -> Option<u64>
         return None;
     }
     let mut v: u64 = 0;
-    let mut i: usize = 0;
-    while i < bytes.len() {
-        v = v * 256 + wide(bytes[i]);
-        i += 1;
+    for b in bytes {
+        v = v * 256 + *b as u64;
     }
     Some(v)
 }
@@ -127,15 +109,6 @@ fn valued_of(value: Option<u64>) -> u64
     }
 }
 
-fn or_zero(value: Option<u64>) -> u64
-    ensures { result ≡ or_zero value }
-{
-    match value {
-        Some(v) => v,
-        None => 0,
-    }
-}
-
 // The row of a Q that takes these bytes and lacks so many more.
 fn param_row(
     text: &[u8],
@@ -156,7 +129,7 @@ fn param_row(
         start: start.0 as u64,
         end: (start.0 + bytes.len()) as u64,
         valued: valued_of(value),
-        value: or_zero(value),
+        value: value.unwrap_or(0),
         named: const_line(text, q, value),
         number: 0,
         lacking: lacking as u64,
@@ -260,9 +233,9 @@ fn write_children(
     if command_rows::is_left_out(skip, total + 1, rows.len()) {
         return total;
     }
-    let b = as_u16(bytes[0]);
+    let b = bytes[0] as u16;
     let rest = command_rows::row_at(skip, 1, rows.len());
-    let left = command_rows::less(skip, 1);
+    let left = skip.saturating_sub(1);
     decode_bits(text, q, b, start, parent, left, &mut rows[rest..])
 }
 
@@ -312,10 +285,7 @@ fn write_param(
 pub fn remaining(body: &[u8], at: BodyOffset) -> usize
     ensures { result ≡ length body.now - at.0 }
 {
-    if at.0 < body.len() {
-        return body.len() - at.0;
-    }
-    0
+    body.len().saturating_sub(at.0)
 }
 
 // Reads a Q after the entries `es` of its list. `rows` is the table from its own row on.
@@ -326,21 +296,18 @@ pub fn decode_param(
     spot: Spot,
     es: &[u16],
     rows: &mut [u64],
-) -> Param
+) -> Option<Param>
     requires { (Stands text.now q) × (length body.now < 65536) × (spot.row < 2 ^ 50) }
     ensures { ReadsParam body.now (field_in text.now q) (entries es.now) spot.at.0 spot.row spot.parent
         spot.skip rows.old 0 rows.new result }
 {
     let at = spot.at;
     let rest = remaining(body, at);
-    let Some(size) = command_lengths::size_of(q.optionaloffs, q.optionalmask, q.rule(), es, rest)
-    else {
-        return Param::Absent;
-    };
+    let size = command_lengths::size_of(q.optionaloffs, q.optionalmask, q.rule(), es, rest)?;
     let wrote = write_param(text, q, body, spot, size, rows);
-    Param::Read {
+    Some(Param {
         end: BodyOffset(at.0 + size.taken),
         entry: wrote.entry,
         count: wrote.count,
-    }
+    })
 }

@@ -1,7 +1,7 @@
 // Rows of a command's table: C16 and L3 of docs/RULES.md. A function that writes rows is lent the table from its first row on, and
 // hands on the rest as a part; what has no room in its part is counted and not written. Where only later rows are wanted, the first
 // `skip` rows of a part are passed over: the table begins behind them.
-#![tactic(auto)]
+#![tactic(auto, using(crate::proofs::Laws::laws))]
 
 ghost use Rattle.std.specs.Prelude.{◌≡◌, [], ◌∷◌, ◌+◌, ◌-◌, ◌*◌, ◌≤◌, ◌<◌, ◌^◌, length};
 ghost use Rattle.command_rules.specs.Rows.{row_width, numbers};
@@ -61,23 +61,13 @@ pub fn write_row(table: &mut [u64], skip: usize, k: usize, row: Row)
     rows::put_row(table, (k - skip) * ROW_WIDTH, &numbers_of(row));
 }
 
-// What is left of a number: a less b, or 0.
-pub fn less(a: usize, b: usize) -> usize
-    ensures { result ≡ a - b }
-{
-    if a < b {
-        return 0;
-    }
-    a - b
-}
-
 // Where row k begins in a table of so many numbers, or the table's end if that comes first.
 pub fn row_at(skip: usize, k: usize, length: usize) -> usize
     requires { k < 2 ^ 56 }
     ensures value { result ≡ row_at skip k length }
     ensures upper_bound { result ≤ length }
 {
-    let at = less(k, skip) * ROW_WIDTH;
+    let at = k.saturating_sub(skip) * ROW_WIDTH;
     if at <= length { at } else { length }
 }
 

@@ -25,7 +25,6 @@ use Rattle.command_rows.proofs.Laws.{written_none, length-written, written-more}
 use Rattle.command_rules.specs.Param.{size_at, param_rows, param_entry}
 use Rattle.command_param.specs.Steps.{IsRead, ReadsParam}
 use Rattle.command_param.specs.declared.Param.{Param}
-use Rattle.command_param.specs.declared.Param.TheVariants.{Read, Absent}
 use Rattle.command_rules.specs.Walk.{after, repetitions, group_at, unvalued, outer, walk}
 use Rattle.command_rules.specs.declared.Offsets.{Offsets}
 use Rattle.command_groups.specs.Steps.{Gives, GivesGroup, unvalued_kept, unvalued_have}
@@ -33,7 +32,7 @@ use Rattle.command_groups.specs.declared.Repeated.{Repeated}
 use Rattle.command_groups.proofs.Entries.{KeptFree, kept-part, kept-start, free_start, kept_push, free_push, kept-unvalued}
 use Rattle.command_rules.proofs.Bounds.{size_facts, repetitions_bound, walk_few}
 use Rattle.command_groups.proofs.Answers.{is_read, is_absent_lem}
-use Rattle.std.specs.Prelude.{None}
+use Rattle.std.specs.Prelude.{Option, Some, None}
 
 -- what is left of the outer list, from loaded row j on
 pub record Outer (offsets : Offsets) (t body : List ℕ) (s : ℕ) (d₀ d kept : List ℕ) (have at next j : ℕ) : Type 0 where
@@ -238,27 +237,27 @@ module _ (offsets : Offsets) (t l body : List ℕ) (count : ℕ) (loaded : IsLoa
           passed d refl kept have g.es g.entries_are
           (ap (λ (ds : List Entry). outer offsets body ds o.0 g.es next) (no_entry_at t l count loaded j q is-q h (sym is_x ∙ f) k))
 
-      module _ (d' : List ℕ) (r : Param) (given : ReadsParam body (field_in t q) (entries (take have kept)) o.0 next 0 s d next d' r)
+      module _ (d' : List ℕ) (r : Option Param) (given : ReadsParam body (field_in t q) (entries (take have kept)) o.0 next 0 s d next d' r)
           (single-q : x ≡ true) where
         m : OuterAt t l count loaded j q is-q h
         m = outer_at t l count loaded j q is-q h (sym is_x ∙ single-q)
 
-        pub outer-missing : r ≡ Absent → (kept' : List ℕ) (have' : ℕ) → kept' ≡ unvalued_kept offsets kept have
+        pub outer-missing : r ≡ None → (kept' : List ℕ) (have' : ℕ) → kept' ≡ unvalued_kept offsets kept have
             → have' ≡ unvalued_have offsets have 0
             → Outer offsets t body s d₀ d' kept' have' o.0 next (j + 1)
         outer-missing f =
             let v = is_absent_lem t q m.param m.is body kept g.es have g.entries_are.kept_are o.0 next 0 s d next d' r given f in
             absent m.param m.rest v.there d' v.rows
 
-        module _ (e : BodyOffset) (y c : ℕ) (f : r ≡ Read e y c) where
-          pub outer-fits : Fits w64 (next + c)
-          outer-fits = small m.param m.rest d' e y c
-              (is_read t q m.param m.is body kept g.es have g.entries_are.kept_are o.0 next 0 s d next d' r given e y c f)
+        module _ (v : Param) (f : r ≡ Some v) where
+          pub outer-fits : Fits w64 (next + v.count)
+          outer-fits = small m.param m.rest d' v.end v.entry v.count
+              (is_read t q m.param m.is body kept g.es have g.entries_are.kept_are o.0 next 0 s d next d' r given v f)
 
-          pub outer-take : (kept' : List ℕ) (have' : ℕ) → kept' ≡ set kept have y → have' ≡ least (have + 1) 256
-              → Outer offsets t body s d₀ d' kept' have' e.0 (next + c) (j + 1)
-          outer-take = taken m.param m.rest d' e y c
-              (is_read t q m.param m.is body kept g.es have g.entries_are.kept_are o.0 next 0 s d next d' r given e y c f)
+          pub outer-take : (kept' : List ℕ) (have' : ℕ) → kept' ≡ set kept have v.entry → have' ≡ least (have + 1) 256
+              → Outer offsets t body s d₀ d' kept' have' v.end.0 (next + v.count) (j + 1)
+          outer-take = taken m.param m.rest d' v.end v.entry v.count
+              (is_read t q m.param m.is body kept g.es have g.entries_are.kept_are o.0 next 0 s d next d' r given v f)
 
       module _ (d' : List ℕ) (r : Repeated) (most : ℕ)
           (is-most : most ≡ repeats q.paramoffs q.sizemask (record { 0 = q.sizeoffs }) (entries (take have kept)) (length body - o.0))

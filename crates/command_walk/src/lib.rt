@@ -1,5 +1,5 @@
 // The walk over a command: it reads a list of Qs and Gs over the body, writes the rows for which there is room in its part of the table, and counts all.
-#![tactic(auto)]
+#![tactic(auto, using(crate::proofs::Outer::outer_laws))]
 
 ghost use Rattle.std.specs.Prelude.{◌<◌, length};
 ghost use Rattle.command_schema.specs.Heads.{heads_of, entries_of};
@@ -9,7 +9,7 @@ ghost use Rattle.command_groups.specs.Steps.{Gives};
 
 use command_groups::{Group, Taken, keep, keep_unvalued, param_at, read_group, repeats_at};
 use command_lengths::NO_VALUE;
-use command_param::{Param, Spot};
+use command_param::Spot;
 use command_rules::{MOST_ENTRIES, Offsets};
 use command_schema::G_KIND;
 use records::BodyOffset;
@@ -32,8 +32,7 @@ pub fn walk_params(
     let mut have: usize = 0;
     let mut at = BodyOffset(0);
     let mut next: usize = 0;
-    let mut j: usize = 0;
-    while j < count {
+    for j in 0..count {
         let q = command_schema::loaded_at(loaded, j);
         let spot = Spot {
             at,
@@ -42,37 +41,28 @@ pub fn walk_params(
             skip,
         };
         if q.is_outer() {
-            let Param::Read {
-                end,
-                entry,
-                count: more,
-            } = param_at(text, q, body, spot, &kept[..have], rows, next)
-            else {
+            let Some(read) = param_at(text, q, body, spot, &kept[..have], rows, next) else {
                 have = keep_unvalued(offsets, &mut kept, have, 0);
-                j += 1;
                 continue;
             };
-            have = keep(&mut kept, have, entry);
-            next += more;
-            at = end;
-            j += 1;
+            have = keep(&mut kept, have, read.entry);
+            next += read.count;
+            at = read.end;
             continue;
         }
-        if q.kind == G_KIND {
-            let group = Group {
-                line: q.line,
-                first: j + 1,
-                count,
-            };
-            let most = repeats_at(q, body, at, &kept[..have]);
-            let g = read_group(text, loaded, group, most, body, spot, rows);
-            have = keep_unvalued(offsets, &mut kept, have, g.times);
-            next += g.count;
-            at = g.end;
-            j += 1;
+        if q.kind != G_KIND {
             continue;
         }
-        j += 1;
+        let group = Group {
+            line: q.line,
+            first: j + 1,
+            count,
+        };
+        let most = repeats_at(q, body, at, &kept[..have]);
+        let g = read_group(text, loaded, group, most, body, spot, rows);
+        have = keep_unvalued(offsets, &mut kept, have, g.times);
+        next += g.count;
+        at = g.end;
     }
     Taken {
         end: at,
