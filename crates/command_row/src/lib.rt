@@ -1,6 +1,6 @@
 // One row of a command, by its number and without a table of rows: BM5 of docs/RULES.md. The walk passes over the rows before it, and the table that it is
 // lent has room for that row alone.
-#![tactic(auto)]
+#![tactic(auto, using(crate::proofs::Laws::laws))]
 
 ghost use Rattle.std.specs.Prelude.{◌≡◌, ◌*◌, ◌<◌, ◌≤◌, length, Ok};
 ghost use Rattle.command_text.specs.Rules.{verdict};
@@ -71,10 +71,8 @@ pub fn command_row(
 ) -> Result<Row, Refusal>
     ensures { result ≡ row_of offsets text.now payload.now row }
 {
-    match check_command_text(text) {
-        Ok(()) => row_accepted(text, payload, offsets, row),
-        Err(refusal) => Err(refusal),
-    }
+    check_command_text(text)?;
+    row_accepted(text, payload, offsets, row)
 }
 
 // The bytes of a payload that a row names, as far as they are there.
