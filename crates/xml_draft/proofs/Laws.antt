@@ -2,13 +2,11 @@
 use mathlib.Core.Path.{◌≡◌, refl, sym, ap, ◌∙◌}
 use mathlib.Core.Bool.{Bool, true, false}
 use mathlib.Core.List.{List, [], ◌∷◌, ◌++◌, append-nil}
-use Prim.Native.Nat.{ℕ, ◌+◌, ◌-◌, ◌^◌, ◌≤◌, ◌<◌}
+use Prim.Native.Nat.{ℕ, ◌+◌, ◌-◌, ◌≤◌, ◌<◌}
 use native.Mathlib.Nat.{add-zero}
 use native.Mathlib.Omega.{arith}
-use mir.Val.{Fits}
-use mir.Syntax.{w64}
 use lib.Dec.{leb}
-use lib.ListN.{length, get_or, take, drop, set, length-append}
+use lib.ListN.{length, get_or, take, drop, set, length-append, length-drop}
 use lib.Seq.{sets, take-length}
 use borrow.Author.Tests.{leb-true, leb-false, lt-ltb, le-ltb, eq-eqb, ne_eqb}
 use Rattle.laws.proofs.Lists.{next, done, tail}
@@ -201,25 +199,24 @@ module _ (t u : List ℕ) (n r f : ℕ) (v : List ℕ) where
 pub ruleset said_laws = (said-words, said-optional, said-hex, said-number, said_maybe, said-flag, unsaid-words, unsaid-number, unsaid-flag)
 
 -- ---- an attribute
-module _ (body name : List ℕ) (f : ℕ) (b : Bool) (is : b ≡ has name (split 34 body)) (t u : List ℕ) (n r : ℕ) where
-  pub told-missing : b ≡ false → Laid t u n r (unsaid f) → Laid t u n r (told f name (split 34 body))
-  told-missing q l = rw (← is, q) l
+module _ (body name : List ℕ) (f : ℕ) (t u : List ℕ) (n r : ℕ) where
+  pub told-missing : has name (split 34 body) ≡ false → Laid t u n r (unsaid f) → Laid t u n r (told f name (split 34 body))
+  told-missing q l = rw q l
 
-  pub told_there : b ≡ true → (p : Part) → Spans body name p → Laid t u n r (says f (take (p.start + p.len - p.start) (drop p.start body)))
-      → Laid t u n r (told f name (split 34 body))
-  told_there q p s l =
-      let d : p.start + p.len - p.start ≡ p.len = omega arith in
-      let m : Laid t u n r (says f (take p.len (drop p.start body))) = rw d at l in
-      rw (← is, q) (rw s.is at m)
+  pub told_there : (p : Part) → has name (split 34 body) ≡ true → Spans body name p
+      → Laid t u n r (says f (take p.len (take (length body - p.start) (drop p.start body)))) → Laid t u n r (told f name (split 34 body))
+  told_there p q s l =
+      let m : Laid t u n r (says f (take p.len (drop p.start body))) = rw tail at l in
+      rw q (rw s.is at m)
 
 module _ (body name : List ℕ) (p : Part) (s : Spans body name p) where
-  pub span_fits : length body < 2 ^ 64 → Fits w64 (p.start + p.len)
-  span_fits h = omega (arith, s.inside)
+  pub span_start : p.start ≤ length body
+  span_start = omega (arith, s.inside)
 
-  pub span_end : p.start + p.len ≤ length body
-  span_end = s.inside
+  pub span_end : p.len ≤ length (take (length body - p.start) (drop p.start body))
+  span_end = rw (tail, length-drop) (omega (arith, s.inside))
 
-pub ruleset told_laws = (told-missing, told_there, span_fits, span_end)
+pub ruleset told_laws = (told-missing, told_there, span_start, span_end)
 
 module _ (e : List ℕ) (ps : List (List ℕ)) (f : ℕ) (form : f ≡ form_of e) (t : List ℕ) (n : ℕ) where
   pub attribute_dropped : f < 58 → Laid t t n n (part (form_of e) (name_of e) ps)
@@ -241,22 +238,19 @@ module _ (e : List ℕ) (ps : List (List ℕ)) (f : ℕ) (form : f ≡ form_of e
 pub ruleset attribute_laws = (attribute_dropped, attribute-further, attribute-field)
 
 -- ---- the fields of a line
-module _ (t₀ : List ℕ) (n₀ : ℕ) (row : List ℕ) (ps : List (List ℕ)) (t : List ℕ) (n at : ℕ)
-    (go : Going t₀ n₀ (fields_of (drop 1 (fields row)) ps) t n (fields_of (drop 1 (fields (drop at row))) ps))
-    (r : Option (ℕ × ℕ)) (is : Follows (take (length row - at) (drop at row)) r) where
+module _ (t₀ : List ℕ) (n₀ : ℕ) (row : List ℕ) (ps : List (List ℕ)) (t : List ℕ) (n : ℕ) (rest : List ℕ)
+    (go : Going t₀ n₀ (fields_of (drop 1 (fields row)) ps) t n (fields_of (drop 1 (fields rest)) ps))
+    (r : Option (ℕ × ℕ)) (is : Follows rest r) where
   pub fields-last : r ≡ None → Laid t₀ t n₀ n (fields_of (drop 1 (fields row)) ps)
-  fields-last q =
-      going_done t₀ n₀ (fields_of (drop 1 (fields row)) ps) t n (fields_of (drop 1 (fields (drop at row))) ps) go (rw (entry_last row at r is q))
+  fields-last q = going_done t₀ n₀ (fields_of (drop 1 (fields row)) ps) t n (fields_of (drop 1 (fields rest)) ps) go (rw (entry_last rest r is q))
 
   pub fields-more : (a len : ℕ) → r ≡ Some (a, len) → (u : List ℕ) (m : ℕ)
-      → Laid t u n m (part (form_of (take (a + len - a) (drop a (take (length row - at) (drop at row)))))
-      (name_of (take (a + len - a) (drop a (take (length row - at) (drop at row))))) ps)
-      → Going t₀ n₀ (fields_of (drop 1 (fields row)) ps) u m (fields_of (drop 1 (fields (drop (at + a) row))) ps)
+      → Laid t u n m (part (form_of (take len (take (length rest - a) (drop a rest)))) (name_of (take len (take (length rest - a) (drop a rest)))) ps)
+      → Going t₀ n₀ (fields_of (drop 1 (fields row)) ps) u m (fields_of (drop 1 (fields (take (length rest - a) (drop a rest)))) ps)
   fields-more a len q u m l =
-      going_on t₀ n₀ (fields_of (drop 1 (fields row)) ps) t n (fields_of (drop 1 (fields (drop at row))) ps)
-      (part (form_of (take (a + len - a) (drop a (take (length row - at) (drop at row)))))
-      (name_of (take (a + len - a) (drop a (take (length row - at) (drop at row))))) ps)
-      (fields_of (drop 1 (fields (drop (at + a) row))) ps) u m go (ap (λ es. fields_of es ps) (entry_is row at r is a len q)) l
+      going_on t₀ n₀ (fields_of (drop 1 (fields row)) ps) t n (fields_of (drop 1 (fields rest)) ps)
+      (part (form_of (take len (take (length rest - a) (drop a rest)))) (name_of (take len (take (length rest - a) (drop a rest)))) ps)
+      (fields_of (drop 1 (fields (take (length rest - a) (drop a rest)))) ps) u m go (ap (λ es. fields_of es ps) (entry_is rest r is a len q)) l
 
 pub ruleset fields_laws = (going_start, fields-last, fields-more, entry_laws)
 

@@ -1,5 +1,5 @@
 // What the attributes of a tag say, as fields of a line, written into room for a definition text. X5, X6 and X9 of docs/RULES.md.
-#![tactic(auto)]
+#![tactic(auto, using(crate::proofs::Laws::laws))]
 
 ghost use Rattle.std.specs.Prelude.{[], ◌∷◌, ◌+◌, drop};
 ghost use Rattle.text.specs.Text.{split, fields};
@@ -16,13 +16,13 @@ use xml_schema::{
     FURTHER_FLAG, HEX_NUMBER, NUMBER, OPTIONAL_NUMBER, OPTIONAL_WORDS, PAST_DIGITS, WORDS, form_of,
     name_start, next_entry,
 };
-use xml_tags::{has, value_of};
+use xml_tags::value_of;
 use xml_values::{count_start, digit_for, entity, read_numeral};
 
 // Room for every definition text.
 pub const ROOM: usize = MOST_BYTES;
 
-// Some place past the room.
+// Some place past the room. No Option: it goes on through every later write without a test.
 const OVER: usize = ROOM + 1;
 
 // Writes b at n, if there is room; answers the place behind it.
@@ -41,10 +41,8 @@ pub fn put_all(out: &mut [u8; ROOM], n: usize, s: &[u8]) -> usize
     ensures { Laid out.old out.new n result s.now }
 {
     let mut next = n;
-    let mut i = 0;
-    while i < s.len() {
-        next = put_byte(out, next, s[i]);
-        i += 1;
+    for b in s {
+        next = put_byte(out, next, *b);
     }
     next
 }
@@ -128,6 +126,7 @@ fn put_said(out: &mut [u8; ROOM], n: usize, f: u8, v: &[u8]) -> usize
     ensures { Laid out.old out.new n result (says f v.now) }
 {
     match f {
+        // an arm for each form: with `|` the proof of the last arm did not close
         WORDS => put_words(out, n, v),
         OPTIONAL_WORDS => put_words(out, n, v),
         HEX_NUMBER => put_numeral(out, n, v),
@@ -142,8 +141,7 @@ fn put_unsaid(out: &mut [u8; ROOM], n: usize, f: u8) -> usize
     ensures { Laid out.old out.new n result (unsaid f) }
 {
     match f {
-        OPTIONAL_WORDS => put_byte(out, n, b'-'),
-        OPTIONAL_NUMBER => put_byte(out, n, b'-'),
+        OPTIONAL_WORDS | OPTIONAL_NUMBER => put_byte(out, n, b'-'),
         _ => put_byte(out, n, b'0'),
     }
 }
@@ -152,13 +150,10 @@ fn put_unsaid(out: &mut [u8; ROOM], n: usize, f: u8) -> usize
 fn put_told(out: &mut [u8; ROOM], n: usize, f: u8, name: &[u8], body: &[u8]) -> usize
     ensures { Laid out.old out.new n result (told f name.now (split quote body.now)) }
 {
-    if has(body, name) {
-        let value = value_of(body, name);
-        let a = value.start;
-        let e = a + value.len;
-        return put_said(out, n, f, &body[a..e]);
+    match value_of(body, name) {
+        Some(value) => put_said(out, n, f, &body[value.start..][..value.len]),
+        None => put_unsaid(out, n, f),
     }
-    put_unsaid(out, n, f)
 }
 
 // Writes what the attribute of an entry says, behind a tab if it begins a field; nothing, if no line has a place for it.
@@ -183,18 +178,10 @@ pub fn put_fields(out: &mut [u8; ROOM], n: usize, row: &[u8], body: &[u8]) -> us
     ensures { Laid out.old out.new n result (fields_of (drop 1 (fields row.now)) (split quote body.now)) }
 {
     let mut next = n;
-    let mut at = 0;
-    loop {
-        let rest = &row[at..];
-        match next_entry(rest) {
-            None => {
-                return next;
-            }
-            Some((a, len)) => {
-                let end = a + len;
-                next = put_attribute(out, next, &rest[a..end], body);
-                at += a;
-            }
-        }
+    let mut rest = row;
+    while let Some((a, len)) = next_entry(rest) {
+        rest = &rest[a..];
+        next = put_attribute(out, next, &rest[..len], body);
     }
+    next
 }

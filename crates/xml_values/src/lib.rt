@@ -63,7 +63,7 @@ pub fn is_blank(s: &[u8]) -> bool
 
 // ---- words
 
-// The byte that a name between `&` and `;` stands for, or 0.
+// The byte that a name between `&` and `;` stands for, or 0. No Option: that 0 is written where nothing is known, as the specs say.
 pub fn entity(n: &[u8]) -> u8
     ensures { result ≡ entityOf n.now }
 {
@@ -279,7 +279,7 @@ fn is_false(v: &[u8]) -> bool
     find_word(b"false 0 False FALSE f No NO no n", v) < 9
 }
 
-// The digit for a flag; 0 for what is none.
+// The digit for a flag; 0 for what is none. No Option, as with an entity.
 pub fn digit_for(v: &[u8]) -> u8
     ensures { result ≡ digit_for v.now }
 {
