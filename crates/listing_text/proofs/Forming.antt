@@ -1,6 +1,6 @@
 -- Laws of a listing's form. Assumes nothing.
 use mathlib.Core.Path.{◌≡◌, refl, sym, ap, ◌∙◌}
-use mathlib.Core.Bool.{Bool, true, false, cond, ◌&&◌}
+use mathlib.Core.Bool.{Bool, true, false, cond, not, ◌&&◌}
 use mathlib.Core.List.{List, [], ◌∷◌}
 use Prim.Native.Nat.{ℕ, zero, suc, ◌+◌, ◌-◌, ◌≤◌, ◌<◌}
 use native.Mathlib.Omega.{arith}
@@ -19,7 +19,7 @@ use Rattle.numerals.proofs.Decimals.{value_is, value_not}
 use Rattle.listing_text.specs.Listing.{row_width, numbers_in, at_end, last_of, form_of}
 use Rattle.listing_text.specs.declared.form.Form.{Form}
 use Rattle.listing_text.specs.declared.form.Form.TheVariants.{Names, Wrong}
-use Rattle.std.specs.Prelude.{Option, Some, None}
+use Rattle.std.specs.Prelude.{Option, Some, None, is_some}
 
 -- ---- the numbers of a line, field by field
 pub record Counting (s : List ℕ) (at more : ℕ) : Type 0 where
@@ -44,6 +44,14 @@ counted l e more fs some is =
     let m : more ≡ suc (more - 1) = omega arith in
     rw is (ap (λ (k : ℕ). numbers_in k (take e l ∷ fs)) m)
 
+no_number : (r : Option ℕ) → is_some r ≡ false → r ≡ None
+no_number None e = refl
+no_number (Some v) e = absurd (let z : ◌≡◌ {A = ℕ} 0 1 = cc in omega arith)
+
+some_number : (r : Option ℕ) → is_some r ≡ true → (v : ℕ) × (r ≡ Some v)
+some_number None e = absurd (let z : ◌≡◌ {A = ℕ} 0 1 = cc in omega arith)
+some_number (Some v) e = (v, refl)
+
 module _ (s : List ℕ) (at more : ℕ) (w : Counting s at more) (some : 0 < more) (e : ℕ)
     (is_cut : e ≡ cut 9 (take (length s - at) (drop at s))) where
   abbrev rest : List ℕ
@@ -64,20 +72,20 @@ module _ (s : List ℕ) (at more : ℕ) (w : Counting s at more) (some : 0 < mor
   further-field l h =
       split-more 9 rest (omega (arith, is_cut)) ∙ ap (λ (k : ℕ). take k rest ∷ fields (drop (k + 1) rest)) (sym is_cut)
 
-  module _ (r : Option ℕ) (reads : r ≡ value_of (take e rest)) where
-    pub counting_wrong : e ≤ length rest → r ≡ None → false ≡ numbers_in row_width (fields s)
+  module _ (r : Option ℕ) (reads : r ≡ value_of (take e rest)) (none : Bool) (is_none : is_some r ≡ not none) where
+    pub counting_wrong : e ≤ length rest → none ≡ true → false ≡ numbers_in row_width (fields s)
     counting_wrong l q = go (eqb e (length rest)) refl
       where
         wrong : up_to most (take e rest) ≡ false
-        wrong = value_not (take e rest) r reads q
+        wrong = value_not (take e rest) r reads (no_number r (rw q at is_none))
 
         go : (b : Bool) → eqb e (length rest) ≡ b → false ≡ numbers_in row_width (fields s)
         go true t = sym (counts [] (last-field (eqb-true e (length rest) t)) ∙ rw wrong refl)
         go false t = sym (counts (fields (drop (e + 1) rest)) (further-field l (eqb-false e (length rest) t)) ∙ rw wrong refl)
 
-    module _ (v : ℕ) (q : r ≡ Some v) where
+    module _ (q : none ≡ false) where
       number : up_to most (take e rest) ≡ true
-      number = (value_is (take e rest) r reads v q).0
+      number = let n = some_number r (rw q at is_none) in (value_is (take e rest) r reads n.0 n.1).0
 
       pub counting_last : e ≡ length rest → eqb (more - 1) 0 ≡ numbers_in row_width (fields s)
       counting_last h = sym (counts [] (last-field h) ∙ rw number (go (more - 1)))

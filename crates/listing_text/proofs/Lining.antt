@@ -17,6 +17,11 @@ use Rattle.numerals.proofs.Shown.{decimal-shown}
 use Rattle.listing_text.specs.Listing.{row_width, stop_of, line_of, text_of, closed}
 use Rattle.listing_text.specs.Steps.{Small, PutsNumber, Writes, stop_before, rows_in, puts, Puts, PutsAll}
 
+-- ---- bytes at a place that has room for them
+module _ (b r : List ℕ) (at : ℕ) (long : length r ≤ length b) (inside : at ≤ length b - length r) where
+  pub bytes_put : (b' : List ℕ) → b' ≡ sets b at r → b' ≡ put b at r
+  bytes_put b' e = e ∙ sym (put-room b r at (omega arith))
+
 -- ---- a number and the byte behind it
 module _ (n stop : ℕ) (line : List ℕ) (at start : ℕ) (bytes : List ℕ) (spells : Spells 2 (decimal n) start bytes) (fits : at + 21 ≤ length line)
     (small : n < 2 ^ 64) where
@@ -198,6 +203,7 @@ slice_seven rows k h =
     rw s (omega (arith, length-take-le row_width (drop (k * row_width) rows) (omega arith)))
 
 pub ruleset laws = (
+  bytes_put,
   number_put,
   number-room,
   digits-start,

@@ -28,8 +28,7 @@ pub fn first_difference(listing: &[u8], rows: &[u64], count: usize, number: u64)
     ensures { result ≡ differs 1 (closed (rows_in count rows.now) number) listing.now }
 {
     let mut at = 0;
-    let mut k: usize = 0;
-    while k < count {
+    for k in 0..count {
         let a = k * ROW_WIDTH;
         let e = a + ROW_WIDTH;
         let n = pass_line(&listing[at..], &rows[a..e]);
@@ -37,7 +36,6 @@ pub fn first_difference(listing: &[u8], rows: &[u64], count: usize, number: u64)
             return k + 1;
         }
         at += n;
-        k += 1;
     }
     let last = [number];
     let n = pass_line(&listing[at..], &last);

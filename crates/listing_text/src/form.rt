@@ -21,14 +21,12 @@ fn is_row(s: &[u8]) -> bool
     ensures { result ≡ numbers_in row_width (fields s.now) }
 {
     let mut at = 0;
-    let mut more: usize = ROW_WIDTH;
-    while 0 < more {
+    for more in (0..ROW_WIDTH).rev() {
         let rest = &s[at..];
         let e = find(rest, 9);
-        let Some(_) = read_value(&rest[..e]) else {
+        if read_value(&rest[..e]).is_none() {
             return false;
-        };
-        more -= 1;
+        }
         if e == rest.len() {
             return more == 0;
         }
@@ -64,13 +62,12 @@ pub fn read_form(listing: &[u8]) -> Form
         if next == listing.len() {
             return read_last(&rest[..e], line);
         }
-        if is_row(&rest[..e]) {
-            place = Place {
-                at: next,
-                line: line + 1,
-            };
-            continue;
+        if !is_row(&rest[..e]) {
+            return Form::Wrong(line);
         }
-        return Form::Wrong(line);
+        place = Place {
+            at: next,
+            line: line + 1,
+        };
     }
 }

@@ -1,5 +1,5 @@
 // The text of a listing: the rows of a header as decimal numbers, a line each, and last the header's number. Read, compared and written.
-#![tactic(auto)]
+#![tactic(auto, using(crate::proofs::Laws::laws))]
 
 mod difference;
 mod form;

@@ -4,6 +4,7 @@ ghost use Rattle.rows.specs.Rows.{put};
 ghost use Rattle.listing_text.specs.Listing.{row_width, closed};
 ghost use Rattle.listing_text.specs.Steps.{PutsNumber, stop_before, Writes, rows_in, Puts, PutsAll};
 
+use buffer::put;
 use numerals::{ROOM, decimal};
 
 // The numbers of a row: those of H18 (docs/RULES.md).
@@ -22,11 +23,7 @@ fn put_bytes(buffer: &mut [u8], at: usize, bytes: &[u8])
     if buffer.len() - bytes.len() < at {
         return;
     }
-    let mut i: usize = 0;
-    while i < bytes.len() {
-        buffer[at + i] = bytes[i];
-        i += 1;
-    }
+    put(buffer, at, bytes);
 }
 
 // Writes the digits of n at a place of the line, and a byte behind them; answers the place behind.
@@ -55,11 +52,8 @@ pub fn write_line(numbers: &[u64], line: &mut [u8]) -> usize
     ensures { Writes numbers.now line.old result line.new }
 {
     let mut at = 0;
-    let mut i = 0;
-    while i < numbers.len() {
-        let n = numbers[i];
-        i += 1;
-        at = put_number(n, stop_before(numbers.len() - i), line, at);
+    for (i, n) in numbers.iter().enumerate() {
+        at = put_number(*n, stop_before(numbers.len() - (i + 1)), line, at);
     }
     at
 }
@@ -81,12 +75,10 @@ pub fn put_lines(rows: &[u64], count: usize, number: u64, buffer: &mut [u8]) -> 
     ensures { PutsAll (closed (rows_in count rows.now) number) buffer.old result buffer.new }
 {
     let mut at = 0;
-    let mut k: usize = 0;
-    while k < count {
+    for k in 0..count {
         let a = k * ROW_WIDTH;
         let e = a + ROW_WIDTH;
         at = put_line(&rows[a..e], buffer, at);
-        k += 1;
     }
     let last = [number];
     put_line(&last, buffer, at)
