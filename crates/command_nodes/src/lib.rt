@@ -1,5 +1,5 @@
 // The nodes that a parameter of a command addresses: BM2, BM4 and BM6 of docs/RULES.md. Such a parameter is the row of a Q whose type is BITMASK.
-#![tactic(auto)]
+#![tactic(auto, using(crate::proofs::Laws::laws))]
 
 ghost use Rattle.std.specs.Prelude.{◌≡◌, Ok};
 ghost use Rattle.command_text.specs.Rules.{verdict};
@@ -46,28 +46,13 @@ pub fn param_type(text: &[u8], line: u64) -> Option<ParamType>
 fn is_bitmask(kind: ParamType) -> bool
     ensures { result ≡ is_bitmask kind }
 {
-    match kind {
-        ParamType::Byte => false,
-        ParamType::StructByte => false,
-        ParamType::Const => false,
-        ParamType::Marker => false,
-        ParamType::Word => false,
-        ParamType::Bit24 => false,
-        ParamType::Dword => false,
-        ParamType::Array => false,
-        ParamType::Variant => false,
-        ParamType::Bitmask => true,
-        ParamType::MultiArray => false,
-    }
+    matches!(kind, ParamType::Bitmask)
 }
 
 fn is_typed(typed: Option<ParamType>) -> bool
     ensures { result ≡ is_typed typed }
 {
-    match typed {
-        Some(kind) => is_bitmask(kind),
-        None => false,
-    }
+    typed.is_some_and(is_bitmask)
 }
 
 // Is it such a row, of this kind and on this line?
@@ -75,10 +60,7 @@ fn is_mask(text: &[u8], kind: u64, line: u64) -> bool
     requires { verdict text.now ≡ Ok tt }
     ensures { result ≡ is_mask text.now kind line }
 {
-    if kind != PARAM_KIND {
-        return false;
-    }
-    is_typed(param_type(text, line))
+    kind == PARAM_KIND && is_typed(param_type(text, line))
 }
 
 // The nodes of a row by a text that is accepted; or refusal 11, which carries the number of the row that was asked for, or 8.
@@ -108,15 +90,11 @@ pub fn row_nodes(
 ) -> Result<usize, Refusal>
     ensures { LentNodes text.now payload.now rows.now row nodes.old result nodes.new }
 {
-    match check_command_text(text) {
-        Ok(()) => {
-            if rows.len() / ROW_WIDTH <= row {
-                return Err(Refusal::NoSuchField(row));
-            }
-            nodes_of_row(text, payload, read_row(rows, row), row, nodes)
-        }
-        Err(refusal) => Err(refusal),
+    check_command_text(text)?;
+    if rows.len() / ROW_WIDTH <= row {
+        return Err(Refusal::NoSuchField(row));
     }
+    nodes_of_row(text, payload, read_row(rows, row), row, nodes)
 }
 
 // The nodes of a row of the command by a text that is accepted; or refusal 4, 5, 11 or 8.
@@ -130,10 +108,8 @@ pub fn nodes_accepted(
     requires { verdict text.now ≡ Ok tt }
     ensures { CommandNodes offsets text.now payload.now row nodes.old result nodes.new }
 {
-    match row_accepted(text, payload, offsets, row) {
-        Ok(found) => nodes_of_row(text, payload, found, row, nodes),
-        Err(refusal) => Err(refusal),
-    }
+    let found = row_accepted(text, payload, offsets, row)?;
+    nodes_of_row(text, payload, found, row, nodes)
 }
 
 // The nodes of a row of a command, from 0, rising, each once; or refusal 1 to 5, 11 or 8, and nothing is written. The row is walked to, with no table of rows.
@@ -146,8 +122,6 @@ pub fn command_nodes(
 ) -> Result<usize, Refusal>
     ensures { CommandNodes offsets text.now payload.now row nodes.old result nodes.new }
 {
-    match check_command_text(text) {
-        Ok(()) => nodes_accepted(text, payload, offsets, row, nodes),
-        Err(refusal) => Err(refusal),
-    }
+    check_command_text(text)?;
+    nodes_accepted(text, payload, offsets, row, nodes)
 }
