@@ -28,34 +28,34 @@ use Rattle.xml_elements.specs.Elements.{name_for, blanks, head, depth, innermost
 use Rattle.xml_elements.specs.Elements.{first_field, rest_for, tag_for, leads_to, element, kind_for, body, opening, xml_of}
 
 -- ---- spaces
-pub record Blanking (n : ℕ) (b b₀ : List ℕ) (at at₀ left : ℕ) : Type 0 where
-  pub leaves : Leaves (blanks left) (blanks n) b b₀ at at₀
+pub record Blanking (n : ℕ) (b b₀ : List ℕ) (at at₀ i : ℕ) : Type 0 where
+  pub leaves : Leaves (blanks (n - i)) (blanks n) b b₀ at at₀
 
-pub blanking_start : (n : ℕ) (b : List ℕ) (at : ℕ) → Blanking n b b at at n
-blanking_start n b at = record { leaves = leaves_start (blanks n) b at }
+pub blanking_start : (n : ℕ) (b : List ℕ) (at : ℕ) → Blanking n b b at at 0
+blanking_start n b at = let z : n - 0 ≡ n = omega arith in record { leaves = rw z (leaves_start (blanks n) b at) }
 
 blanks-more : (left : ℕ) → 0 < left → blanks left ≡ (0x20 ∷ 0x20 ∷ []) ++ blanks (left - 1)
 unfolding blanks
 blanks-more zero h = absurd (omega arith)
 blanks-more (suc left) h = let z : suc left - 1 ≡ left = omega arith in rw z
 
-module _ (n : ℕ) (b b₀ : List ℕ) (at at₀ left : ℕ) (inv : Blanking n b b₀ at at₀ left) where
+module _ (n : ℕ) (b b₀ : List ℕ) (at at₀ i : ℕ) (inv : Blanking n b b₀ at at₀ i) where
   pub blanking_same : length b ≡ length b₀
   blanking_same = inv.leaves.same
 
-  module _ (h : 0 < left) where
-    two_more : Leaves ((0x20 ∷ 0x20 ∷ []) ++ blanks (left - 1)) (blanks n) b b₀ at at₀
-    two_more = rw (blanks-more left h) at inv.leaves
+  module _ (h : i < n) where
+    two_more : Leaves ((0x20 ∷ 0x20 ∷ []) ++ blanks (n - (i + 1))) (blanks n) b b₀ at at₀
+    two_more = let d : n - i - 1 ≡ n - (i + 1) = omega arith in rw (blanks-more (n - i) (omega arith), d) at inv.leaves
 
     pub blanking_room : Room at₀ (blanks n) → Room at (0x20 ∷ 0x20 ∷ [])
-    blanking_room room = leaves_room (0x20 ∷ 0x20 ∷ []) (blanks (left - 1)) (blanks n) b b₀ at at₀ two_more room
+    blanking_room room = leaves_room (0x20 ∷ 0x20 ∷ []) (blanks (n - (i + 1))) (blanks n) b b₀ at at₀ two_more room
 
-    pub blanking_more : (b' : List ℕ) (r : ℕ) → Laid (0x20 ∷ 0x20 ∷ []) b at r b' → Blanking n b' b₀ r at₀ (left - 1)
-    blanking_more b' r l = record { leaves = leaves_more (0x20 ∷ 0x20 ∷ []) (blanks (left - 1)) (blanks n) b b₀ at at₀ two_more b' r l }
+    pub blanking_more : (b' : List ℕ) (r : ℕ) → Laid (0x20 ∷ 0x20 ∷ []) b at r b' → Blanking n b' b₀ r at₀ (i + 1)
+    blanking_more b' r l = record { leaves = leaves_more (0x20 ∷ 0x20 ∷ []) (blanks (n - (i + 1))) (blanks n) b b₀ at at₀ two_more b' r l }
 
-  pub blanking_done : left ≤ 0 → Laid (blanks n) b₀ at₀ at b
+  pub blanking_done : n ≤ i → Laid (blanks n) b₀ at₀ at b
   unfolding blanks
-  blanking_done h = let z : left ≡ 0 = omega arith in leaves_done (blanks n) b b₀ at at₀ (rw z at inv.leaves)
+  blanking_done h = let z : n - i ≡ 0 = omega arith in leaves_done (blanks n) b b₀ at at₀ (rw z at inv.leaves)
 
 -- ---- names
 module _ (k : ℕ) (p : Part) (is : IsField 32 k elements p) where
@@ -153,36 +153,36 @@ module _ (d n k : ℕ) (deep : n ≡ depth d) (inner : k ≡ innermost d) (at : 
     shut-laid b₂ q y = rw shut_is (laid_both heading (0x3e ∷ 0x0a ∷ []) b b₁ b₂ at r q x y)
 
 -- ---- ends, one after the other
-pub record Closing (n d : ℕ) (b b₀ : List ℕ) (at at₀ left place : ℕ) : Type 0 where
-  pub leaves : Leaves (closings left place) (closings n d) b b₀ at at₀
+pub record Closing (n d : ℕ) (b b₀ : List ℕ) (at at₀ i place : ℕ) : Type 0 where
+  pub leaves : Leaves (closings (n - i) place) (closings n d) b b₀ at at₀
 
-pub closing_start : (n d : ℕ) (b : List ℕ) (at : ℕ) → Closing n d b b at at n d
-closing_start n d b at = record { leaves = leaves_start (closings n d) b at }
+pub closing_start : (n d : ℕ) (b : List ℕ) (at : ℕ) → Closing n d b b at at 0 d
+closing_start n d b at = let z : n - 0 ≡ n = omega arith in record { leaves = rw z (leaves_start (closings n d) b at) }
 
 closings-more : (left place : ℕ) → 0 < left → closings left place ≡ shut place ++ closings (left - 1) (up place)
 unfolding closings
 closings-more zero place h = absurd (omega arith)
 closings-more (suc left) place h = let z : suc left - 1 ≡ left = omega arith in rw z
 
-module _ (n d : ℕ) (b b₀ : List ℕ) (at at₀ left place : ℕ) (inv : Closing n d b b₀ at at₀ left place) where
+module _ (n d : ℕ) (b b₀ : List ℕ) (at at₀ i place : ℕ) (inv : Closing n d b b₀ at at₀ i place) where
   pub closing_same : length b ≡ length b₀
   closing_same = inv.leaves.same
 
-  module _ (h : 0 < left) where
-    one_more : Leaves (shut place ++ closings (left - 1) (up place)) (closings n d) b b₀ at at₀
-    one_more = rw (closings-more left place h) at inv.leaves
+  module _ (h : i < n) where
+    one_more : Leaves (shut place ++ closings (n - (i + 1)) (up place)) (closings n d) b b₀ at at₀
+    one_more = let e : n - i - 1 ≡ n - (i + 1) = omega arith in rw (closings-more (n - i) place (omega arith), e) at inv.leaves
 
     pub closing_room : Room at₀ (closings n d) → Room at (shut place)
-    closing_room room = leaves_room (shut place) (closings (left - 1) (up place)) (closings n d) b b₀ at at₀ one_more room
+    closing_room room = leaves_room (shut place) (closings (n - (i + 1)) (up place)) (closings n d) b b₀ at at₀ one_more room
 
     pub closing_more : (b' : List ℕ) (r next : ℕ) → Laid (shut place) b at r b' → next ≡ up place
-        → Closing n d b' b₀ r at₀ (left - 1) next
+        → Closing n d b' b₀ r at₀ (i + 1) next
     closing_more b' r next l e =
-        record { leaves = rw e (leaves_more (shut place) (closings (left - 1) (up place)) (closings n d) b b₀ at at₀ one_more b' r l) }
+        record { leaves = rw e (leaves_more (shut place) (closings (n - (i + 1)) (up place)) (closings n d) b b₀ at at₀ one_more b' r l) }
 
-  pub closing_done : left ≤ 0 → Laid (closings n d) b₀ at₀ at b
+  pub closing_done : n ≤ i → Laid (closings n d) b₀ at₀ at b
   unfolding closings
-  closing_done h = let z : left ≡ 0 = omega arith in leaves_done (closings n d) b b₀ at at₀ (rw z at inv.leaves)
+  closing_done h = let z : n - i ≡ 0 = omega arith in leaves_done (closings n d) b b₀ at at₀ (rw z at inv.leaves)
 
 -- ---- what a line says of its element
 module _ (k : ℕ) where

@@ -1,5 +1,5 @@
 // The XML that is written for the lines of a text: X13 of docs/RULES.md.
-#![tactic(auto)]
+#![tactic(auto, using(crate::proofs::Laws::laws, crate::proofs::Laws::element_laws, crate::proofs::Laws::line_laws, crate::proofs::Laws::rest_laws, crate::proofs::Laws::tag_laws, crate::proofs::Laws::xml_laws))]
 
 ghost use Rattle.std.specs.Prelude.{◌≡◌, ◌≤◌};
 ghost use Rattle.text.specs.Text.{lines, fields};
@@ -22,10 +22,8 @@ fn append_blanks(buffer: &mut [u8], at: usize, n: usize) -> usize
     ensures { Laid (blanks n) buffer.old at result buffer.new }
 {
     let mut next = at;
-    let mut left = n;
-    while 0 < left {
+    for _ in 0..n {
         next = append(buffer, next, b"  ");
-        left -= 1;
     }
     next
 }
@@ -96,12 +94,10 @@ fn append_closings(buffer: &mut [u8], at: usize, n: usize, d: usize) -> usize
     ensures { Laid (closings n d) buffer.old at result buffer.new }
 {
     let mut next = at;
-    let mut left = n;
     let mut place = d;
-    while 0 < left {
+    for _ in 0..n {
         next = append_shut(buffer, next, place);
         place = go_up(place);
-        left -= 1;
     }
     next
 }
@@ -138,13 +134,7 @@ fn stands_in(k: usize, level: usize) -> usize
 fn is_alone(k: usize) -> bool
     ensures { result ≡ is_alone k }
 {
-    if k == 1 {
-        return true;
-    }
-    if k == 5 {
-        return true;
-    }
-    k == 7
+    matches!(k, 1 | 5 | 7)
 }
 
 // What ends its tag.
@@ -196,10 +186,7 @@ fn leads_to(d: usize, k: usize, level: usize) -> usize
     ensures { result ≡ leads_to d k level }
 {
     if k == PARAM {
-        if d == 3 {
-            return 24 + level;
-        }
-        if 24 <= d {
+        if d == 3 || 24 <= d {
             return 24 + level;
         }
         return 16 + level;
