@@ -1,7 +1,8 @@
 -- Laws of a frame text as XML. Assumes nothing.
 use mathlib.Core.Path.{◌≡◌, refl, sym, ◌∙◌}
 use mathlib.Core.List.{List}
-use Prim.Native.Nat.{ℕ, ◌≤◌}
+use Prim.Native.Nat.{ℕ, ◌≤◌, ◌<◌}
+use native.Mathlib.Omega.{arith}
 use lib.ListN.{length}
 use borrow.Author.Tests.{eq-eqb, ne_eqb}
 use Rattle.refusal.specs.declared.Refusal.{Refusal}
@@ -18,12 +19,12 @@ use Rattle.xml_writer.proofs.Bounds.{xml_room}
 use Rattle.std.specs.Prelude.{Result, Ok, Err}
 
 -- ---- an accepted text
-module _ (t : List ℕ) (line : ℕ) (is : line ≡ out_of_order t) (b : List ℕ) where
-  pub plainly-written : line ≡ 0 → (r : Result ℕ Refusal) (b' : List ℕ) → Writes (xml_of t) b r b' → Plainly t b r b'
-  plainly-written z r b' w = record { answer = rw (eq-eqb (out_of_order t) 0 (sym is ∙ z)) w.answer; buffer = w.buffer }
+module _ (t b : List ℕ) where
+  pub plainly-written : out_of_order t ≡ 0 → (r : Result ℕ Refusal) (b' : List ℕ) → Writes (xml_of t) b r b' → Plainly t b r b'
+  plainly-written z r b' w = record { answer = rw (eq-eqb (out_of_order t) 0 z) w.answer; buffer = w.buffer }
 
-  pub plainly-not : (line ≡ 0 → ⊥) → Plainly t b (Err (NotPlain line)) b
-  plainly-not n = record { answer = rw (ne_eqb (out_of_order t) 0 (λ z. n (is ∙ z)), is); buffer = refl }
+  pub plainly-not : (line : ℕ) → out_of_order t ≡ line → 0 < line → Plainly t b (Err (NotPlain line)) b
+  plainly-not line is some = record { answer = rw (ne_eqb (out_of_order t) 0 (λ z. omega (arith, is)), is); buffer = refl }
 
 -- ---- any text
 module _ (t : List ℕ) (v : Result (Unit {0}) Refusal) (checks : Checks rules t v) where

@@ -1,5 +1,5 @@
 // A frame text as XML: X14 of docs/RULES.md.
-#![tactic(auto)]
+#![tactic(auto, using(crate::proofs::Laws::laws))]
 
 ghost use Rattle.std.specs.Prelude.{◌≤◌, length};
 ghost use Rattle.text.specs.Judge.{most_bytes};
@@ -32,19 +32,16 @@ fn write_plain(text: &[u8], buffer: &mut [u8]) -> Result<usize, Refusal>
     requires { length text.now ≤ most_bytes }
     ensures { Plainly text.now buffer.old result buffer.new }
 {
-    let line = first_misplaced(text);
-    if line == 0 {
-        return write_all(text, buffer);
+    match first_misplaced(text) {
+        Some(line) => Err(Refusal::NotPlain(line)),
+        None => write_all(text, buffer),
     }
-    Err(Refusal::NotPlain(line))
 }
 
 // Writes a frame text as XML into the buffer and answers its length, or refuses. A refusal writes nothing, an answer nothing behind the XML.
 pub fn frame_text_to_xml(text: &[u8], buffer: &mut [u8]) -> Result<usize, Refusal>
     ensures { WritesXml text.now buffer.old result buffer.new }
 {
-    match check_frame_text(text) {
-        Ok(()) => write_plain(text, buffer),
-        Err(refusal) => Err(refusal),
-    }
+    check_frame_text(text)?;
+    write_plain(text, buffer)
 }
