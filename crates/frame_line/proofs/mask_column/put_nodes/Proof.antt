@@ -1,6 +1,6 @@
 -- `frame_line::mask_column::put_nodes` meets its contract, by the laws of the crate. Assumes nothing.
 use Rattle.std.proofs.Common.{rules}
-use Rattle.files.proofs.append.Laws.{front_count}
+use Rattle.text.proofs.Laws.{front_count}
 use Rattle.frame_line.proofs.mask_column.put_nodes.Statement.{statement}
 use Rattle.frame_line.proofs.mask_column.put_nodes.Tie as tie
 
