@@ -105,7 +105,7 @@ pub fn frame_table(rows: &mut [u16], n: usize) -> usize
     let table = fill_first(records, rows, n, lent);
     for i in 0..lent {
         let record = table.records[i];
-        put_short_row(rows, i * ROW_WIDTH, &flat_row(record));
+        put_row(rows, i * ROW_WIDTH, &flat_row(record));
     }
     table.filled
 }
