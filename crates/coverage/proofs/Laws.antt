@@ -14,8 +14,8 @@ use Rattle.header.specs.declared.DecodedHeader.{DecodedHeader}
 use Rattle.header.specs.Decode.{decoded, told_of, table_after, Decodes}
 use Rattle.header.proofs.Room.{Stands, header-stands}
 use Rattle.totals.specs.Totals.{most}
-use Rattle.coverage.specs.Coverage.{
 use Rattle.std.specs.Prelude.{Result, Ok, Err}
+use Rattle.coverage.specs.Coverage.{
   headers,
   params,
   entries,

@@ -1,6 +1,6 @@
 // What frames have tried of a frame text: CV1 to CV4 of docs/RULES.md. A count for each H, P and E line and for each refusal of a header, raised frame by
 // frame in counts that the caller lends.
-#![tactic(auto)]
+#![tactic(auto, using(crate::proofs::Laws::laws))]
 
 ghost use Rattle.std.specs.Prelude.{◌≡◌, ◌+◌, ◌*◌, ◌≤◌, length, Ok};
 ghost use Rattle.frame_text.specs.Rules.{verdict};
@@ -31,7 +31,7 @@ pub const REFUSED: usize = ENTRY + ENTRIES - 5;
 // How many counts there are.
 pub const COUNTS: usize = REFUSED + 8;
 
-// Where a P line has no set.
+// Where a P line has no set. No Option: the caller lends the sets as bytes (fixed memory, and the C interface).
 pub const NO_SET: u8 = 16;
 
 // Counts one more at a place, if there is such a place and it has not reached the greatest number.
@@ -47,7 +47,8 @@ fn raise(counts: &mut [u64; COUNTS], at: usize)
     counts[at] += 1;
 }
 
-// The place of number k of n that stand from a place on; the number of counts where there is no such.
+// The place of number k of n that stand from a place on; the number of counts where there is no such. No Option: `raise` has to test the place anyway, since
+// a refusal's number may lie past the counts too.
 fn place_in(from: usize, n: usize, k: u64) -> usize
     requires { from + n ≤ size }
     ensures { result ≡ place_in from n k }
@@ -94,11 +95,9 @@ fn count_rows(rows: &[u64], n: usize, sets: &[u8; PARAMS], counts: &mut [u64; CO
     requires { n * row_width ≤ length rows.now }
     ensures { counts.new ≡ raised_all counts.old (rows_from sets.now rows.now 0 n) }
 {
-    let mut k: usize = 0;
-    while k < n {
+    for k in 0..n {
         let at = k * ROW_WIDTH;
         count_row(rows[at + NUMBER], rows[at + SYMBOL], sets, counts);
-        k += 1;
     }
 }
 

@@ -24,6 +24,7 @@ pub fn write_word(value: u64, buffer: &mut [u8]) -> Result<usize, Refusal>
     write(b"true", buffer)
 }
 
+// This and the next two differ in the call that spells the number, and are no longer than a call of one that takes it as a closure.
 pub fn write_decimal(value: u64, buffer: &mut [u8]) -> Result<usize, Refusal>
     ensures { Writes (decimalOf value) buffer.old result buffer.new }
 {

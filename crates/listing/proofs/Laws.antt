@@ -1,7 +1,7 @@
 -- Laws of judging and writing a listing. Assumes nothing.
 use mathlib.Core.Path.{◌≡◌, refl, sym, ap, ◌∙◌, subst}
 use mathlib.Core.List.{List}
-use Prim.Native.Nat.{ℕ, zero, suc, ◌*◌, ◌≤◌, ◌<◌}
+use Prim.Native.Nat.{ℕ, ◌*◌, ◌≤◌, ◌<◌}
 use native.Mathlib.Omega.{arith}
 use lib.ListN.{length, drop}
 use lib.Seq.{sets}
@@ -23,10 +23,9 @@ use Rattle.header_rules.proofs.Reading.{reading-only}
 use Rattle.header.specs.declared.DecodedHeader.{DecodedHeader}
 use Rattle.header.specs.Decode.{key_of, decoded, Decodes}
 use Rattle.header_named.specs.Named.{named, rows_of, GivesNamed, ReadsNamed}
-use Rattle.listing_text.specs.Listing.{closed, text_of, listing_of, form_of, differs}
+use Rattle.listing_text.specs.Listing.{closed, text_of, listing_of, names, form_of, differs}
 use Rattle.listing_text.specs.Steps.{rows_in, PutsAll}
-use Rattle.listing_text.specs.declared.form.Form.{Form}
-use Rattle.listing_text.specs.declared.form.Form.TheVariants.{Names, Wrong}
+use Rattle.listing_text.specs.declared.form.Named.{Named}
 use Rattle.listing_text.proofs.Written.{rows-laid, puts-all, names-written, form-written, differs_none, differs-same}
 use Rattle.listing.specs.declared.Judgement.{Judgement}
 use Rattle.listing.specs.declared.Judgement.TheVariants.{Yes, Differs, Refused}
@@ -35,26 +34,22 @@ use Rattle.listing.specs.Write.{Writes}
 use Rattle.listing.specs.Steps.{Own, Other, ByForm, WritesRows}
 use Rattle.listing.proofs.Naming.{named_at, named-number, one_first, one_reading, first-reading, table_wide}
 use Rattle.listing.proofs.Owning.{laid-long, header_own}
-use Rattle.std.specs.Prelude.{Option, Some, None, Result, Ok, Err}
+use Rattle.std.specs.Prelude.{Option, Some, None, Result, Ok, Err, unwrap_or}
 
 -- ---- yes or the line
-pub yes-none : (k : ℕ) → k ≡ 0 → Yes ≡ or_yes k
-yes-none k e = rw e refl
+pub yes-none : (x : Option ℕ) → x ≡ None → Yes ≡ or_yes x
+yes-none x e = rw e refl
 
-pub yes_line : (k : ℕ) → (k ≡ 0 → ⊥) → Differs k ≡ or_yes k
-yes_line zero n = absurd (n refl)
-yes_line (suc k) n = refl
+pub yes_line : (x : Option ℕ) (k : ℕ) → x ≡ Some k → Differs k ≡ or_yes x
+yes_line x k e = rw e refl
 
-pub last_none : (last k : ℕ) → k ≡ 0 → last ≡ or_last last k
-last_none last k e = rw e refl
+unwrapped : (x : Option ℕ) (last : ℕ) → unwrap_or x last ≡ or_last last x
+unwrapped None last = refl
+unwrapped (Some k) last = refl
 
-pub last_line : (last k : ℕ) → (k ≡ 0 → ⊥) → k ≡ or_last last k
-last_line last zero n = absurd (n refl)
-last_line last (suc k) n = refl
-
-same-yes : (k : ℕ) → or_yes k ≡ Yes → k ≡ 0
-same-yes zero e = refl
-same-yes (suc k) e = absurd (let z : ◌≡◌ {A = ℕ} 0 1 = cc in omega arith)
+same-yes : (x : Option ℕ) → or_yes x ≡ Yes → x ≡ None
+same-yes None e = refl
+same-yes (Some k) e = absurd (let z : ◌≡◌ {A = ℕ} 0 1 = cc in omega arith)
 
 same_base : (key : ℕ) (t : List ℕ) (a b : Base) → first_base key (definition t).bases ≡ Some a → first_base key (definition t).bases ≡ Some b
     → a ≡ b
@@ -98,12 +93,12 @@ module _ (t d : List ℕ) (key number : ℕ) (table : List ℕ) (x : Option ℕ)
         (omega (arith, gives.gives.few, gives.gives.count)) size in
         omega (arith, gives.gives.few)
 
-    pub other_line : (region speed : ℕ) (l : List ℕ) (last k line : ℕ) → key ≡ key_of t region speed
-        → k ≡ differs 1 (closed (rows_in count table') number) l → line ≡ or_last last k
+    pub other_line : (region speed : ℕ) (l : List ℕ) (last : ℕ) (k : Option ℕ) (line : ℕ) → key ≡ key_of t region speed
+        → k ≡ differs 1 (closed (rows_in count table') number) l → line ≡ unwrap_or k last
         → Other t d (key_of t region speed) l number last (Differs line)
     other_line region speed l last k line is_key is-k is-line =
         let line_is : line ≡ or_last last (differs 1 (closed own number) l) =
-        is-line ∙ ap (or_last last) (is-k ∙ ap (λ (rs : List (List ℕ)). differs 1 (closed rs number) l) rows_here) in
+        is-line ∙ unwrapped k last ∙ ap (or_last last) (is-k ∙ ap (λ (rs : List (List ℕ)). differs 1 (closed rs number) l) rows_here) in
         rw (← is_key)
         (record {
           no_candidate = λ b q n. absurd (some_none (named number (candidates_of key (definition t))) gives.one gives.one_is n);
@@ -138,13 +133,19 @@ module _ (t d : List ℕ) (key own-number count : ℕ) (table : List ℕ) (own :
   named_own : named own.one.number cs ≡ Some own.one
   named_own = named_at t key own.first.front own.one own.first.back own.first.place
 
-  pub beside_wrong : (l : List ℕ) (x : Form) (k : ℕ) → x ≡ form_of 1 (lines l) → x ≡ Wrong k
+  pub beside_wrong : (l : List ℕ) (x : Result Named ℕ) (k : ℕ) → x ≡ form_of 1 (lines l) → x ≡ Err k
       → ByForm t d key l (form_of 1 (lines l)) (Refused (Listing k))
   beside_wrong l x k e q = rw (sym e ∙ q) refl
 
-  module _ (l : List ℕ) (x : Form) (number last : ℕ) (is-form : x ≡ form_of 1 (lines l)) (names : x ≡ Names number last) where
-    form_is : form_of 1 (lines l) ≡ Names number last
-    form_is = sym is-form ∙ names
+  module _ (l : List ℕ) (x : Result Named ℕ) (n : Named) (is-form : x ≡ form_of 1 (lines l)) (is_named : x ≡ Ok n) where
+    abbrev number : ℕ
+    number = n.number
+
+    abbrev last : ℕ
+    last = n.line
+
+    form_is : form_of 1 (lines l) ≡ names number last
+    form_is = sym is-form ∙ is_named
 
     -- for the base header that was found
     by_base : (r : Judgement) → Against (definition t) d key own.base l number last r → ByForm t d key l (form_of 1 (lines l)) r
@@ -152,7 +153,7 @@ module _ (t d : List ℕ) (key own-number count : ℕ) (table : List ℕ) (own :
         rw form_is (λ b q. subst (λ (z : Base). Against (definition t) d key z l number last r) (same_base key t own.base b own.base_is q) a)
 
     -- the last line names it
-    pub beside_own : (k : ℕ) (r : Judgement) → number ≡ own-number → k ≡ differs 1 (closed (rows_in count table) number) l → r ≡ or_yes k
+    pub beside_own : (k : Option ℕ) (r : Judgement) → number ≡ own-number → k ≡ differs 1 (closed (rows_in count table) number) l → r ≡ or_yes k
         → ByForm t d key l (form_of 1 (lines l)) r
     beside_own k r e is-k is-r =
         let is : number ≡ own.one.number = e ∙ own.number_is in
@@ -177,7 +178,7 @@ module _ (t d : List ℕ) (key own-number count : ℕ) (table : List ℕ) (own :
               own.one,
               own.fields,
               own.first,
-              differs-same 1 (closed (table_of 7 d (definition t).sets own.fields) number) l (omega arith) (same-yes _ (sym r_is ∙ y))
+              differs-same 1 (closed (table_of 7 d (definition t).sets own.fields) number) l (same-yes _ (sym r_is ∙ y))
                   ∙ ap (listing_of (table_of 7 d (definition t).sets own.fields)) is,
             ),
             λ w.
@@ -211,7 +212,7 @@ module _ (t d : List ℕ) (key own-number count : ℕ) (table : List ℕ) (own :
                 let c-is : own.one ≡ w.0 = one_first d (trees own.base.params) cs own.one own.fields own.first w.0 w.1 w.2 in
                 let named_is : number ≡ w.0.number =
                 names-written 1 w.0.number number last (table_of 7 d (definition t).sets w.1) (table_wide d (definition t).sets w.1)
-                (subst (λ (z : List ℕ). form_of 1 (lines z) ≡ Names number last) w.3 form_is) in
+                (subst (λ (z : List ℕ). form_of 1 (lines z) ≡ names number last) w.3 form_is) in
                 absurd (e (named_is ∙ ap (λ (z : Candidate 7). z.number) (sym c-is) ∙ sym own.number_is)),
           );
         })
@@ -316,8 +317,6 @@ decoded_own t d region speed table r table' h c size q = header_own t d region s
 pub ruleset laws = (
   yes-none,
   yes_line,
-  last_none,
-  last_line,
   other_none,
   other_few,
   other-room,

@@ -15,8 +15,7 @@ use Rattle.header_rules.specs.Told.{candidates_of}
 use Rattle.header.specs.declared.DecodedHeader.{DecodedHeader}
 use Rattle.header.specs.Decode.{key_of, decoded}
 use Rattle.listing_text.specs.Listing.{listing_of, form_of}
-use Rattle.listing_text.specs.declared.form.Form.{Form}
-use Rattle.listing_text.specs.declared.form.Form.TheVariants.{Names, Wrong}
+use Rattle.listing_text.specs.declared.form.Named.{Named}
 use Rattle.listing.specs.declared.Judgement.{Judgement}
 use Rattle.listing.specs.declared.Judgement.TheVariants.{Yes, Refused}
 use Rattle.listing.specs.Judge.{Judges}
@@ -66,10 +65,10 @@ module _ (t d : List ℕ) (region speed : ℕ) where
       → l ≡ listing_of (table_of 7 d (definition t).sets own.fields) own.one.number
   yes_own l r j y h q own = go (form_of 1 (lines l)) refl
     where
-      go : (x : Form) → form_of 1 (lines l) ≡ x → l ≡ listing_of (table_of 7 d (definition t).sets own.fields) own.one.number
-      go (Wrong k) e = absurd (let z : Refused (Listing k) ≡ Yes = sym (j.wrong h k q e) ∙ y in let u : ◌≡◌ {A = ℕ} 0 1 = cc in omega arith)
-      go (Names number last) e =
-          let w = (j.judged h number last q e own.base own.base_is).exactly.0 y in
+      go : (x : Result Named ℕ) → form_of 1 (lines l) ≡ x → l ≡ listing_of (table_of 7 d (definition t).sets own.fields) own.one.number
+      go (Err k) e = absurd (let z : Refused (Listing k) ≡ Yes = sym (j.wrong h k q e) ∙ y in let u : ◌≡◌ {A = ℕ} 0 1 = cc in omega arith)
+      go (Ok n) e =
+          let w = (j.judged h n.number n.line q e own.base own.base_is).exactly.0 y in
           let c-is : w.0 ≡ own.one =
           one_first d (trees own.base.params) cs w.0 w.1 w.2 own.one own.fields own.first in
           let gs-are : w.1 ≡ own.fields =

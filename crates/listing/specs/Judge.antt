@@ -1,5 +1,5 @@
 -- LS4 to LS7 (docs/RULES.md): what is said of a listing, by the lawful readings and without any walk.
-use Rattle.std.specs.Prelude.{◌≡◌, ◌↔◌, List, ℕ, zero, suc, Some, None, Ok, Err}
+use Rattle.std.specs.Prelude.{◌≡◌, ◌↔◌, List, ℕ, Option, Some, None, Ok, Err}
 use Rattle.refusal.specs.declared.Refusal.{Refusal}
 use Rattle.refusal.specs.declared.Refusal.TheVariants.{Listing}
 use Rattle.text.specs.Text.{lines}
@@ -13,20 +13,19 @@ use Rattle.header_rules.specs.Told.{candidates_of}
 use Rattle.header.specs.Decode.{key_of, decoded}
 use Rattle.header.specs.declared.DecodedHeader.{DecodedHeader}
 use Rattle.header_named.specs.Named.{named}
-use Rattle.listing_text.specs.Listing.{closed, listing_of, form_of, differs}
-use Rattle.listing_text.specs.declared.form.Form.TheVariants.{Names, Wrong}
+use Rattle.listing_text.specs.Listing.{closed, listing_of, names, form_of, differs}
 use Rattle.listing.specs.declared.Judgement.{Judgement}
 use Rattle.listing.specs.declared.Judgement.TheVariants.{Yes, Differs, Refused}
 
 -- LS5: yes, where no line differs
-abbrev pub or_yes : ℕ → Judgement
-or_yes zero = Yes
-or_yes (suc k) = Differs (suc k)
+abbrev pub or_yes : Option ℕ → Judgement
+or_yes None = Yes
+or_yes (Some k) = Differs k
 
 -- LS6: the line that differs; the last, where only the header is wrong
-abbrev pub or_last : ℕ → ℕ → ℕ
-or_last last zero = last
-or_last last (suc k) = suc k
+abbrev pub or_last : ℕ → Option ℕ → ℕ
+or_last last None = last
+or_last last (Some k) = k
 
 -- LS5, LS6: what is said of the listing l, whose last line names the H of this number, by the base header b
 pub record Against (def : Definition) (d : List ℕ) (key : ℕ) (b : Base) (l : List ℕ) (number last : ℕ) (r : Judgement) : Type 0 where
@@ -47,8 +46,8 @@ pub record Against (def : Definition) (d : List ℕ) (key : ℕ) (b : Base) (l :
 -- LS4: what `judge_listing` answers: first as the header's call refuses by a table of 128 rows, then by the listing's form, then by its lines
 pub record Judges (t d : List ℕ) (region speed : ℕ) (l : List ℕ) (r : Judgement) : Type 0 where
   pub refused : (x : Refusal) → decoded t d region speed most_numbers ≡ Err x → r ≡ Refused x
-  pub wrong : (h : DecodedHeader) (k : ℕ) → decoded t d region speed most_numbers ≡ Ok h → form_of 1 (lines l) ≡ Wrong k
+  pub wrong : (h : DecodedHeader) (k : ℕ) → decoded t d region speed most_numbers ≡ Ok h → form_of 1 (lines l) ≡ Err k
       → r ≡ Refused (Listing k)
-  pub judged : (h : DecodedHeader) (number last : ℕ) → decoded t d region speed most_numbers ≡ Ok h → form_of 1 (lines l) ≡ Names number last
+  pub judged : (h : DecodedHeader) (number last : ℕ) → decoded t d region speed most_numbers ≡ Ok h → form_of 1 (lines l) ≡ names number last
       → (b : Base) → first_base (key_of t region speed) (definition t).bases ≡ Some b
       → Against (definition t) d (key_of t region speed) b l number last r

@@ -1,5 +1,5 @@
 -- What the steps below `judge_listing` and `write_listing` answer.
-use Rattle.std.specs.Prelude.{◌≡◌, List, ℕ, ◌≤◌, length, Some, None, Result, Ok}
+use Rattle.std.specs.Prelude.{◌≡◌, List, ℕ, ◌≤◌, length, Some, None, Result, Ok, Err}
 use Rattle.refusal.specs.Refusal.{most_frame}
 use Rattle.refusal.specs.declared.Refusal.TheVariants.{Listing}
 use Rattle.buffer.specs.Buffer.{Writes}
@@ -14,8 +14,7 @@ use Rattle.header_rules.specs.Told.{candidates_of}
 use Rattle.header_named.specs.Named.{named, rows_of}
 use Rattle.listing_text.specs.Listing.{closed, text_of, differs}
 use Rattle.listing_text.specs.Steps.{Small, rows_in}
-use Rattle.listing_text.specs.declared.form.Form.{Form}
-use Rattle.listing_text.specs.declared.form.Form.TheVariants.{Names, Wrong}
+use Rattle.listing_text.specs.declared.form.Named.{Named}
 use Rattle.listing.specs.declared.Judgement.{Judgement}
 use Rattle.listing.specs.declared.Judgement.TheVariants.{Differs, Refused}
 use Rattle.listing.specs.Judge.{or_last, Against}
@@ -43,9 +42,9 @@ pub record Other (t d : List ℕ) (key : ℕ) (l : List ℕ) (number last : ℕ)
       → r ≡ Differs (or_last last (differs 1 (closed (rows_of t d (trees b.params) c.params) number) l))
 
 -- by the listing's form
-abbrev pub ByForm : List ℕ → List ℕ → ℕ → List ℕ → Form → Judgement → Type 0
-ByForm t d key l (Names number last) r = (b : Base) → first_base key (definition t).bases ≡ Some b → Against (definition t) d key b l number last r
-ByForm t d key l (Wrong k) r = r ≡ Refused (Listing k)
+abbrev pub ByForm : List ℕ → List ℕ → ℕ → List ℕ → Result Named ℕ → Judgement → Type 0
+ByForm t d key l (Ok n) r = (b : Base) → first_base key (definition t).bases ≡ Some b → Against (definition t) d key b l n.number n.line r
+ByForm t d key l (Err k) r = r ≡ Refused (Listing k)
 
 -- the listing of the first rows of a table and of a number that fit into a listing
 pub record WritesRows (rows : List (List ℕ)) (b : List ℕ) (r : Result ℕ Refusal) (b' : List ℕ) : Type 0 where

@@ -11,13 +11,12 @@ use Rattle.header_rules.specs.Trees.{trees}
 use Rattle.header_rules.specs.Told.{candidates_of}
 use Rattle.header.specs.Decode.{key_of, decoded}
 use Rattle.header.specs.declared.DecodedHeader.{DecodedHeader}
-use Rattle.listing_text.specs.Listing.{listing_of, form_of}
-use Rattle.listing_text.specs.declared.form.Form.TheVariants.{Names}
+use Rattle.listing_text.specs.Listing.{listing_of, names, form_of}
 
 -- LS8, VT8: the listing of the rows and the number, which has the form of a listing, is answered and left in the buffer b
 pub record GivesListing (rows : List (List ℕ)) (number : ℕ) (b : List ℕ) (r : Result ℕ Refusal) (b' : List ℕ) : Type 0 where
   pub gives : WritesText (listing_of rows number) b r b'
-  pub form_is : form_of 1 (lines (listing_of rows number)) ≡ Names number (1 + length rows)
+  pub form_is : form_of 1 (lines (listing_of rows number)) ≡ names number (1 + length rows)
 
 -- LS8: what `write_listing` answers and leaves: as the header's call refuses, or the listing of the first candidate that holds
 pub record Writes (t d : List ℕ) (region speed : ℕ) (b : List ℕ) (r : Result ℕ Refusal) (b' : List ℕ) : Type 0 where

@@ -1,5 +1,5 @@
 // A dealer's listing of a header, judged; and our own answer as such a listing.
-#![tactic(auto)]
+#![tactic(auto, using(crate::proofs::Laws::laws))]
 
 ghost use Rattle.std.specs.Prelude.{◌≡◌, ◌*◌, ◌≤◌, length, Ok};
 ghost use Rattle.refusal.specs.Refusal.{most_frame};
@@ -9,14 +9,14 @@ ghost use Rattle.header.specs.Decode.{key_of};
 ghost use Rattle.listing_text.specs.Listing.{row_width, closed, form_of};
 ghost use Rattle.listing_text.specs.Steps.{rows_in};
 ghost use Rattle.header_rules.specs.Table.{most_numbers};
-ghost use Rattle.listing.specs.Judge.{or_yes, or_last, Judges};
+ghost use Rattle.listing.specs.Judge.{or_yes, Judges};
 ghost use Rattle.listing.specs.Write.{Writes};
 ghost use Rattle.listing.specs.Steps.{Own, Other, ByForm, WritesRows};
 
 use frame_definition::base_key;
 use header::{MOST_NUMBERS, decode_header};
 use header_named::read_named;
-use listing_text::{Form, first_difference, put_lines, read_form};
+use listing_text::{first_difference, put_lines, read_form};
 use refusal::Refusal;
 
 // What is said of a listing.
@@ -29,20 +29,13 @@ pub enum Judgement {
 }
 
 // Yes, where no line differs.
-fn or_yes(line: usize) -> Judgement
+fn or_yes(line: Option<usize>) -> Judgement
     ensures { result ≡ or_yes line }
 {
-    if line == 0 {
-        return Judgement::Yes;
+    match line {
+        Some(line) => Judgement::Differs(line),
+        None => Judgement::Yes,
     }
-    Judgement::Differs(line)
-}
-
-// The line that differs, or the last.
-fn or_last(last: usize, line: usize) -> usize
-    ensures { result ≡ or_last last line }
-{
-    if line == 0 { last } else { line }
 }
 
 // Where and how fast the frame was sent.
@@ -69,7 +62,8 @@ fn judge_other(
     let Some(count) = read_named(text, mpdu, key as u64, number, rows) else {
         return Judgement::Differs(last);
     };
-    Judgement::Differs(or_last(last, first_difference(listing, &rows[..], count, number)))
+    let line = first_difference(listing, &rows[..], count, number);
+    Judgement::Differs(line.unwrap_or(last))
 }
 
 // The header that was decoded: its number among the H lines, and how many rows it has.
@@ -93,13 +87,14 @@ fn judge_beside(
         (form_of 1 (lines listing.now)) result }
 {
     match read_form(listing) {
-        Form::Wrong(line) => Judgement::Refused(Refusal::Listing(line)),
-        Form::Names { number, line } => {
+        Ok(named) => {
+            let number = named.number;
             if number == answered.number as u64 {
                 return or_yes(first_difference(listing, &rows[..], answered.rows, number));
             }
-            judge_other(text, mpdu, sent, listing, number, line, rows)
+            judge_other(text, mpdu, sent, listing, number, named.line, rows)
         }
+        Err(line) => Judgement::Refused(Refusal::Listing(line)),
     }
 }
 
@@ -147,8 +142,6 @@ pub fn write_listing(
     ensures { Writes text.now mpdu.now region speed buffer.old result buffer.new }
 {
     let mut rows = [0u64; MOST_NUMBERS];
-    match decode_header(text, mpdu, region, speed, &mut rows) {
-        Ok(header) => write_rows(&rows, header.rows, header.number as u64, buffer),
-        Err(refusal) => Err(refusal),
-    }
+    let header = decode_header(text, mpdu, region, speed, &mut rows)?;
+    write_rows(&rows, header.rows, header.number as u64, buffer)
 }

@@ -7,6 +7,7 @@ use native.Mathlib.Omega.{arith}
 use lib.ListN.{length, take, drop, length-append, length-drop}
 use lib.Seq.{take_all, drop-drop, length-take-le}
 use Rattle.laws.proofs.Lists.{done, tail}
+use Rattle.std.specs.Prelude.{Option, Some, None}
 use Rattle.text.specs.Text.{same}
 use Rattle.text.specs.Print.{shown}
 use Rattle.text.proofs.Laws.{same_lengths}
@@ -21,23 +22,23 @@ line_some (x ∷ xs) h = omega (arith, length-append (shown x) (stop_of xs ∷ l
 
 -- ---- one line
 module _ (s numbers line₀ : List ℕ) (n : ℕ) (line : List ℕ) (w : Writes numbers line₀ n line) where
-  pub pass_short : length s < n → Passes numbers s 0
+  pub pass_short : length s < n → Passes numbers s None
   pass_short h =
       let e : take (length (line_of numbers)) s ≡ s = take_all (length (line_of numbers)) s (omega (arith, w.count)) in
       record {
         says = rw (e, ← same_lengths s (line_of numbers) (λ q. omega (arith, w.count))) refl;
-        within = omega arith;
+        within = λ m q. absurd (let z : ◌≡◌ {A = ℕ} 0 1 = cc in omega arith);
       }
 
   module _ (b : Bool) (test : b ≡ same (take n s) (take n line)) (size : length line₀ ≡ row_width * 21) where
     is_test : b ≡ begins (line_of numbers) s
     is_test = test ∙ rw (line_front numbers line₀ n line w size, w.count) refl
 
-    pub pass_same : n ≤ length s → b ≡ true → Passes numbers s n
-    pass_same h q = record { says = rw (sym is_test ∙ q) w.count; within = h }
+    pub pass_same : n ≤ length s → b ≡ true → Passes numbers s (Some n)
+    pass_same h q = record { says = rw (sym is_test ∙ q) (ap Some w.count); within = λ m e. let z : n ≡ m = cc in omega arith }
 
-    pub pass_other : b ≡ false → Passes numbers s 0
-    pass_other q = record { says = rw (sym is_test ∙ q) refl; within = omega arith }
+    pub pass_other : b ≡ false → Passes numbers s None
+    pass_other q = record { says = rw (sym is_test ∙ q) refl; within = λ m e. absurd (let z : ◌≡◌ {A = ℕ} 0 1 = cc in omega arith) }
 
 -- ---- line by line
 pub record Comparing (listing rows : List ℕ) (count number at k : ℕ) : Type 0 where
@@ -52,18 +53,20 @@ comparing_starts listing rows count number =
     record { within = omega arith; most = omega arith; so = rw e refl }
 
 -- the line of a row, or not
-by_line : (k : ℕ) (r : List ℕ) (rs : List (List ℕ)) (s : List ℕ) (n : ℕ) → 1 ≤ length r → Passes r s n
-    → ((n ≡ 0 → differs k (r ∷ rs) s ≡ k) × ((n ≡ 0 → ⊥) → differs k (r ∷ rs) s ≡ differs (k + 1) rs (drop n s)))
-by_line k r rs s n some p = go (begins (line_of r) s) refl
+by_line : (k : ℕ) (r : List ℕ) (rs : List (List ℕ)) (s : List ℕ) (x : Option ℕ) → Passes r s x
+    → ((x ≡ None → differs k (r ∷ rs) s ≡ Some k) × ((n : ℕ) → x ≡ Some n → differs k (r ∷ rs) s ≡ differs (k + 1) rs (drop n s)))
+by_line k r rs s x p = go (begins (line_of r) s) refl
   where
     go : (b : Bool) → begins (line_of r) s ≡ b
-        → ((n ≡ 0 → differs k (r ∷ rs) s ≡ k) × ((n ≡ 0 → ⊥) → differs k (r ∷ rs) s ≡ differs (k + 1) rs (drop n s)))
+        → ((x ≡ None → differs k (r ∷ rs) s ≡ Some k) × ((n : ℕ) → x ≡ Some n → differs k (r ∷ rs) s ≡ differs (k + 1) rs (drop n s)))
     go true e =
-        let z : n ≡ length (line_of r) = p.says ∙ rw e refl in
-        (λ h. absurd (omega (arith, line_some r some)), λ h. rw (e, z) refl)
-    go false e = let z : n ≡ 0 = p.says ∙ rw e refl in (λ h. rw e refl, λ h. absurd (h z))
+        let z : x ≡ Some (length (line_of r)) = p.says ∙ rw e refl in
+        (λ h. absurd (let u : ◌≡◌ {A = ℕ} 0 1 = cc in omega arith), λ n h. let m : n ≡ length (line_of r) = cc in rw (e, m) refl)
+    go false e =
+        let z : x ≡ None = p.says ∙ rw e refl in
+        (λ h. rw e refl, λ n h. absurd (let u : ◌≡◌ {A = ℕ} 0 1 = cc in omega arith))
 
-module _ (listing rows : List ℕ) (count number at k : ℕ) (w : Comparing listing rows count number at k) (n : ℕ) where
+module _ (listing rows : List ℕ) (count number at k : ℕ) (w : Comparing listing rows count number at k) (x : Option ℕ) where
   abbrev text : List ℕ
   text = take (length listing - at) (drop at listing)
 
@@ -73,15 +76,12 @@ module _ (listing rows : List ℕ) (count number at k : ℕ) (w : Comparing list
   size : length text ≡ length listing - at
   size = ap length (tail listing at) ∙ length-drop at listing
 
-  behind : drop n (drop at listing) ≡ drop (at + n) listing
-  behind = drop-drop n at listing
+  behind : (n : ℕ) → drop n (drop at listing) ≡ drop (at + n) listing
+  behind n = drop-drop n at listing
 
-  module _ (p : Passes row text n) (h : k < count) (room : count * row_width ≤ length rows) where
+  module _ (p : Passes row text x) (h : k < count) (room : count * row_width ≤ length rows) where
     seven : take row_width (drop (k * row_width) rows) ≡ row
     seven = let s : k * row_width + row_width - k * row_width ≡ row_width = omega arith in rw s refl
-
-    some : 1 ≤ length row
-    some = rw (← seven) (omega (arith, length-take-le row_width (drop (k * row_width) rows) (omega (arith, length-drop (k * row_width) rows))))
 
     abbrev further : List (List ℕ)
     further = closed (rows_in (count - (k + 1)) (drop ((k + 1) * row_width) rows)) number
@@ -92,22 +92,23 @@ module _ (listing rows : List ℕ) (count number at k : ℕ) (w : Comparing list
         ∙ ap (λ (r : List ℕ). differs (k + 1) (r ∷ further) (drop at listing)) seven
         ∙ ap (differs (k + 1) (row ∷ further)) (sym (tail listing at))
 
-    pub comparing_here : n ≡ 0 → k + 1 ≡ differs 1 (closed (rows_in count rows) number) listing
-    comparing_here z = sym (here ∙ (by_line (k + 1) row further text n some p).0 z)
+    pub comparing_here : x ≡ None → Some (k + 1) ≡ differs 1 (closed (rows_in count rows) number) listing
+    comparing_here z = sym (here ∙ (by_line (k + 1) row further text x p).0 z)
 
-    pub comparing_more : (n ≡ 0 → ⊥) → Comparing listing rows count number (at + n) (k + 1)
-    comparing_more z =
-        record {
-          within = omega (arith, p.within, size, w.within);
-          most = omega arith;
-          so = here ∙ (by_line (k + 1) row further text n some p).1 z
-              ∙ ap (differs (k + 1 + 1) further) (ap (drop n) (tail listing at) ∙ behind);
-        }
+    module _ (n : ℕ) (z : x ≡ Some n) where
+      pub comparing_more : Comparing listing rows count number (at + n) (k + 1)
+      comparing_more =
+          record {
+            within = omega (arith, p.within n z, size, w.within);
+            most = omega arith;
+            so = here ∙ (by_line (k + 1) row further text x p).1 n z
+                ∙ ap (differs (k + 1 + 1) further) (ap (drop n) (tail listing at) ∙ behind n);
+          }
 
-    pub comparing_room : at + n ≤ length listing
-    comparing_room = omega (arith, p.within, size, w.within)
+      pub comparing_room : at + n ≤ length listing
+      comparing_room = omega (arith, p.within n z, size, w.within)
 
-  module _ (p : Passes (number ∷ []) text n) (h : count ≤ k) where
+  module _ (p : Passes (number ∷ []) text x) (h : count ≤ k) where
     last : differs 1 (closed (rows_in count rows) number) listing ≡ differs (count + 1) ((number ∷ []) ∷ []) text
     last =
         let e : k ≡ count = omega (arith, w.most) in
@@ -115,31 +116,27 @@ module _ (listing rows : List ℕ) (count number at k : ℕ) (w : Comparing list
         ∙ ap (λ (m : ℕ). differs (m + 1) ((number ∷ []) ∷ []) (drop at listing)) e
         ∙ ap (differs (count + 1) ((number ∷ []) ∷ [])) (sym (tail listing at))
 
-    pub comparing_last : n ≡ 0 → count + 1 ≡ differs 1 (closed (rows_in count rows) number) listing
-    comparing_last z = sym (last ∙ (by_line (count + 1) (number ∷ []) [] text n (omega arith) p).0 z)
+    pub comparing_last : x ≡ None → Some (count + 1) ≡ differs 1 (closed (rows_in count rows) number) listing
+    comparing_last z = sym (last ∙ (by_line (count + 1) (number ∷ []) [] text x p).0 z)
 
-    past : (n ≡ 0 → ⊥) → differs 1 (closed (rows_in count rows) number) listing ≡ differs (count + 1 + 1) [] (drop (at + n) listing)
-    past z =
-        last ∙ (by_line (count + 1) (number ∷ []) [] text n (omega arith) p).1 z
-        ∙ ap (differs (count + 1 + 1) []) (ap (drop n) (tail listing at) ∙ behind)
+    module _ (n : ℕ) (z : x ≡ Some n) where
+      past : differs 1 (closed (rows_in count rows) number) listing ≡ differs (count + 1 + 1) [] (drop (at + n) listing)
+      past =
+          last ∙ (by_line (count + 1) (number ∷ []) [] text x p).1 n z
+          ∙ ap (differs (count + 1 + 1) []) (ap (drop n) (tail listing at) ∙ behind n)
 
-    pub comparing_same : (n ≡ 0 → ⊥) → at + n ≡ length listing → 0 ≡ differs 1 (closed (rows_in count rows) number) listing
-    comparing_same z e = sym (past z ∙ rw (done listing (at + n) (omega arith)) refl)
+      pub comparing_same : at + n ≡ length listing → None ≡ differs 1 (closed (rows_in count rows) number) listing
+      comparing_same e = sym (past ∙ rw (done listing (at + n) (omega arith)) refl)
 
-    pub comparing_longer : (n ≡ 0 → ⊥) → (at + n ≡ length listing → ⊥) → count + 2 ≡ differs 1 (closed (rows_in count rows) number) listing
-    comparing_longer z e =
-        let f : same (drop (at + n) listing) [] ≡ false =
-        sym (same_lengths (drop (at + n) listing) [] (λ q. omega (arith, length-drop (at + n) listing, p.within, size, w.within))) in
-        sym (past z ∙ rw f (omega arith))
+      pub comparing_longer : (at + n ≡ length listing → ⊥) → Some (count + 2) ≡ differs 1 (closed (rows_in count rows) number) listing
+      comparing_longer e =
+          let f : same (drop (at + n) listing) [] ≡ false =
+          sym (same_lengths (drop (at + n) listing) [] (λ q. omega (arith, length-drop (at + n) listing, p.within n z, size, w.within))) in
+          let m : count + 1 + 1 ≡ count + 2 = omega arith in
+          sym (past ∙ rw f (ap Some m))
 
-    pub comparing_end : at + n ≤ length listing
-    comparing_end = omega (arith, p.within, size, w.within)
-
-pub slice_some : (rows : List ℕ) (k : ℕ) → (k + 1) * row_width ≤ length rows
-    → 1 ≤ length (take (k * row_width + row_width - k * row_width) (drop (k * row_width) rows))
-slice_some rows k h =
-    let s : k * row_width + row_width - k * row_width ≡ row_width = omega arith in
-    rw s (omega (arith, length-take-le row_width (drop (k * row_width) rows) (omega (arith, length-drop (k * row_width) rows))))
+      pub comparing_end : at + n ≤ length listing
+      comparing_end = omega (arith, p.within n z, size, w.within)
 
 pub ruleset laws = (
   pass_short,
@@ -153,5 +150,4 @@ pub ruleset laws = (
   comparing_same,
   comparing_longer,
   comparing_end,
-  slice_some,
 )

@@ -16,10 +16,9 @@ use Rattle.text.proofs.Laws.{split-last, split-more}
 use Rattle.text.proofs.Judging.{split_some}
 use Rattle.numerals.specs.Numbers.{most, value_of}
 use Rattle.numerals.proofs.Decimals.{value_is, value_not}
-use Rattle.listing_text.specs.Listing.{row_width, numbers_in, at_end, last_of, form_of}
-use Rattle.listing_text.specs.declared.form.Form.{Form}
-use Rattle.listing_text.specs.declared.form.Form.TheVariants.{Names, Wrong}
-use Rattle.std.specs.Prelude.{Option, Some, None, is_some}
+use Rattle.listing_text.specs.Listing.{row_width, numbers_in, at_end, names, last_of, form_of}
+use Rattle.listing_text.specs.declared.form.Named.{Named}
+use Rattle.std.specs.Prelude.{Option, Some, None, is_some, Result, Err}
 
 -- ---- the numbers of a line, field by field
 pub record Counting (s : List ℕ) (at more : ℕ) : Type 0 where
@@ -108,15 +107,15 @@ module _ (s : List ℕ) (at more : ℕ) (w : Counting s at more) (some : 0 < mor
 
 -- ---- the last line
 module _ (s : List ℕ) (line : ℕ) (r : Option ℕ) (reads : r ≡ value_of s) where
-  pub last-names : (v : ℕ) → r ≡ Some v → Names v line ≡ last_of line s
+  pub last-names : (v : ℕ) → r ≡ Some v → names v line ≡ last_of line s
   last-names v q = let i = value_is s r reads v q in rw (i.0, i.1) refl
 
-  pub last_wrong : r ≡ None → Wrong line ≡ last_of line s
+  pub last_wrong : r ≡ None → Err line ≡ last_of line s
   last_wrong q = rw (value_not s r reads q) refl
 
 -- ---- line by line
 pub form_line : (n : ℕ) (l : List ℕ) (ls : List (List ℕ)) → (ls ≡ [] → ⊥)
-    → form_of n (l ∷ ls) ≡ cond (at_end ls) (last_of n l) (cond (numbers_in row_width (fields l)) (form_of (n + 1) ls) (Wrong n))
+    → form_of n (l ∷ ls) ≡ cond (at_end ls) (last_of n l) (cond (numbers_in row_width (fields l)) (form_of (n + 1) ls) (Err n))
 form_line n l [] h = absurd (h refl)
 form_line n l (m ∷ ms) h = refl
 
@@ -155,14 +154,14 @@ module _ (listing : List ℕ) (p : Place) (w : Forming listing p) (e : ℕ)
   size : length text ≡ length listing - p.at
   size = ap length text_is ∙ length-drop p.at listing
 
-  pub forming_open : e ≡ length text → Wrong p.line ≡ form_of 1 (lines listing)
+  pub forming_open : e ≡ length text → Err p.line ≡ form_of 1 (lines listing)
   forming_open h =
       sym (w.so ∙ ap (λ (l : List ℕ). form_of p.line (lines l)) (sym text_is) ∙ ap (form_of p.line) (split-last 10 text (sym is_cut ∙ h)))
 
   module _ (l : e ≤ length text) (h : e ≡ length text → ⊥) where
     here : form_of 1 (lines listing)
         ≡ cond (at_end (lines (drop (p.at + e + 1) listing))) (last_of p.line (take e text))
-        (cond (numbers_in row_width (fields (take e text))) (form_of (p.line + 1) (lines (drop (p.at + e + 1) listing))) (Wrong p.line))
+        (cond (numbers_in row_width (fields (take e text))) (form_of (p.line + 1) (lines (drop (p.at + e + 1) listing))) (Err p.line))
     here =
         let d : p.at + (e + 1) ≡ p.at + e + 1 = omega arith in
         let s : lines (drop p.at listing) ≡ take e text ∷ lines (drop (p.at + e + 1) listing) =
@@ -173,14 +172,14 @@ module _ (listing : List ℕ) (p : Place) (w : Forming listing p) (e : ℕ)
         w.so ∙ ap (form_of p.line) s ∙ (form_line p.line (take e text) (lines (drop (p.at + e + 1) listing))
         (split_some 10 (drop (p.at + e + 1) listing)))
 
-    pub forming_last : (r : Form) → p.at + e + 1 ≡ length listing → r ≡ last_of p.line (take e text) → r ≡ form_of 1 (lines listing)
+    pub forming_last : (r : Result Named ℕ) → p.at + e + 1 ≡ length listing → r ≡ last_of p.line (take e text) → r ≡ form_of 1 (lines listing)
     forming_last r n q = q ∙ sym (here ∙ rw (done listing (p.at + e + 1) (omega arith)) refl)
 
     module _ (n : p.at + e + 1 ≡ length listing → ⊥) (b : Bool) (row : b ≡ numbers_in row_width (fields (take e text))) where
       further : at_end (lines (drop (p.at + e + 1) listing)) ≡ false
       further = end_not (drop (p.at + e + 1) listing) (omega (arith, length-drop (p.at + e + 1) listing, size, w.within))
 
-      pub forming_wrong : b ≡ false → Wrong p.line ≡ form_of 1 (lines listing)
+      pub forming_wrong : b ≡ false → Err p.line ≡ form_of 1 (lines listing)
       forming_wrong q = sym (here ∙ rw (further, sym row ∙ q) refl)
 
       pub forming_more : b ≡ true → Forming listing (record { at = p.at + e + 1; line = p.line + 1 })

@@ -15,9 +15,10 @@ use Rattle.text.specs.Print.{Every, Clean, shown, joined}
 use Rattle.text.proofs.Judging.{split_some}
 use Rattle.text.proofs.Printing.{shown-up_to, shown-worth, clean_shown, split-joined, without-joined, joined-split, split-long, split-without, same_is}
 use Rattle.numerals.specs.Numbers.{most}
-use Rattle.listing_text.specs.Listing.{row_width, line_of, text_of, closed, listing_of, numbers_in, last_of, form_of, begins, differs}
+use Rattle.listing_text.specs.Listing.{row_width, line_of, text_of, closed, listing_of, numbers_in, names, last_of, form_of, begins, differs}
 use Rattle.listing_text.specs.Steps.{Small, rows_in, puts}
-use Rattle.listing_text.specs.declared.form.Form.TheVariants.{Names, Wrong}
+use Rattle.listing_text.specs.declared.form.Named.{Named}
+use Rattle.std.specs.Prelude.{Some, None, Result, Ok, Err}
 use Rattle.listing_text.proofs.Forming.{form_line, end_not}
 use Rattle.listing_text.proofs.Differing.{line_some}
 
@@ -84,7 +85,7 @@ last-form k m = ap (form_of k) (line_lines (m ∷ []) [] (omega arith))
 
 row-form : (k m : ℕ) (r : List ℕ) (rs : List (List ℕ)) → 1 ≤ length r
     → form_of k (lines (text_of (closed (r ∷ rs) m)))
-    ≡ cond (numbers_in row_width (fields (joined 9 (cells r)))) (form_of (k + 1) (lines (text_of (closed rs m)))) (Wrong k)
+    ≡ cond (numbers_in row_width (fields (joined 9 (cells r)))) (form_of (k + 1) (lines (text_of (closed rs m)))) (Err k)
 row-form k m r rs h =
     let rest : List ℕ = text_of (closed rs m) in
     ap (form_of k) (line_lines r (text_of (closed rs m)) h)
@@ -92,17 +93,21 @@ row-form k m r rs h =
     ∙ rw (end_not (text_of (closed rs m)) (text_some rs m)) refl
 
 -- it names the number that was written
-pub names-written : (k m n last : ℕ) (rows : List (List ℕ)) → Wide row_width rows → form_of k (lines (listing_of rows m)) ≡ Names n last → n ≡ m
+abbrev number_in : Result Named ℕ → ℕ
+number_in (Ok n) = n.number
+number_in (Err k) = 0
+
+pub names-written : (k m n last : ℕ) (rows : List (List ℕ)) → Wide row_width rows → form_of k (lines (listing_of rows m)) ≡ names n last → n ≡ m
 names-written k m n last [] w e = go (up_to most (shown m)) (sym (last-form k m) ∙ e)
   where
-    go : (b : Bool) → cond b (Names (worth 0 (shown m)) k) (Wrong k) ≡ Names n last → n ≡ m
-    go true q = let z : worth 0 (shown m) ≡ n = cc in sym z ∙ shown-worth m
+    go : (b : Bool) → cond b (names (worth 0 (shown m)) k) (Err k) ≡ names n last → n ≡ m
+    go true q = let z : worth 0 (shown m) ≡ n = ap number_in q in sym z ∙ shown-worth m
     go false q = absurd (let z : ◌≡◌ {A = ℕ} 0 1 = cc in omega arith)
 names-written k m n last (r ∷ rs) w e =
     go (numbers_in row_width (fields (joined 9 (cells r)))) (sym (row-form k m r rs (omega (arith, w.0))) ∙ e) (names-written (k + 1) m n last rs w.1)
   where
-    go : (b : Bool) → cond b (form_of (k + 1) (lines (text_of (closed rs m)))) (Wrong k) ≡ Names n last
-        → (form_of (k + 1) (lines (text_of (closed rs m))) ≡ Names n last → n ≡ m) → n ≡ m
+    go : (b : Bool) → cond b (form_of (k + 1) (lines (text_of (closed rs m)))) (Err k) ≡ names n last
+        → (form_of (k + 1) (lines (text_of (closed rs m))) ≡ names n last → n ≡ m) → n ≡ m
     go true q ih = ih q
     go false q ih = absurd (let z : ◌≡◌ {A = ℕ} 0 1 = cc in omega arith)
 
@@ -112,7 +117,7 @@ numbers-shown (x ∷ xs) s = rw (shown-up_to most x s.0) (numbers-shown xs s.1)
 
 -- and is of the form, where the numbers are small enough
 pub form-written : (k m : ℕ) (rows : List (List ℕ)) → Wide row_width rows → Every Small (closed rows m)
-    → form_of k (lines (listing_of rows m)) ≡ Names m (k + length rows)
+    → form_of k (lines (listing_of rows m)) ≡ names m (k + length rows)
 form-written k m [] w s =
     let e : k + 0 ≡ k = omega arith in
     last-form k m ∙ rw (shown-up_to most m s.0.0, shown-worth m, e) refl
@@ -122,7 +127,7 @@ form-written k m (r ∷ rs) w s =
     let g : numbers_in row_width (fields (joined 9 (cells r))) ≡ true =
     ap (numbers_in row_width) f ∙ ap (λ (n : ℕ). numbers_in n (cells r)) (sym w.0) ∙ numbers-shown r s.0 in
     let e : k + 1 + length rs ≡ k + suc (length rs) = omega arith in
-    row-form k m r rs some ∙ rw g (form-written (k + 1) m rs w.1 s.1) ∙ ap (Names m) e
+    row-form k m r rs some ∙ rw g (form-written (k + 1) m rs w.1 s.1) ∙ ap (names m) e
   where
     cells_some : (r : List ℕ) → 1 ≤ length r → 1 ≤ length (cells r)
     cells_some [] h = absurd (omega arith)
@@ -136,23 +141,23 @@ begins_front l rest = rw (take_at l rest (length l) refl) (same_refl l)
     same_refl [] = refl
     same_refl (x ∷ xs) = rw (eq-eqb x x refl) (same_refl xs)
 
-pub differs_none : (n : ℕ) (rs : List (List ℕ)) → differs n rs (text_of rs) ≡ 0
+pub differs_none : (n : ℕ) (rs : List (List ℕ)) → differs n rs (text_of rs) ≡ None
 differs_none n [] = refl
 differs_none n (r ∷ rs) =
     rw (begins_front (line_of r) (text_of rs), drop_at (line_of r) (text_of rs) (length (line_of r)) refl) (differs_none (n + 1) rs)
 
-pub differs-same : (n : ℕ) (rs : List (List ℕ)) (s : List ℕ) → 1 ≤ n → differs n rs s ≡ 0 → s ≡ text_of rs
-differs-same n [] s h e = go (same s []) refl e
+pub differs-same : (n : ℕ) (rs : List (List ℕ)) (s : List ℕ) → differs n rs s ≡ None → s ≡ text_of rs
+differs-same n [] s e = go (same s []) refl e
   where
-    go : (b : Bool) → same s [] ≡ b → cond b 0 n ≡ 0 → s ≡ []
+    go : (b : Bool) → same s [] ≡ b → cond b None (Some n) ≡ None → s ≡ []
     go true q z = same_is s [] q
-    go false q z = absurd (omega arith)
-differs-same n (r ∷ rs) s h e = go (begins (line_of r) s) refl e (differs-same (n + 1) rs (drop (length (line_of r)) s) (omega arith))
+    go false q z = absurd (let u : ◌≡◌ {A = ℕ} 0 1 = cc in omega arith)
+differs-same n (r ∷ rs) s e = go (begins (line_of r) s) refl e (differs-same (n + 1) rs (drop (length (line_of r)) s))
   where
-    go : (b : Bool) → begins (line_of r) s ≡ b → cond b (differs (n + 1) rs (drop (length (line_of r)) s)) n ≡ 0
-        → (differs (n + 1) rs (drop (length (line_of r)) s) ≡ 0 → drop (length (line_of r)) s ≡ text_of rs) → s ≡ line_of r ++ text_of rs
+    go : (b : Bool) → begins (line_of r) s ≡ b → cond b (differs (n + 1) rs (drop (length (line_of r)) s)) (Some n) ≡ None
+        → (differs (n + 1) rs (drop (length (line_of r)) s) ≡ None → drop (length (line_of r)) s ≡ text_of rs) → s ≡ line_of r ++ text_of rs
     go true q z ih =
         let f : take (length (line_of r)) s ≡ line_of r = same_is (take (length (line_of r)) s) (line_of r) q in
         sym (take-append-drop (length (line_of r)) s) ∙ ap (λ (l : List ℕ). l ++ drop (length (line_of r)) s) f
         ∙ ap (λ (l : List ℕ). line_of r ++ l) (ih z)
-    go false q z ih = absurd (omega arith)
+    go false q z ih = absurd (let u : ◌≡◌ {A = ℕ} 0 1 = cc in omega arith)

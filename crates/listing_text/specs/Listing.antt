@@ -1,10 +1,9 @@
 -- LS1 to LS3 (docs/RULES.md): the text of a listing, its form, and the first of its lines that differs.
-use Rattle.std.specs.Prelude.{ℕ, zero, suc, ◌+◌, Bool, true, false, cond, ◌&&◌, List, [], ◌∷◌, ◌++◌, length, take, drop}
+use Rattle.std.specs.Prelude.{ℕ, zero, suc, ◌+◌, Bool, true, false, cond, ◌&&◌, List, [], ◌∷◌, ◌++◌, length, take, drop, Option, Some, None, Result, Ok, Err}
 use Rattle.text.specs.Text.{fields, same, up_to, worth}
 use Rattle.text.specs.Print.{shown}
 use Rattle.numerals.specs.Numbers.{most}
-use Rattle.listing_text.specs.declared.form.Form.{Form}
-use Rattle.listing_text.specs.declared.form.Form.TheVariants.{Names, Wrong}
+use Rattle.listing_text.specs.declared.form.Named.{Named}
 
 -- ---- LS1: the text
 
@@ -51,16 +50,20 @@ at_end ([] ∷ []) = true
 at_end ([] ∷ l ∷ ls) = false
 at_end ((x ∷ xs) ∷ ls) = false
 
+-- LS2: the last line, which is line k, names the header of this number
+abbrev pub names : ℕ → ℕ → Result Named ℕ
+names number k = Ok (record { number = number; line = k })
+
 -- LS2: the last line, whose number is n
-abbrev pub last_of : ℕ → List ℕ → Form
-last_of n l = cond (up_to most l) (Names (worth 0 l) n) (Wrong n)
+abbrev pub last_of : ℕ → List ℕ → Result Named ℕ
+last_of n l = cond (up_to most l) (names (worth 0 l) n) (Err n)
 
 -- LS2: what the lines of a listing from line n on say, and last what stands after the last 0x0A: which header the last line names,
 -- or the first line that is not of the form
-abbrev pub form_of : ℕ → List (List ℕ) → Form
-form_of n [] = Wrong n
-form_of n (l ∷ []) = Wrong n
-form_of n (l ∷ m ∷ ms) = cond (at_end (m ∷ ms)) (last_of n l) (cond (numbers_in row_width (fields l)) (form_of (n + 1) (m ∷ ms)) (Wrong n))
+abbrev pub form_of : ℕ → List (List ℕ) → Result Named ℕ
+form_of n [] = Err n
+form_of n (l ∷ []) = Err n
+form_of n (l ∷ m ∷ ms) = cond (at_end (m ∷ ms)) (last_of n l) (cond (numbers_in row_width (fields l)) (form_of (n + 1) (m ∷ ms)) (Err n))
 
 -- ---- LS3: the first line that differs
 
@@ -68,7 +71,7 @@ form_of n (l ∷ m ∷ ms) = cond (at_end (m ∷ ms)) (last_of n l) (cond (numbe
 abbrev pub begins : List ℕ → List ℕ → Bool
 begins l s = same (take (length l) s) l
 
--- LS3: s, from line n on, beside the lines of these rows: the first line that differs, or 0 where none does
-abbrev pub differs : ℕ → List (List ℕ) → List ℕ → ℕ
-differs n [] s = cond (same s []) 0 n
-differs n (r ∷ rs) s = cond (begins (line_of r) s) (differs (n + 1) rs (drop (length (line_of r)) s)) n
+-- LS3: s, from line n on, beside the lines of these rows: the first line that differs, if one does
+abbrev pub differs : ℕ → List (List ℕ) → List ℕ → Option ℕ
+differs n [] s = cond (same s []) None (Some n)
+differs n (r ∷ rs) s = cond (begins (line_of r) s) (differs (n + 1) rs (drop (length (line_of r)) s)) (Some n)

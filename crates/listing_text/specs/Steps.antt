@@ -1,5 +1,5 @@
 -- What the steps of reading, writing and comparing a listing answer.
-use Rattle.std.specs.Prelude.{ℕ, zero, suc, ◌+◌, ◌≤◌, ◌*◌, cond, ◌≡◌, List, [], ◌∷◌, ◌++◌, eqb, length, take, drop}
+use Rattle.std.specs.Prelude.{ℕ, zero, suc, ◌+◌, ◌≤◌, ◌*◌, cond, ◌≡◌, List, [], ◌∷◌, ◌++◌, eqb, length, take, drop, Option, Some, None}
 use Rattle.std.proofs.lemmas.List.Edits.{sets}
 use Rattle.rows.specs.Rows.{put}
 use Rattle.text.specs.Print.{Every, shown}
@@ -28,10 +28,10 @@ pub record Writes (numbers line : List ℕ) (r : ℕ) (line' : List ℕ) : Type 
 abbrev pub stop_before : ℕ → ℕ
 stop_before more = cond (eqb more 0) 0x0a 0x09
 
--- s begins with the line of these numbers, which has r bytes; or it does not, and r is 0
-pub record Passes (numbers s : List ℕ) (r : ℕ) : Type 0 where
-  pub says : r ≡ cond (begins (line_of numbers) s) (length (line_of numbers)) 0
-  pub within : r ≤ length s
+-- how many bytes the line of these numbers has, if s begins with it
+pub record Passes (numbers s : List ℕ) (r : Option ℕ) : Type 0 where
+  pub says : r ≡ cond (begins (line_of numbers) s) (Some (length (line_of numbers))) None
+  pub within : (n : ℕ) → r ≡ Some n → n ≤ length s
 
 -- the first n rows of a table, seven numbers each
 abbrev pub rows_in : ℕ → List ℕ → List (List ℕ)

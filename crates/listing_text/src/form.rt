@@ -7,13 +7,11 @@ use crate::lines::ROW_WIDTH;
 use numerals::numbers::read_value;
 use text::{Place, find};
 
-// What a listing says by its form.
+// The header that a listing names: its number, and the last line, on which that stands.
 #[derive(Clone, Copy)]
-pub enum Form {
-    // The last line, of this number, names the header of that number.
-    Names { number: u64, line: usize },
-    // The first line that is not of the form.
-    Wrong(usize),
+pub struct Named {
+    pub number: u64,
+    pub line: usize,
 }
 
 // Are the fields of a line the numbers of a row?
@@ -35,18 +33,16 @@ fn is_row(s: &[u8]) -> bool
     false
 }
 
-// What the last line says.
-fn read_last(s: &[u8], line: usize) -> Form
+// What the last line names, or that it is not of the form.
+fn read_last(s: &[u8], line: usize) -> Result<Named, usize>
     ensures { result ≡ last_of line s.now }
 {
-    match read_value(s) {
-        Some(number) => Form::Names { number, line },
-        None => Form::Wrong(line),
-    }
+    let number = read_value(s).ok_or(line)?;
+    Ok(Named { number, line })
 }
 
-// What a listing says by its form.
-pub fn read_form(listing: &[u8]) -> Form
+// What a listing names, or the first line that is not of the form.
+pub fn read_form(listing: &[u8]) -> Result<Named, usize>
     ensures { result ≡ form_of 1 (lines listing.now) }
 {
     let mut place = Place::start();
@@ -56,14 +52,14 @@ pub fn read_form(listing: &[u8]) -> Form
         let rest = &listing[at..];
         let e = find(rest, 10);
         if e == rest.len() {
-            return Form::Wrong(line);
+            return Err(line);
         }
         let next = at + e + 1;
         if next == listing.len() {
             return read_last(&rest[..e], line);
         }
         if !is_row(&rest[..e]) {
-            return Form::Wrong(line);
+            return Err(line);
         }
         place = Place {
             at: next,

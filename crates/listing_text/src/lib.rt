@@ -6,5 +6,5 @@ mod form;
 mod lines;
 
 pub use difference::first_difference;
-pub use form::{Form, read_form};
+pub use form::{Named, read_form};
 pub use lines::put_lines;

@@ -617,11 +617,11 @@ module _ (t : List ℕ) (start q : Place) (w : Looking t start q) where
 
 pub ruleset looking_laws = (looking_starts, looking_end, looking_over, looking_has, looking_hit, over_less)
 
-pub head_less : (t : List ℕ) (p : Place) (r : Option Head) (h : declared.Head) → FindsHead t p r → r ≡ Some h
+pub head_less : (t : List ℕ) (p : Place) (r : Option declared.Head) (h : declared.Head) → FindsHead t p r → r ≡ Some h
     → length t - h.place.at < length t - p.at
 head_less t p r h found e = let is : IsHead t p h = rw e at found in omega (arith, is.on, is.readable.inn.at_in)
 
-pub head-readable : (t : List ℕ) (p : Place) (r : Option Head) (h : declared.Head) → FindsHead t p r → r ≡ Some h
+pub head-readable : (t : List ℕ) (p : Place) (r : Option declared.Head) (h : declared.Head) → FindsHead t p r → r ≡ Some h
     → Readable rules t h.place
 head-readable t p r h found e = let is : IsHead t p h = rw e at found in is.readable
 
@@ -634,7 +634,7 @@ pub counting_starts : (t : List ℕ) (number : ℕ) (p : Place) → verdict t �
 counting_starts t number p v e =
     record { counted = ap (head_of_number number) (sym (ap (heads_at t) e ∙ heads-start t)); readable = readable-start rules t p v e }
 
-module _ (t : List ℕ) (number left : ℕ) (p : Place) (w : Counting t number left p) (r : Option Head) (found : FindsHead t p r) where
+module _ (t : List ℕ) (number left : ℕ) (p : Place) (w : Counting t number left p) (r : Option declared.Head) (found : FindsHead t p r) where
   pub counting_none : r ≡ None → FindsNumbered t number None
   counting_none e =
       let z : heads_at t p ≡ [] = rw e at found in
@@ -862,7 +862,7 @@ pub record Apart (t : List ℕ) (f : declared.Head) (place : Place) : Type 0 whe
 pub apart_starts : (t : List ℕ) (f : declared.Head) → Readable rules t f.place → Apart t f f.place
 apart_starts t f h = record { left = refl; readable = h }
 
-module _ (t : List ℕ) (f : declared.Head) (p : Place) (w : Apart t f p) (r : Option Head) (found : FindsHead t p r) where
+module _ (t : List ℕ) (f : declared.Head) (p : Place) (w : Apart t f p) (r : Option declared.Head) (found : FindsHead t p r) where
   pub apart_done : r ≡ None → true ≡ apart_from_all (head_at t f) (heads_at t f.place)
   apart_done e = let z : heads_at t p ≡ [] = rw e at found in sym (w.left ∙ ap (apart_from_all (head_at t f)) z)
 
@@ -890,7 +890,7 @@ unfolding harmless
 all-apart_starts t p v e =
     record { left = ap all_apart (sym (ap (heads_at t) e ∙ heads-start t)); readable = readable-start rules t p v e }
 
-module _ (t : List ℕ) (p : Place) (w : AllApart t p) (r : Option Head) (found : FindsHead t p r) where
+module _ (t : List ℕ) (p : Place) (w : AllApart t p) (r : Option declared.Head) (found : FindsHead t p r) where
   pub all-apart_done : r ≡ None → true ≡ harmless t
   all-apart_done e = let z : heads_at t p ≡ [] = rw e at found in sym (w.left ∙ ap all_apart z)
 
@@ -910,12 +910,12 @@ module _ (t : List ℕ) (p : Place) (w : AllApart t p) (r : Option Head) (found 
 pub ruleset apart_laws = (apart_starts, apart_done, apart-not, apart_more, all-apart_starts, all-apart_done, all-apart-not, all-apart-more)
 
 -- ---- the calls
-module _ (t : List ℕ) (a b : ℕ) (r : Option Head) (found : FindsNumbered t a r) where
+module _ (t : List ℕ) (a b : ℕ) (r : Option declared.Head) (found : FindsNumbered t a r) where
   pub both_first : r ≡ None → 4 ≡ tell_numbers t a b
   unfolding tell_numbers
   both_first e = let z : head_of_number a (heads_of t) ≡ None = rw e at found in rw z refl
 
-  module _ (f : declared.Head) (e : r ≡ Some f) (s : Option Head) (beside : FindsNumbered t b s) where
+  module _ (f : declared.Head) (e : r ≡ Some f) (s : Option declared.Head) (beside : FindsNumbered t b s) where
     first_is : IsNumbered t a f
     first_is = rw e at found
 
@@ -927,7 +927,7 @@ module _ (t : List ℕ) (a b : ℕ) (r : Option Head) (found : FindsNumbered t a
     unfolding tell_numbers
     both_told g q k is = let z : IsNumbered t b g = rw q at beside in rw (first_is.is, z.is) is
 
-pub numbered-readable : (t : List ℕ) (n : ℕ) (r : Option Head) (f : declared.Head) → FindsNumbered t n r → r ≡ Some f
+pub numbered-readable : (t : List ℕ) (n : ℕ) (r : Option declared.Head) (f : declared.Head) → FindsNumbered t n r → r ≡ Some f
     → Readable rules t f.place
 numbered-readable t n r f found e = let z : IsNumbered t n f = rw e at found in z.readable
 
@@ -951,17 +951,14 @@ module _ (t : List ℕ) (v : Result (Unit {0}) Refusal) (is : Checks rules t v) 
   pub checked : v ≡ Ok tt → verdict t ≡ Ok tt
   checked e = sym is.is ∙ e
 
-  pub pair_accepted : (a b k : ℕ) (r : Overlap) → v ≡ Ok tt → k ≡ tell_numbers t a b → r ≡ overlap_of k → TellsApart t a b r
-  pair_accepted a b k r e f g = record { answer = g ∙ ap overlap_of f ∙ rw (← is.is, e) refl }
+  pub pair_accepted : (a b k : ℕ) (r : Overlap) → v ≡ Ok tt → k ≡ tell_numbers t a b → r ≡ overlap_of k → TellsApart t a b (Ok r)
+  pair_accepted a b k r e f g = record { answer = ap Ok (g ∙ ap overlap_of f) ∙ rw (← is.is, e) refl }
 
-  pub pair_refused : (a b : ℕ) (x : Refusal) → v ≡ Err x → TellsApart t a b (overlap.Refused x)
+  pub pair_refused : (a b : ℕ) (x : Refusal) → v ≡ Err x → TellsApart t a b (Err x)
   pair_refused a b x e = record { answer = rw (← is.is, e) refl }
 
-  pub text-yes : (b : Bool) → v ≡ Ok tt → b ≡ harmless t → b ≡ true → TellsHarmless t (Ok true)
-  text-yes b e f q = record { answer = rw (← is.is, e, ← f, q) refl }
-
-  pub text-no : (b : Bool) → v ≡ Ok tt → b ≡ harmless t → b ≡ false → TellsHarmless t (Ok false)
-  text-no b e f q = record { answer = rw (← is.is, e, ← f, q) refl }
+  pub text_told : (b : Bool) → v ≡ Ok tt → b ≡ harmless t → TellsHarmless t (Ok b)
+  text_told b e f = record { answer = ap Ok f ∙ rw (← is.is, e) refl }
 
   pub text-refused : (x : Refusal) → v ≡ Err x → TellsHarmless t (Err x)
   text-refused x e = record { answer = rw (← is.is, e) refl }
@@ -979,8 +976,7 @@ pub ruleset call_laws = (
   checked,
   pair_accepted,
   pair_refused,
-  text-yes,
-  text-no,
+  text_told,
   text-refused,
 )
 

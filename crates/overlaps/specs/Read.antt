@@ -48,7 +48,7 @@ pub record IsHead (t : List ℕ) (p : Place) (h : declared.Head) : Type 0 where
   pub readable : Readable rules t h.place
   pub on : p.at < h.place.at
 
-abbrev pub FindsHead : List ℕ → Place → Option Head → Type 0
+abbrev pub FindsHead : List ℕ → Place → Option declared.Head → Type 0
 FindsHead t p (Some h) = IsHead t p h
 FindsHead t p None = heads_at t p ≡ []
 
@@ -57,7 +57,7 @@ pub record IsNumbered (t : List ℕ) (n : ℕ) (h : declared.Head) : Type 0 wher
   pub is : head_of_number n (heads_of t) ≡ Some (head_at t h)
   pub readable : Readable rules t h.place
 
-abbrev pub FindsNumbered : List ℕ → ℕ → Option Head → Type 0
+abbrev pub FindsNumbered : List ℕ → ℕ → Option declared.Head → Type 0
 FindsNumbered t n (Some h) = IsNumbered t n h
 FindsNumbered t n None = head_of_number n (heads_of t) ≡ None
 

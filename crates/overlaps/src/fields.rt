@@ -32,6 +32,7 @@ fn meet(text: &[u8], one: Place, other: Place, level: usize, name: &[u8]) -> Opt
     let mut a = one;
     let mut b = other;
     loop {
+        // Not by `?`: what it hands on is no answer of this function's own, and the proof did not close.
         let Some((field, place)) = next_param(text, a, 0) else {
             return None;
         };

@@ -51,9 +51,7 @@ pub fn find_header(text: &[u8], number: usize) -> Option<Head>
     let mut place = Place::start();
     let mut left = number;
     loop {
-        let Some(head) = next_header(text, place) else {
-            return None;
-        };
+        let head = next_header(text, place)?;
         if left == 0 {
             return Some(head);
         }
@@ -109,21 +107,19 @@ fn tell_each(text: &[u8], one: Place, other: Place, path: Part, value: u16) -> u
 {
     let mut place = other;
     let mut most = 0;
-    loop {
-        let NextValidation::At {
-            path: beside,
-            value: another,
-            place: next,
-        } = next_validation(text, place)
-        else {
-            return most;
-        };
+    while let NextValidation::At {
+        path: beside,
+        value: another,
+        place: next,
+    } = next_validation(text, place)
+    {
         most = greater(
             most,
             tell_one(text, one, other, path, value, beside, another),
         );
         place = next;
     }
+    most
 }
 
 // The most that all V of both tell.
@@ -134,18 +130,16 @@ fn tell_all(text: &[u8], one: Place, other: Place) -> u64
 {
     let mut place = one;
     let mut most = 0;
-    loop {
-        let NextValidation::At {
-            path,
-            value,
-            place: next,
-        } = next_validation(text, place)
-        else {
-            return most;
-        };
+    while let NextValidation::At {
+        path,
+        value,
+        place: next,
+    } = next_validation(text, place)
+    {
         most = greater(most, tell_each(text, one, other, path, value));
         place = next;
     }
+    most
 }
 
 // Is this base key k?
@@ -175,14 +169,7 @@ fn is_validated(text: &[u8], place: Place) -> bool
     requires { Readable rules text.now place }
     ensures { result ≡ some? (valids_at text.now place) }
 {
-    match next_validation(text, place) {
-        NextValidation::At {
-            path: _,
-            value: _,
-            place: _,
-        } => true,
-        NextValidation::Nothing => false,
-    }
+    matches!(next_validation(text, place), NextValidation::At { .. })
 }
 
 // Are both candidates for one base key?
@@ -218,15 +205,13 @@ fn is_apart(text: &[u8], one: Head) -> bool
     ensures { result ≡ apart_from_all (head_at text.now one) (heads_at text.now one.place) }
 {
     let mut place = one.place;
-    loop {
-        let Some(other) = next_header(text, place) else {
-            return true;
-        };
+    while let Some(other) = next_header(text, place) {
         if tell_heads(text, one, other) < 3 {
             return false;
         }
         place = other.place;
     }
+    true
 }
 
 // Are every two headers of an accepted text apart?
@@ -235,13 +220,11 @@ pub fn all_apart(text: &[u8]) -> bool
     ensures { result ≡ harmless text.now }
 {
     let mut place = Place::start();
-    loop {
-        let Some(one) = next_header(text, place) else {
-            return true;
-        };
+    while let Some(one) = next_header(text, place) {
         if !is_apart(text, one) {
             return false;
         }
         place = one.place;
     }
+    true
 }

@@ -1,5 +1,5 @@
 // May two headers of a frame text hold together? Their V lines on one path with other values keep them apart, where the path finds the same field by both.
-#![tactic(auto)]
+#![tactic(auto, using(crate::proofs::Laws::decided_laws, crate::proofs::Laws::led_laws, crate::proofs::Laws::laws, crate::proofs::Laws::meet_laws))]
 
 mod fields;
 mod headers;
@@ -12,7 +12,7 @@ ghost use Rattle.overlaps.specs.Calls.{overlap_of, TellsApart, TellsHarmless};
 
 use frame_text::check_frame_text;
 use headers::tell_heads;
-pub use headers::{Head, NextHeader, all_apart, find_header};
+pub use headers::{Head, all_apart, find_header};
 use refusal::Refusal;
 
 // What is told of two headers.
@@ -28,18 +28,18 @@ pub enum Overlap {
     SameValues,
     // or with other values, of fields of their own that the path may find at other places.
     OwnFields,
-    Refused(Refusal),
 }
 
-// What is told of the headers of two numbers, by an accepted text: 4 where there is none of a number.
+// What is told of the headers of two numbers, by an accepted text: 4 where there is none of a number. A number and no Overlap: of several the greatest is
+// told.
 pub fn tell_numbers(text: &[u8], a: usize, b: usize) -> u64
     requires { verdict text.now ≡ Ok tt }
     ensures { result ≡ tell_numbers text.now a b }
 {
-    let NextHeader::At(one) = find_header(text, a) else {
+    let Some(one) = find_header(text, a) else {
         return 4;
     };
-    let NextHeader::At(other) = find_header(text, b) else {
+    let Some(other) = find_header(text, b) else {
         return 4;
     };
     tell_heads(text, one, other)
@@ -59,21 +59,17 @@ fn overlap_of(told: u64) -> Overlap
 }
 
 // Whether the headers of two numbers can hold together, or why it cannot be told.
-pub fn tell_apart(text: &[u8], a: usize, b: usize) -> Overlap
+pub fn tell_apart(text: &[u8], a: usize, b: usize) -> Result<Overlap, Refusal>
     ensures { TellsApart text.now a b result }
 {
-    match check_frame_text(text) {
-        Ok(()) => overlap_of(tell_numbers(text, a, b)),
-        Err(refusal) => Overlap::Refused(refusal),
-    }
+    check_frame_text(text)?;
+    Ok(overlap_of(tell_numbers(text, a, b)))
 }
 
 // Whether no order of the H blocks matters.
 pub fn is_harmless(text: &[u8]) -> Result<bool, Refusal>
     ensures { TellsHarmless text.now result }
 {
-    match check_frame_text(text) {
-        Ok(()) => { if all_apart(text) { Ok(true) } else { Ok(false) } }
-        Err(refusal) => Err(refusal),
-    }
+    check_frame_text(text)?;
+    Ok(all_apart(text))
 }

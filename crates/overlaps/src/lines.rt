@@ -92,10 +92,7 @@ pub fn has_outer(text: &[u8], start: Place, name: &[u8]) -> bool
     ensures { result ≡ has_outer name.now (said_at text.now start) }
 {
     let mut place = start;
-    loop {
-        let Some((field, after)) = next_param(text, place, 0) else {
-            return false;
-        };
+    while let Some((field, after)) = next_param(text, place, 0) {
         place = after;
         if field.level != 0 {
             continue;
@@ -105,6 +102,7 @@ pub fn has_outer(text: &[u8], start: Place, name: &[u8]) -> bool
             return true;
         }
     }
+    false
 }
 
 // Behind a P of this level, order and name, up to the next of a lower level: has none of its level a lower order or its name?
@@ -113,10 +111,7 @@ fn is_clear(text: &[u8], start: Place, level: u16, order: u16, name: Part) -> bo
     ensures { result ≡ clear_of level order (part_of text.now name) (said_at text.now start) }
 {
     let mut place = start;
-    loop {
-        let Some((field, after)) = next_param(text, place, 0) else {
-            return true;
-        };
+    while let Some((field, after)) = next_param(text, place, 0) {
         place = after;
         if field.level < level {
             return true;
@@ -131,6 +126,7 @@ fn is_clear(text: &[u8], start: Place, level: u16, order: u16, name: Part) -> bo
             return false;
         }
     }
+    true
 }
 
 // Do the P lines of the header at a place stand as they are read, and have no two of one list the same name?
@@ -139,13 +135,11 @@ pub fn is_straight(text: &[u8], start: Place) -> bool
     ensures { result ≡ straight (said_at text.now start) }
 {
     let mut place = start;
-    loop {
-        let Some((field, after)) = next_param(text, place, 0) else {
-            return true;
-        };
+    while let Some((field, after)) = next_param(text, place, 0) {
         place = after;
         if !is_clear(text, after, field.level, field.order, field.name) {
             return false;
         }
     }
+    true
 }

@@ -24,7 +24,6 @@ use Rattle.text.specs.Print.{Every}
 use Rattle.text.proofs.Laws.{front_count}
 use Rattle.frame_text.specs.Form.{Record}
 use Rattle.frame_text.specs.Rules.{rules, verdict}
-use Rattle.frame_definition.proofs.Finding.{owner_laws}
 use Rattle.reorder.specs.Blocks.{only, letter_of, ended}
 use Rattle.reorder.specs.Sorted.{up_to, insert_by, sort_by, placed, sorted_text}
 use Rattle.sorting.specs.Sorting.{name_at, behind, earlier, is_header, starts_from, starts_at, section_bytes, gathered, Here, Between, Starts}
@@ -80,10 +79,11 @@ module _ (t a₀ a : List ℕ) (k i it : ℕ) (w : Inserting t a₀ a k i it) wh
   put_it : set a i it ≡ take i a ++ it ∷ drop (i + 1) a
   put_it = set_split a i it w.inside ∙ ap (λ (n : ℕ). take i a ++ it ∷ drop n a) (sym (add-one i))
 
-  pub insert-last : length a ≤ i + 1 → set a i it ≡ take k a₀ ++ insert_by (earlier t) (get_or a₀ k 0) (drop (k + 1) a₀)
-  insert-last h =
-      let e : drop (i + 1) a ≡ [] = done a (i + 1) h in
-      put_it ∙ rw e refl ∙ (rw e at w.left)
+  pub insert-last : (m : ℕ) → m ≡ length a₀ - 1 → m ≤ i → set a m it ≡ take k a₀ ++ insert_by (earlier t) (get_or a₀ k 0) (drop (k + 1) a₀)
+  insert-last m e h =
+      let s : m ≡ i = omega (arith, w.same, w.inside) in
+      let n : drop (i + 1) a ≡ [] = done a (i + 1) (omega (arith, w.same, w.inside)) in
+      ap (λ (j : ℕ). set a j it) s ∙ put_it ∙ rw n refl ∙ (rw n at w.left)
 
   module _ (h : i + 1 < length a) where
     pub insert_here : (b : Bool) → b ≡ earlier t it (get_or a (i + 1) 0) → b ≡ true
@@ -403,5 +403,4 @@ pub ruleset laws = (
   choose_laws,
   place_laws,
   whole_laws,
-  owner_laws,
 )

@@ -1,18 +1,18 @@
 // A frame text with its H blocks sorted by name, written into a lent buffer. At most 64 blocks: where they begin is kept, and nothing of the text is copied
 // before it is written.
-#![tactic(auto)]
+#![tactic(auto, using(crate::proofs::Laws::laws))]
 
 ghost use Rattle.std.specs.Prelude.{◌≡◌, ◌++◌, ◌+◌, ◌≤◌, ◌<◌, length, get_or, take, drop, Ok};
 ghost use Rattle.std.proofs.lemmas.List.Edits.{sets};
 ghost use Rattle.buffer.specs.Buffer.{Writes};
 ghost use Rattle.text.specs.Print.{Every};
 ghost use Rattle.frame_text.specs.Rules.{verdict};
-ghost use Rattle.frame_definition.specs.Find.{owner_kind};
 ghost use Rattle.reorder.specs.Sorted.{up_to, insert_by, sort_by, placed, sorted_text};
 ghost use Rattle.sorting.specs.Sorting.{name_at, behind, earlier, is_header, starts_at, section_bytes, gathered, Here, Starts, Ends, Chooses};
 ghost use Rattle.sorting.specs.Sorting.{Puts, Collects, CollectsSorted, Sorts};
 
 use buffer::put;
+use frame_definition::is_owner;
 use frame_text::check_frame_text;
 use readers::line_fields::field_of;
 use refusal::Refusal;
@@ -25,15 +25,13 @@ const HEADERS: usize = 64;
 fn is_up_to(a: &[u8], b: &[u8]) -> bool
     ensures { result ≡ up_to a.now b.now }
 {
-    let mut i = 0;
-    while i < a.len() {
+    for (i, x) in a.iter().enumerate() {
         if b.len() <= i {
             return false;
         }
-        if a[i] != b[i] {
-            return a[i] < b[i];
+        if *x != b[i] {
+            return *x < b[i];
         }
-        i += 1;
     }
     true
 }
@@ -65,44 +63,25 @@ fn insert(text: &[u8], starts: &mut [usize], k: usize)
         ++ insert_by (earlier text.now) (get_or starts.old k 0) (drop (k + 1) starts.old) }
 {
     let it = starts[k];
-    let mut i = k;
-    while i + 1 < starts.len() {
+    let last = starts.len() - 1;
+    for i in k..last {
         let next = starts[i + 1];
         if is_earlier(text, it, next) {
             starts[i] = it;
             return;
         }
         starts[i] = next;
-        i += 1;
     }
-    starts[i] = it;
+    starts[last] = it;
 }
 
 // Sorts blocks by name; those of one name stay as they stood.
 fn sort(text: &[u8], starts: &mut [usize])
     ensures { starts.new ≡ sort_by (earlier text.now) starts.old }
 {
-    let mut k = starts.len();
-    while 0 < k {
-        k -= 1;
+    for k in (0..starts.len()).rev() {
         insert(text, starts, k);
     }
-}
-
-// Does a line of this kind own what follows?
-fn is_owner(kind: u8) -> bool
-    ensures { result ≡ owner_kind kind }
-{
-    if kind == b'F' {
-        return true;
-    }
-    if kind == b'B' {
-        return true;
-    }
-    if kind == b'H' {
-        return true;
-    }
-    kind == b'D'
 }
 
 // The place behind the line at a place.
@@ -231,8 +210,6 @@ fn sort_within(text: &[u8], buffer: &mut [u8]) -> Result<usize, Refusal>
 pub fn sort_headers(text: &[u8], buffer: &mut [u8]) -> Result<usize, Refusal>
     ensures { Sorts text.now buffer.old result buffer.new }
 {
-    match check_frame_text(text) {
-        Ok(()) => sort_within(text, buffer),
-        Err(refusal) => Err(refusal),
-    }
+    check_frame_text(text)?;
+    sort_within(text, buffer)
 }

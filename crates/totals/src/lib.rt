@@ -1,5 +1,5 @@
 // The totals of a capture: TO1 to TO5 of docs/RULES.md. One payload at a time is added to totals that the caller lends.
-#![tactic(auto)]
+#![tactic(auto, using(crate::proofs::Laws::laws))]
 
 ghost use Rattle.std.specs.Prelude.{◌≡◌, true, cond, not, [], ◌∷◌, ◌≤◌, ◌<◌, length, Ok};
 ghost use Rattle.frame_text.specs.Rules.{verdict};
@@ -131,9 +131,7 @@ fn frame_in(rates: &[u8; 512], body: &[u8], rules: Rules) -> Option<PtiFrame>
     requires width_bound { (rules.width ≤ 5) × (length body.now < most_payload) }
     ensures { result ≡ framed_in rules body.now }
 {
-    let Some(parts) = split_body(rates, body, rules) else {
-        return None;
-    };
+    let parts = split_body(rates, body, rules)?;
     let reading = rules.reading;
     Some(frame_of(body, reading, parts))
 }
@@ -178,10 +176,7 @@ fn count_frames(
     ensures { sums.new ≡ tally_rows (frame_counts text.now region payload.now) zeros (rows_of rules payload.now) }
 {
     let mut at: usize = 1;
-    loop {
-        let Some(span) = next_body(payload, at) else {
-            return;
-        };
+    while let Some(span) = next_body(payload, at) {
         count_body(rates, text, payload, region, rules, span, sums);
         at = span.end.0 + 2;
     }
@@ -202,15 +197,13 @@ fn passes(totals: &[u64], sums: &[u64]) -> bool
     requires { (length totals.now ≡ size) × (length sums.now ≡ size) }
     ensures { result ≡ not (within (plus totals.now sums.now)) }
 {
-    let mut i: usize = 0;
-    while i < totals.len() {
-        if MOST < totals[i] {
+    for (i, total) in totals.iter().enumerate() {
+        if MOST < *total {
             return true;
         }
-        if MOST - totals[i] < sums[i] {
+        if MOST - *total < sums[i] {
             return true;
         }
-        i += 1;
     }
     false
 }
@@ -221,10 +214,8 @@ fn raise(totals: &mut [u64], sums: &[u64])
     requires sums_value { within (plus totals.old sums.now) ≡ true }
     ensures { totals.new ≡ plus totals.old sums.now }
 {
-    let mut i: usize = 0;
-    while i < totals.len() {
-        totals[i] += sums[i];
-        i += 1;
+    for (i, n) in sums.iter().enumerate() {
+        totals[i] += *n;
     }
 }
 
@@ -280,8 +271,6 @@ pub fn add_payload(
     if rules.width == 0 {
         return Err(Refusal::Firmware(firmware));
     }
-    match check_frame_text(text) {
-        Ok(()) => add_accepted(text, region, firmware, reading, payload, totals),
-        Err(refusal) => Err(refusal),
-    }
+    check_frame_text(text)?;
+    add_accepted(text, region, firmware, reading, payload, totals)
 }

@@ -1,5 +1,5 @@
 // The totals of a capture as a page of lines: TO6 of docs/RULES.md.
-#![tactic(auto)]
+#![tactic(auto, using(crate::proofs::Laws::laws))]
 
 ghost use Rattle.std.specs.Prelude.{cond, ◌≡◌, [], ◌*◌, ◌≤◌, eqb, length, take};
 ghost use Rattle.buffer.specs.Buffer.{Writes};
@@ -71,10 +71,8 @@ fn append_keys(totals: &[u64], buffer: &mut [u8]) -> usize
     ensures { Appends 157696 (key_lines 0 (take wrong_at totals.now)) buffer.old 0 result buffer.new }
 {
     let mut at: usize = 0;
-    let mut i: usize = 0;
-    while i < WRONG {
+    for i in 0..WRONG {
         at = append_key(buffer, at, i, totals[i]);
-        i += 1;
     }
     at
 }

@@ -1,0 +1,6 @@
+use Rattle.std.proofs.Common.{rules}
+use Rattle.totals_text.proofs.Laws.{laws}
+use Rattle.totals_text.proofs.write_totals.Goals as goal
+
+pub returns : goal.returns
+returns c = search (rules, laws)
