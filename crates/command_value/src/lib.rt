@@ -1,5 +1,5 @@
 // What is shown of a row of a command: VT2 and VT11 of docs/RULES.md. The row that is asked for is walked to, and names the lines that say how.
-#![tactic(auto)]
+#![tactic(auto, using(crate::proofs::Laws::laws))]
 
 mod lookup;
 
@@ -61,10 +61,8 @@ pub fn value_accepted(
     requires { verdict text.now ≡ Ok tt }
     ensures { CommandValue offsets text.now payload.now row buffer.old result buffer.new }
 {
-    match row_accepted(text, payload, offsets, row) {
-        Ok(found) => row_value(text, payload, found, buffer),
-        Err(refusal) => Err(refusal),
-    }
+    let found = row_accepted(text, payload, offsets, row)?;
+    row_value(text, payload, found, buffer)
 }
 
 // A value of a command as people read it: of the row of this number, from 0, with offsets read in one of the two ways. Answers its length, or refuses
@@ -78,8 +76,6 @@ pub fn command_value(
 ) -> Result<usize, Refusal>
     ensures { CommandValue offsets text.now payload.now row buffer.old result buffer.new }
 {
-    match check_command_text(text) {
-        Ok(()) => value_accepted(text, payload, offsets, row, buffer),
-        Err(refusal) => Err(refusal),
-    }
+    check_command_text(text)?;
+    value_accepted(text, payload, offsets, row, buffer)
 }

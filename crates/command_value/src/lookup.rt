@@ -65,10 +65,7 @@ fn is_ascii_at(text: &[u8], place: Place, letter: u8, seen: bool) -> bool
 fn is_seen(seen: bool, kind: u8, letter: u8) -> bool
     ensures { result ≡ (seen || eqb kind letter) }
 {
-    if seen {
-        return true;
-    }
-    kind == letter
+    seen || kind == letter
 }
 
 // With the line at a place more: the first of this number is kept.
@@ -118,11 +115,7 @@ pub fn shown_by(text: &[u8], start: Place, n: u64) -> Shown
 pub fn is_ascii(shown: Shown) -> bool
     ensures { result ≡ ascii_by shown }
 {
-    match shown {
-        Shown::Ascii => true,
-        Shown::Named(_) => false,
-        Shown::Plain => false,
-    }
+    matches!(shown, Shown::Ascii)
 }
 
 // The name that a value is shown by; nothing where it has none.

@@ -1,5 +1,5 @@
 // A frame text from the XML that other makers exchange: X11 of docs/RULES.md.
-#![tactic(auto)]
+#![tactic(auto, using(crate::proofs::Laws::copy_laws, crate::proofs::Laws::turn_laws))]
 
 ghost use Rattle.std.specs.Prelude.{◌≡◌, None};
 ghost use Rattle.xml_document.specs.Document.{verdict, text_of};
@@ -16,10 +16,8 @@ use xml_reader::put_text;
 fn copy(text: &[u8], buffer: &mut [u8]) -> Result<usize, Refusal>
     ensures { Copies text.now buffer.old result buffer.new }
 {
-    match check_frame_text(text) {
-        Ok(()) => write(text, buffer),
-        Err(refusal) => Err(refusal),
-    }
+    check_frame_text(text)?;
+    write(text, buffer)
 }
 
 // The same for the text that a document says, with which nothing is wrong.

@@ -109,15 +109,18 @@ module _ (d k e : ℕ) (c : List ℕ) (is : e ≡ enter d k) (b : Bool) (shut : 
   pub opened_open : b ≡ false → e ≡ cond (closed c) (leave (enter d k) k) (enter d k)
   opened_open t = rw (← shut, t) is
 
-module _ (d : ℕ) (c : List ℕ) (t : Tag) (is : t ≡ tag_of c) where
-  pub moved_bad : (n : ℕ) → t ≡ Bad n → 15 ≡ moved d c (tag_of c)
-  moved_bad n q = rw (← is, q)
+module _ (d : ℕ) (c : List ℕ) (t : Tag) where
+  pub moved_bad : (n : ℕ) → t ≡ Bad n → 15 ≡ moved d c t
+  moved_bad n q = rw q
 
-  pub moved-shut : (k r : ℕ) → t ≡ Shut k → r ≡ leave d k → r ≡ moved d c (tag_of c)
-  moved-shut k r q e = rw (← is, q) e
+  pub moved-shut : (k r : ℕ) → t ≡ Shut k → r ≡ leave d k → r ≡ moved d c t
+  moved-shut k r q e = rw q e
 
-  pub moved_open : (k r : ℕ) → t ≡ Open k → r ≡ cond (closed c) (leave (enter d k) k) (enter d k) → r ≡ moved d c (tag_of c)
-  moved_open k r q e = rw (← is, q) e
+  pub moved_open : (k r : ℕ) → t ≡ Open k → r ≡ cond (closed c) (leave (enter d k) k) (enter d k) → r ≡ moved d c t
+  moved_open k r q e = rw q e
+
+  pub moved_tag : t ≡ tag_of c → (r : ℕ) → r ≡ moved d c t → r ≡ moved d c (tag_of c)
+  moved_tag is r e = e ∙ ap (moved d c) is
 
 pub ruleset moved_laws = (
   enter-param,
@@ -132,6 +135,7 @@ pub ruleset moved_laws = (
   moved_bad,
   moved-shut,
   moved_open,
+  moved_tag,
 )
 
 -- ---- where the fault is
@@ -375,16 +379,9 @@ module _ (c : List ℕ) (l : ℕ) (at-l : l ≡ lead c) where
         let g' : is_bad (tag_from l (skip c)) ≡ false = ap is_bad tag_is ∙ g in
         ap Open (rw one at k_is) ∙ from_open l (skip c) q' g' ∙ tag_is
 
-module _ (d : ℕ) (c : List ℕ) (t : Tag) (is : Glimpsed c t) where
-  pub goes_bad : (n : ℕ) → t ≡ Bad n → Goes d c 15
-  goes_bad n q g = moved_bad d c t (is g) n q
+pub goes : (d : ℕ) (c : List ℕ) (t : Tag) → Glimpsed c t → (r : ℕ) → r ≡ moved d c t → Goes d c r
+goes d c t is r e g = e ∙ ap (moved d c) (is g)
 
-  pub goes_shut : (k r : ℕ) → t ≡ Shut k → r ≡ leave d k → Goes d c r
-  goes_shut k r q e g = moved-shut d c t (is g) k r q e
-
-  pub goes_open : (k r : ℕ) → t ≡ Open k → r ≡ cond (closed c) (leave (enter d k) k) (enter d k) → Goes d c r
-  goes_open k r q e g = moved_open d c t (is g) k r q e
-
-pub ruleset glance_laws = (glance_short, glance_shut, glance_open, front_count, goes_bad, goes_shut, goes_open)
+pub ruleset glance_laws = (glance_short, glance_shut, glance_open, front_count, goes)
 
 pub ruleset laws = (deeper_laws, moved_laws, place_laws, start_laws, check_laws, glance_laws)

@@ -1,5 +1,5 @@
 // A document: where we are in it, and where its first fault is. X4, X7 and X8 of docs/RULES.md.
-#![tactic(auto)]
+#![tactic(auto, using(crate::proofs::Laws::check_laws, crate::proofs::Laws::deeper_laws, crate::proofs::Laws::moved_laws, crate::proofs::Laws::place_laws, crate::proofs::Laws::glance_laws, crate::proofs::Laws::start_laws))]
 
 ghost use Rattle.std.specs.Prelude.{◌≡◌, cond, ◌+◌, ◌^◌, ◌≤◌, ◌<◌, length};
 ghost use Rattle.xml_tags.specs.Tags.{tag_of, closed};
@@ -18,41 +18,24 @@ use xml_values::{is_white, lead, word_len};
 fn deeper(d: usize) -> usize
     ensures { result ≡ deeperOf d }
 {
-    if d == 2 {
-        return 16;
+    match d {
+        2 => 16,
+        3 => 24,
+        16..=22 | 24..=30 => d + 1,
+        _ => NOWHERE,
     }
-    if d == 3 {
-        return 24;
-    }
-    if d < 16 {
-        return NOWHERE;
-    }
-    if 30 < d {
-        return NOWHERE;
-    }
-    if d == 23 {
-        return NOWHERE;
-    }
-    d + 1
 }
 
 // Where a Param that ends leads.
 fn shallower(d: usize) -> usize
     ensures { result ≡ shallowerOf d }
 {
-    if d == 16 {
-        return 2;
+    match d {
+        16 => 2,
+        24 => 3,
+        17..=31 => d - 1,
+        _ => NOWHERE,
     }
-    if d == 24 {
-        return 3;
-    }
-    if d < 17 {
-        return NOWHERE;
-    }
-    if 31 < d {
-        return NOWHERE;
-    }
-    d - 1
 }
 
 // Where the start of element k leads from d.
@@ -96,15 +79,22 @@ fn opened(d: usize, c: &[u8], k: usize) -> usize
     e
 }
 
-// Where the tag c leads from d.
-fn moved(d: usize, c: &[u8]) -> usize
-    ensures { let c = c.entry.now in result ≡ movedOf d c (tag_of c) }
+// Where the tag c leads from d, by what it is.
+fn follow(d: usize, c: &[u8], tag: Tag) -> usize
+    ensures { result ≡ movedOf d c.entry.now tag }
 {
-    match read_tag(c) {
+    match tag {
         Tag::Bad(_) => NOWHERE,
         Tag::Shut(k) => leave(d, k),
         Tag::Open(k) => opened(d, c, k),
     }
+}
+
+// Where the tag c leads from d.
+fn moved(d: usize, c: &[u8]) -> usize
+    ensures { let c = c.entry.now in result ≡ movedOf d c (tag_of c) }
+{
+    follow(d, c, read_tag(c))
 }
 
 // ---- the first fault
@@ -116,14 +106,7 @@ fn fault_at(place: usize, c: &[u8]) -> usize
 {
     match read_tag(c) {
         Tag::Bad(n) => place + n,
-        Tag::Shut(_) => {
-            let l = lead(c);
-            place + l
-        }
-        Tag::Open(_) => {
-            let l = lead(c);
-            place + l
-        }
+        Tag::Shut(_) | Tag::Open(_) => place + lead(c),
     }
 }
 
@@ -133,11 +116,8 @@ fn last_fault(d: usize, c: &[u8], place: usize) -> Option<usize>
     ensures { result ≡ last_fault d place c.now }
 {
     let l = lead(c);
-    if d == BEHIND {
-        if l == c.len() {
-            return None;
-        }
-        return Some(place + l);
+    if d == BEHIND && l == c.len() {
+        return None;
     }
     Some(place + l)
 }
@@ -146,16 +126,7 @@ fn last_fault(d: usize, c: &[u8], place: usize) -> Option<usize>
 fn is_declaration(c: &[u8]) -> bool
     ensures { result ≡ is_declaration c.now }
 {
-    if c.len() < 6 {
-        return false;
-    }
-    if is_same(&c[..5], b"<?xml") {
-        if is_white(c[5]) {
-            return c[c.len() - 1] == b'?';
-        }
-        return false;
-    }
-    false
+    c.len() >= 6 && is_same(&c[..5], b"<?xml") && is_white(c[5]) && c[c.len() - 1] == b'?'
 }
 
 // How many bytes a declaration takes at the front of x.
@@ -163,10 +134,7 @@ pub fn start_of(x: &[u8]) -> usize
     ensures { (result ≡ start x.now) × (result ≤ length x.now) }
 {
     let e = tag_end(x);
-    if e == x.len() {
-        return 0;
-    }
-    if is_declaration(&x[..e]) {
+    if e != x.len() && is_declaration(&x[..e]) {
         return e + 1;
     }
     0
@@ -218,9 +186,5 @@ pub fn glance(c: &[u8]) -> Tag
 pub fn pass_over(d: usize, c: &[u8]) -> usize
     ensures { Goes d c.now result }
 {
-    match glance(c) {
-        Tag::Bad(_) => NOWHERE,
-        Tag::Shut(k) => leave(d, k),
-        Tag::Open(k) => opened(d, c, k),
-    }
+    follow(d, c, glance(c))
 }

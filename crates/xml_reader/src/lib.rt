@@ -1,5 +1,5 @@
 // The text that a document says, written by passes over its tags: X9 and X10 of docs/RULES.md.
-#![tactic(auto)]
+#![tactic(auto, using(crate::proofs::Laws::body_laws, crate::proofs::Laws::tag_laws, crate::proofs::Laws::block_laws, crate::proofs::Laws::blocking_laws, crate::proofs::Laws::line_laws, crate::proofs::Laws::owned_laws, crate::proofs::Laws::picking_laws, crate::proofs::Laws::tag_line_laws, crate::proofs::Laws::text_laws, crate::proofs::Laws::values_laws))]
 
 ghost use Rattle.std.specs.Prelude.{◌≡◌, false, [], ◌∷◌, ◌++◌, ◌≤◌, eqb, length, drop, None};
 ghost use Rattle.text.specs.Text.{split};
@@ -83,13 +83,7 @@ fn put_tag_line(out: &mut [u8; ROOM], n: usize, d: usize, k: usize, c: &[u8]) ->
 fn is_owner(w: u8) -> bool
     ensures { result ≡ owns w }
 {
-    match w {
-        b'F' => true,
-        b'B' => true,
-        b'H' => true,
-        b'D' => true,
-        _ => false,
-    }
+    matches!(w, b'F' | b'B' | b'H' | b'D')
 }
 
 // Writes the line of the tag c, if it starts an element of the letter w.
@@ -98,8 +92,7 @@ fn put_tag(out: &mut [u8; ROOM], n: usize, d: usize, c: &[u8], w: u8) -> Option<
     ensures { let c = c.entry.now in Tagged out.old out.new n d c w (tag_of c) result }
 {
     match glance(c) {
-        Tag::Bad(_) => Some(n),
-        Tag::Shut(_) => Some(n),
+        Tag::Bad(_) | Tag::Shut(_) => Some(n),
         Tag::Open(k) => {
             let letter = letter_of(k);
             if is_owner(letter) {
@@ -127,14 +120,10 @@ fn put_picked(x: &[u8], d: usize, at: usize, w: u8, out: &mut [u8; ROOM], n: usi
         if e == rest.len() {
             return next;
         }
-        match put_tag(out, next, here, &rest[..e], w) {
-            None => {
-                return next;
-            }
-            Some(m) => {
-                next = m;
-            }
-        }
+        let Some(m) = put_tag(out, next, here, &rest[..e], w) else {
+            return next;
+        };
+        next = m;
         here = pass_over(here, &rest[..e]);
         from = from + e + 1;
     }
@@ -167,8 +156,7 @@ fn put_block(
     ensures { let c = c.entry.now in Laid out.old out.new n result (block_bytes w x.now d to c (tag_of c)) }
 {
     match glance(c) {
-        Tag::Bad(_) => n,
-        Tag::Shut(_) => n,
+        Tag::Bad(_) | Tag::Shut(_) => n,
         Tag::Open(k) => {
             if letter_of(k) == w {
                 let m = put_tag_line(out, n, d, k, c);

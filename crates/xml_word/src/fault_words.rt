@@ -28,10 +28,8 @@ fn behind(spot: Spot, byte: u8) -> Spot {
 // The place behind all these bytes.
 fn end_of(x: &[u8]) -> Spot {
     let mut spot = Spot { line: 1, column: 1 };
-    let mut i: usize = 0;
-    while i < x.len() {
-        spot = behind(spot, x[i]);
-        i += 1;
+    for &byte in x {
+        spot = behind(spot, byte);
     }
     spot
 }
@@ -80,26 +78,10 @@ fn then(within: Within, byte: u8) -> Within {
 // Where one is behind all these bytes.
 fn where_behind(x: &[u8]) -> Within {
     let mut within = Within::Between;
-    let mut i: usize = 0;
-    while i < x.len() {
-        within = then(within, x[i]);
-        i += 1;
+    for &byte in x {
+        within = then(within, byte);
     }
     within
-}
-
-fn begins(s: &[u8], with: &[u8]) -> bool {
-    let mut i: usize = 0;
-    while i < with.len() {
-        if s.len() <= i {
-            return false;
-        }
-        if s[i] != with[i] {
-            return false;
-        }
-        i += 1;
-    }
-    true
 }
 
 // ---- what stands there
@@ -122,15 +104,15 @@ fn say_tag(s: &[u8]) {
 
 // What may be wrong with markup.
 fn say_markup(s: &[u8]) {
-    if begins(s, b"<!--") {
+    if s.starts_with(b"<!--") {
         say(b"a comment: none is read, take it out");
         return;
     }
-    if begins(s, b"<!") {
+    if s.starts_with(b"<!") {
         say(b"CDATA or a document type: neither is read, take it out");
         return;
     }
-    if begins(s, b"<?") {
+    if s.starts_with(b"<?") {
         say(b"an instruction: only the XML declaration is read, as the first bytes of the file");
         return;
     }
@@ -154,7 +136,7 @@ fn say_attribute() {
 
 // What may be wrong with the bytes s between tags.
 fn say_between(s: &[u8]) {
-    if s.len() == 0 {
+    if s.is_empty() {
         say(b"the file ends here, and its root element FrameDefinition is missing or not closed");
         return;
     }

@@ -24,15 +24,13 @@ fn say_not_plain(name: &[u8], line: usize) {
 
 // Why a text is not written as XML: it is out of plain form, or not accepted.
 fn say_unwritten(name: &[u8], text: &[u8], refusal: Refusal) {
-    if let Refusal::NotPlain(line) = refusal {
-        say_not_plain(name, line);
-        return;
+    match refusal {
+        Refusal::NotPlain(line) => say_not_plain(name, line),
+        Refusal::MoreBytes(_) => {
+            fail(b"tap: the XML has more bytes than tap writes: 524288 are the most\n")
+        }
+        _ => check_frame(name, text),
     }
-    if let Refusal::MoreBytes(_) = refusal {
-        fail(b"tap: the XML has more bytes than tap writes: 524288 are the most\n");
-        return;
-    }
-    check_frame(name, text);
 }
 
 fn turn_text(name: &[u8], text: &[u8]) {
