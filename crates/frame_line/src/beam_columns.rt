@@ -23,8 +23,7 @@ fn put_count(out: &mut Buffer, at: usize, beams: u16, colour: bool) -> usize {
 
 // The two digits of a hash that is there.
 pub fn put_hash_digits(out: &mut Buffer, at: usize, hash: u16) -> usize {
-    let one = [(number_of(hash) % 256) as u8];
-    put_hex(out, at, &one)
+    put_hex(out, at, &[(number_of(hash) % 256) as u8])
 }
 
 // The hash, in the column of the home id.

@@ -17,27 +17,17 @@ struct Fitting {
     left: usize,
 }
 
-fn wide(node: u16) -> u64 {
-    node as u64
-}
-
 // How many digits a node has.
 fn digits(node: u64) -> usize
     ensures { result ≤ 5 }
 {
-    if node < 10 {
-        return 1;
+    match node {
+        0..=9 => 1,
+        10..=99 => 2,
+        100..=999 => 3,
+        1000..=9999 => 4,
+        _ => 5,
     }
-    if node < 100 {
-        return 2;
-    }
-    if node < 1000 {
-        return 3;
-    }
-    if node < 10000 {
-        return 4;
-    }
-    5
 }
 
 // How many nodes, each behind a space, have room in so many bytes.
@@ -45,16 +35,17 @@ fn fit_nodes(nodes: &[u16], room: usize) -> Fitting
     ensures { result.count ≤ length nodes.now }
 {
     let mut left = room;
-    let mut i: usize = 0;
-    while i < nodes.len() {
-        let size = 1 + digits(wide(nodes[i]));
+    for (count, node) in nodes.iter().enumerate() {
+        let size = 1 + digits(u64::from(*node));
         if left < size {
-            return Fitting { count: i, left };
+            return Fitting { count, left };
         }
         left -= size;
-        i += 1;
     }
-    Fitting { count: i, left }
+    Fitting {
+        count: nodes.len(),
+        left,
+    }
 }
 
 // The room that so many nodes leave behind their number.
@@ -66,10 +57,8 @@ fn room_behind(n: usize) -> usize
 
 fn put_each(out: &mut Buffer, at: usize, nodes: &[u16]) -> usize {
     let mut place = at;
-    let mut i: usize = 0;
-    while i < nodes.len() {
-        place = put_marked(out, place, b" ", wide(nodes[i]), 0);
-        i += 1;
+    for node in nodes {
+        place = put_marked(out, place, b" ", u64::from(*node), 0);
     }
     place
 }
@@ -101,10 +90,10 @@ fn put_nodes(out: &mut Buffer, at: usize, nodes: &[u16]) -> usize {
 }
 
 fn put_first(out: &mut Buffer, at: usize, nodes: &[u16], n: usize) -> usize {
-    if nodes.len() < n {
-        return put_right(out, at, b"mask", WIDTH);
+    match nodes.get(..n) {
+        Some(shown) => put_nodes(out, at, shown),
+        None => put_right(out, at, b"mask", WIDTH),
     }
-    put_nodes(out, at, &nodes[..n])
 }
 
 // The nodes of row i of a header, in its column.

@@ -56,7 +56,7 @@ fn put_sum(out: &mut Buffer, at: usize, right: bool, colour: bool) -> usize {
 
 // A command's name, by its line in the catalog; its first two bytes where there is none.
 fn put_command_name(out: &mut Buffer, at: usize, line: &[u8], bytes: &[u8], colour: bool) -> usize {
-    if line.len() == 0 {
+    if line.is_empty() {
         return put_hex(out, at, bytes);
     }
     put_painted(out, at, readers::catalog::name(line), 0, Hue::Name, colour)
@@ -64,14 +64,7 @@ fn put_command_name(out: &mut Buffer, at: usize, line: &[u8], bytes: &[u8], colo
 
 // Is one of the first n rows cut?
 fn is_cut(rows: &[u64], n: usize) -> bool {
-    let mut i: usize = 0;
-    while i < n {
-        if cell(rows, ROW_WIDTH, i, LACKING) != 0 {
-            return true;
-        }
-        i += 1;
-    }
-    false
+    (0..n).any(|i| cell(rows, ROW_WIDTH, i, LACKING) != 0)
 }
 
 // Does a command lack bytes by its text? One that is refused has no rows to tell by.
@@ -101,7 +94,7 @@ fn put_cut(
     payload: &[u8],
     look: Look,
 ) -> usize {
-    if line.len() == 0 {
+    if line.is_empty() {
         return at;
     }
     if lacks_by(rt, line, payload, look) {
@@ -125,7 +118,7 @@ fn put_command(
     right: bool,
     look: Look,
 ) -> usize {
-    if bytes.len() == 0 {
+    if bytes.is_empty() {
         return at;
     }
     let mut place = put_spaces(out, at, gap(right));
@@ -143,13 +136,10 @@ fn put_size(out: &mut Buffer, at: usize, mpdu: &[u8], right: bool, colour: bool)
     put_sum(out, place, right, colour)
 }
 
-// The first n rows of a header's table.
+// The first n rows of a header's table; all rows where there are fewer.
 fn first_rows(rows: &[u64], n: usize) -> &[u64] {
-    if rows.len() / header_rows::ROW_WIDTH < n {
-        return rows;
-    }
-    let end = n * header_rows::ROW_WIDTH;
-    &rows[..end]
+    rows.get(..n.saturating_mul(header_rows::ROW_WIDTH))
+        .unwrap_or(rows)
 }
 
 // A header and its rows.

@@ -53,13 +53,10 @@ fn find_row(text: &[u8], rows: &[u64], name: &[u8]) -> usize {
 
 // The first n bytes at the right of a column, or a dash for none.
 fn put_shown(out: &mut Buffer, at: usize, value: &[u8], n: usize, width: usize) -> usize {
-    if n == 0 {
-        return put_right(out, at, b"-", width);
+    match value.get(..n) {
+        Some(shown) if 0 < n => put_right(out, at, shown, width),
+        _ => put_right(out, at, b"-", width),
     }
-    if value.len() < n {
-        return put_right(out, at, b"-", width);
-    }
-    put_right(out, at, &value[..n], width)
 }
 
 // The value of row i of a header at the right of a column; a dash where it has none, or where there is no such row.

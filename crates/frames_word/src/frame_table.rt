@@ -4,7 +4,7 @@ ghost use Rattle.pti.specs.Payload.{row_width};
 ghost use Rattle.frame_text.specs.Rules.{verdict};
 ghost use Rattle.files.specs.Capture.{Inside};
 
-use crate::sheet::{Sheet, Verdict, put_empty, put_passed, put_refused, tell_progress};
+use crate::sheet::{Fault, Sheet, put_empty, put_passed, put_refused, tell_progress};
 use files::capture::{Item, Next, Source, next_item};
 use files::input::Reader;
 use frame_line::frame_row::{put_header, put_number, put_row};
@@ -52,10 +52,8 @@ fn put_frames(
     requires text_value { verdict text.now ≡ Ok tt }
 {
     let mut shown = sheet;
-    let mut i: usize = 0;
-    while i < n {
+    for i in 0..n {
         shown = put_frame(rt, text, index, payload, record_at(table, i), out, shown);
-        i += 1;
     }
     shown
 }
@@ -73,12 +71,8 @@ fn put_payload(
     requires { verdict text.now ≡ Ok tt }
 {
     match parse_payload(payload, sheet.firmware, reading_by(sheet.family), table) {
-        Ok(n) => {
-            if n == 0 {
-                return put_empty(out, sheet);
-            }
-            put_frames(rt, text, index, payload, table, n, out, sheet)
-        }
+        Ok(0) => put_empty(out, sheet),
+        Ok(n) => put_frames(rt, text, index, payload, table, n, out, sheet),
         Err(refusal) => put_refused(refusal, out, sheet),
     }
 }
@@ -106,10 +100,10 @@ fn take_payload(
     requires { verdict text.now ≡ Ok tt }
 {
     let next = begin_payload(out, sheet);
-    if payload.len() < count {
-        return put_refused(Refusal::TooLong(count), out, next);
+    match payload.get(..count) {
+        Some(bytes) => put_payload(rt, text, index, bytes, table, out, next),
+        None => put_refused(Refusal::TooLong(count), out, next),
     }
-    put_payload(rt, text, index, &payload[..count], table, out, next)
 }
 
 fn take_item(
@@ -128,8 +122,8 @@ fn take_item(
         Item::Payload(count) => take_payload(rt, text, index, count, payload, table, out, sheet),
         Item::Nothing => sheet,
         Item::NotHex(line, column) => put_passed(line, column, out, sheet),
-        Item::NoCapture(line, column) => sheet.judged(Verdict::NoCapture(line, column)),
-        Item::Unreadable => sheet.judged(Verdict::Unreadable),
+        Item::NoCapture(line, column) => sheet.failed(Fault::NoCapture(line, column)),
+        Item::Unreadable => sheet.failed(Fault::Unreadable),
     }
 }
 

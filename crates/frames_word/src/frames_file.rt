@@ -3,7 +3,7 @@ ghost use Rattle.std.specs.Prelude.{◌≡◌, Ok};
 ghost use Rattle.frame_text.specs.Rules.{verdict};
 
 use crate::frame_table::{Table, put_capture};
-use crate::sheet::{Sheet, Verdict, print_end};
+use crate::sheet::{Fault, Sheet, print_end};
 use files::capture::Opened;
 use files::folder::load;
 use files::frame_names::{State, load_frames};
@@ -62,7 +62,7 @@ fn show_indexed<R: Env + Files + Input>(
     let mut index = io::large_buffer();
     match load(rt, folder, b"commands/index.txt", &mut index) {
         Some(n) => show_capture(rt, name, reader, text, &index[..n], empty),
-        None => show_capture(rt, name, reader, text, b"", empty.judged(Verdict::Unnamed)),
+        None => show_capture(rt, name, reader, text, b"", empty.failed(Fault::Unnamed)),
     }
 }
 
@@ -80,14 +80,14 @@ fn show_found<R: Env + Files + Input>(
 {
     match state {
         State::Fine => show_indexed(rt, name, reader, text, folder, empty),
-        State::Missing => show_capture(rt, name, reader, text, b"", empty.judged(Verdict::Unnamed)),
+        State::Missing => show_capture(rt, name, reader, text, b"", empty.failed(Fault::Unnamed)),
         State::Refused(refusal) => show_capture(
             rt,
             name,
             reader,
             text,
             b"",
-            empty.judged(Verdict::Refused(refusal)),
+            empty.failed(Fault::Refused(refusal)),
         ),
     }
 }

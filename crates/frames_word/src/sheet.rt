@@ -8,10 +8,9 @@ use std::io::Error;
 use std::num::wrapping_add_u64;
 use writer::{Buffer, STDERR_FILENO, STDOUT_FILENO, print_number, put, put_number};
 
-// How the reading of a capture ended.
+// What was wrong with a capture that was read.
 #[derive(Clone, Copy)]
-pub enum Verdict {
-    Fine,
+pub enum Fault {
     // The first refusal, of the frame text or of a payload.
     Refused(Refusal),
     // A file of the definitions is missing.
@@ -31,7 +30,7 @@ pub struct Sheet {
     pub frames: u64,
     pub beams: u64,
     pub payloads: u64,
-    pub verdict: Verdict,
+    pub verdict: Result<(), Fault>,
     // The firmware that wrote the capture.
     pub firmware: usize,
     // Are beams a family of their own?
@@ -55,7 +54,7 @@ impl Sheet {
             frames: 0,
             beams: 0,
             payloads: 0,
-            verdict: Verdict::Fine,
+            verdict: Ok(()),
             firmware: options.firmware,
             family: options.family,
             colour: options.colour,
@@ -95,51 +94,32 @@ impl Sheet {
         self
     }
 
-    // The same, with another verdict.
-    pub fn judged(self, verdict: Verdict) -> Self {
-        Sheet {
-            at: self.at,
-            frames: self.frames,
-            beams: self.beams,
-            payloads: self.payloads,
-            verdict,
-            firmware: self.firmware,
-            family: self.family,
-            colour: self.colour,
-            folder: self.folder,
-            progress: self.progress,
-            by_position: self.by_position,
-            records: self.records,
-        }
+    // The same, with this as what was wrong.
+    pub fn failed(mut self, fault: Fault) -> Self {
+        self.verdict = Err(fault);
+        self
     }
 
     // The first refusal is the verdict, unless something else was wrong.
-    pub fn refused(self, refusal: Refusal) -> Self {
-        let verdict = self.verdict;
-        let Verdict::Fine = verdict else {
-            return self;
-        };
-        self.judged(Verdict::Refused(refusal))
+    pub fn refused(mut self, refusal: Refusal) -> Self {
+        self.verdict = self.verdict.and(Err(Fault::Refused(refusal)));
+        self
     }
 }
 
 // How far it is, every 1,000 frames.
 pub fn tell_progress(sheet: Sheet) {
-    if sheet.progress {
-        if sheet.frames % 1000 == 0 {
-            io::write_all(STDERR_FILENO, b"\r");
-            print_number(STDERR_FILENO, sheet.frames);
-            io::write_all(STDERR_FILENO, b" frames");
-        }
+    if sheet.progress && sheet.frames % 1000 == 0 {
+        io::write_all(STDERR_FILENO, b"\r");
+        print_number(STDERR_FILENO, sheet.frames);
+        io::write_all(STDERR_FILENO, b" frames");
     }
 }
 
 // The line of the last such count ends.
 fn end_progress(sheet: Sheet) {
-    if sheet.progress {
-        if 1000 <= sheet.frames {
-            io::write_all(STDERR_FILENO, b"\n");
-        }
+    if sheet.progress && 1000 <= sheet.frames {
+        io::write_all(STDERR_FILENO, b"\n");
     }
 }
 
@@ -178,7 +158,7 @@ fn put_line(line: u64, column: u64, out: &mut Buffer, at: usize) -> usize {
 pub fn put_passed(line: u64, column: u64, out: &mut Buffer, sheet: Sheet) -> Sheet {
     let mut at = put_line(line, column, out, sheet.at);
     at = put(out, at, b"\n");
-    sheet.gathered(at).judged(Verdict::Passed)
+    sheet.gathered(at).failed(Fault::Passed)
 }
 
 // A count and what it counts.
@@ -203,25 +183,24 @@ fn print_summary(sheet: Sheet) {
 // What stands below the table, with the last line of the output; where the capture can't be read on, the error says why.
 pub fn print_end(name: &[u8], sheet: Sheet, error: Error) {
     end_progress(sheet);
-    let verdict = sheet.verdict;
-    match verdict {
-        Verdict::Fine => {
+    match sheet.verdict {
+        Ok(()) => {
             print_summary(sheet);
             output::outcome::succeed();
         }
-        Verdict::Refused(refusal) => {
+        Err(Fault::Refused(refusal)) => {
             print_summary(sheet);
             output::outcome::refuse(refusal);
         }
-        Verdict::Passed => {
+        Err(Fault::Passed) => {
             print_summary(sheet);
             fail(b"tap: not every line is hex text: those that are not were passed over\n");
         }
-        Verdict::Unnamed => {
+        Err(Fault::Unnamed) => {
             print_summary(sheet);
             fail(b"");
         }
-        Verdict::NoCapture(line, column) => fail_capture(name, line, column),
-        Verdict::Unreadable => fail_file(name, error),
+        Err(Fault::NoCapture(line, column)) => fail_capture(name, line, column),
+        Err(Fault::Unreadable) => fail_file(name, error),
     }
 }

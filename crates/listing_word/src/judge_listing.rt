@@ -116,17 +116,14 @@ fn say_differs(
     end_differing(line);
 }
 
-// A line that differs, from 1, or none, beside our own header.
-fn say_beside(text: &[u8], mpdu: &[u8], listing: &[u8], frame: Frame, line: usize) {
+// The line that differs, from 1, if one does, beside our own header.
+fn say_beside(text: &[u8], mpdu: &[u8], listing: &[u8], frame: Frame, differing: Option<usize>) {
     let mut rows = [0u64; MOST_NUMBERS];
     match decode_header(text, mpdu, frame.region, frame.rate, &mut rows) {
-        Ok(header) => {
-            if line == 0 {
-                say_yes(text, header, frame.number);
-                return;
-            }
-            say_differs(text, mpdu, listing, header, &rows, frame.number, line);
-        }
+        Ok(header) => match differing {
+            Some(line) => say_differs(text, mpdu, listing, header, &rows, frame.number, line),
+            None => say_yes(text, header, frame.number),
+        },
         Err(refusal) => say_refused(frame.number, refusal),
     }
 }
@@ -134,8 +131,8 @@ fn say_beside(text: &[u8], mpdu: &[u8], listing: &[u8], frame: Frame, line: usiz
 // Judges a listing of an MPDU by a frame text.
 pub fn judge_mpdu(text: &[u8], mpdu: &[u8], frame: Frame, listing: &[u8]) {
     match judge_listing(text, mpdu, frame.region, frame.rate, listing) {
-        Judgement::Yes => say_beside(text, mpdu, listing, frame, 0),
-        Judgement::Differs(line) => say_beside(text, mpdu, listing, frame, line),
+        Judgement::Yes => say_beside(text, mpdu, listing, frame, None),
+        Judgement::Differs(line) => say_beside(text, mpdu, listing, frame, Some(line)),
         Judgement::Refused(refusal) => say_refused(frame.number, refusal),
     }
 }

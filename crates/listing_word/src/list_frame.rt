@@ -11,6 +11,7 @@ fn write_text(listing: &[u8]) {
     fail(b"tap: the listing could not be written\n");
 }
 
+#[tactic(auto, using(crate::proofs::Laws::laws))]
 fn list_into(text: &[u8], mpdu: &[u8], region: u64, rate: u64, buffer: &mut [u8]) {
     match write_listing(text, mpdu, region, rate, buffer) {
         Ok(n) => write_text(&buffer[..n]),

@@ -12,11 +12,11 @@ use std::num::wrapping_sub_u64;
 use std::rt::{Env, Files};
 use writer::{STDERR_FILENO, print_number};
 
-// What is asked for: the number of a frame, and the argument that names the listing, 0 for our own.
+// What is asked for: the number of a frame, and the argument that names the listing, none for our own.
 #[derive(Clone, Copy)]
 struct Task {
     number: u64,
-    listing: usize,
+    listing: Option<usize>,
 }
 
 // A beam has no header.
@@ -68,11 +68,10 @@ fn answer_mpdu(
         region: frame_code(heard.region as u64),
         rate: heard.rate as u64,
     };
-    if task.listing == 0 {
-        list_mpdu(text, mpdu, frame.region, frame.rate);
-        return;
+    match task.listing {
+        Some(argument) => open_and_judge(rt, text, mpdu, frame, argument),
+        None => list_mpdu(text, mpdu, frame.region, frame.rate),
     }
-    open_and_judge(rt, text, mpdu, frame, task.listing);
 }
 
 // The frame whose bytes are these, by the frame text of the folder.
@@ -123,7 +122,7 @@ fn answer_file<R: Env + Files + Input>(
     }
 }
 
-fn open_and_answer(rt: &(impl Env + Files + Input), listing: usize, options: Options) {
+fn open_and_answer(rt: &(impl Env + Files + Input), listing: Option<usize>, options: Options) {
     let Some(number) = read_number(rt, options.second) else {
         fail(b"tap: the number of a frame is a decimal number from 1\n");
         return;
@@ -146,7 +145,7 @@ pub fn list_frame(rt: &(impl Env + Files + Input)) {
     ) else {
         return;
     };
-    open_and_answer(rt, 0, options);
+    open_and_answer(rt, None, options);
 }
 
 // `tap judge FILE N LISTING`.
@@ -159,5 +158,5 @@ pub fn judge_frame(rt: &(impl Env + Files + Input)) {
     ) else {
         return;
     };
-    open_and_answer(rt, options.third, options);
+    open_and_answer(rt, Some(options.third), options);
 }

@@ -8,7 +8,7 @@ use writer::{Buffer, put};
 
 // Bytes that are too few for a command.
 pub fn put_short(out: &mut Buffer, at: usize, bytes: &[u8]) -> usize {
-    if bytes.len() == 0 {
+    if bytes.is_empty() {
         return put(out, at, b"\nno command\n");
     }
     let place = put(out, at, b"\nno command, but one byte\n");
@@ -29,7 +29,7 @@ pub fn put_title(out: &mut Buffer, at: usize, name: &[u8], colour: bool) -> usiz
 
 // What the parameters leave.
 fn put_remainder(out: &mut Buffer, at: usize, bytes: &[u8]) -> usize {
-    if bytes.len() == 0 {
+    if bytes.is_empty() {
         return at;
     }
     let mut place = put(out, at, b"    remainder");

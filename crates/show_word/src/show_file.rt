@@ -43,7 +43,7 @@ fn show_line(
     at: usize,
     options: Options,
 ) {
-    if line.len() == 0 {
+    if line.is_empty() {
         let place = put_unknown(out, at, payload);
         flush(out, place);
         output::outcome::succeed();

@@ -1,5 +1,5 @@
 // Values of rows of a table as people read them, on their way to standard output. A row that is not there, or a text that isn't accepted, has none.
-#![tactic(auto)]
+#![tactic(auto, using(crate::proofs::Laws::laws))]
 
 ghost use Rattle.std.specs.Prelude.{◌≡◌, Ok};
 ghost use Rattle.frame_text.specs.Rules.{verdict};
@@ -7,26 +7,18 @@ ghost use Rattle.frame_text.specs.Rules.{verdict};
 use command_rows::read_row;
 use command_text::check_command_text;
 use frame_text::check_frame_text;
-use refusal::{MOST_FRAME, Refusal};
+use refusal::MOST_FRAME;
 use writer::{Buffer, put};
 
 // Room for every value: 2,048 bytes of ascii, each of which may become three.
 pub const MOST: usize = 6144;
 
-// How many bytes are written; none where a value is refused.
-fn length_of(written: Result<usize, Refusal>) -> usize {
-    match written {
-        Ok(n) => n,
-        Err(_) => 0,
-    }
-}
-
 // The first n bytes, if so many are there.
 fn put_first(out: &mut Buffer, at: usize, value: &[u8], n: usize) -> usize {
-    if value.len() < n {
-        return at;
+    match value.get(..n) {
+        Some(shown) => put(out, at, shown),
+        None => at,
     }
-    put(out, at, &value[..n])
 }
 
 // The value of row i of a header, by an accepted text, and how many bytes it has.
@@ -39,7 +31,7 @@ pub fn show_field(text: &[u8], mpdu: &[u8], rows: &[u64], i: usize, value: &mut 
     if rows.len() / header_rows::ROW_WIDTH <= i {
         return 0;
     }
-    length_of(header_value::row_value(text, mpdu, rows, i, value))
+    header_value::row_value(text, mpdu, rows, i, value).unwrap_or(0)
 }
 
 // The same by any text.
@@ -73,7 +65,7 @@ fn show_param(text: &[u8], payload: &[u8], rows: &[u64], i: usize, value: &mut [
         return 0;
     }
     match check_command_text(text) {
-        Ok(()) => length_of(command_value::row_value(text, payload, read_row(rows, i), value)),
+        Ok(()) => command_value::row_value(text, payload, read_row(rows, i), value).unwrap_or(0),
         Err(_) => 0,
     }
 }

@@ -1,5 +1,4 @@
 // What `tap help` and `tap help WORD` print, with the last line of the output.
-use crate::words::word_number;
 use files::arguments::{argument, argument_count};
 use output::outcome::{fail, fail_word, succeed};
 use output::prose::say;
@@ -283,20 +282,20 @@ FILE or one CAPTURE may be -.
 
 // The page of a word.
 fn help_word(word: &[u8]) {
-    match word_number(word) {
-        0 => help_frames(),
-        1 => help_show(),
-        2 => help_check(),
-        3 => help_tidy(),
-        4 => help_list(),
-        5 => help_judge(),
-        6 => help_totals(),
-        7 => help_xml(),
-        8 => help_text(),
-        9 => help_overlaps(),
-        10 => help_sort(),
-        11 => help_coverage(),
-        12 => help_all(),
+    match word {
+        b"frames" => help_frames(),
+        b"show" => help_show(),
+        b"check" => help_check(),
+        b"tidy" => help_tidy(),
+        b"list" => help_list(),
+        b"judge" => help_judge(),
+        b"totals" => help_totals(),
+        b"xml" => help_xml(),
+        b"text" => help_text(),
+        b"overlaps" => help_overlaps(),
+        b"sort" => help_sort(),
+        b"coverage" => help_coverage(),
+        b"help" => help_all(),
         _ => fail_word(word),
     }
 }

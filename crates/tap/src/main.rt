@@ -4,7 +4,6 @@
 #![tactic(auto)]
 
 mod help_page;
-mod words;
 
 use check_word::check_file::check_definition;
 use coverage_word::coverage_file::show_coverage;
@@ -19,26 +18,25 @@ use show_word::show_file::show_frame;
 use std::rt::{Env, Files};
 use tidy_word::tidy_file::tidy_definition;
 use totals_word::totals_file::show_totals;
-use words::word_number;
 use xml_word::text_file::write_text;
 use xml_word::xml_file::write_xml;
 
 // Does what a word asks for.
 fn obey(rt: &(impl Env + Files + Input), word: &[u8]) {
-    match word_number(word) {
-        0 => show_frames(rt),
-        1 => show_frame(rt),
-        2 => check_definition(rt),
-        3 => tidy_definition(rt),
-        4 => list_frame(rt),
-        5 => judge_frame(rt),
-        6 => show_totals(rt),
-        7 => write_xml(rt),
-        8 => write_text(rt),
-        9 => tell_overlaps(rt),
-        10 => sort_definition(rt),
-        11 => show_coverage(rt),
-        12 => help(rt),
+    match word {
+        b"frames" => show_frames(rt),
+        b"show" => show_frame(rt),
+        b"check" => check_definition(rt),
+        b"tidy" => tidy_definition(rt),
+        b"list" => list_frame(rt),
+        b"judge" => judge_frame(rt),
+        b"totals" => show_totals(rt),
+        b"xml" => write_xml(rt),
+        b"text" => write_text(rt),
+        b"overlaps" => tell_overlaps(rt),
+        b"sort" => sort_definition(rt),
+        b"coverage" => show_coverage(rt),
+        b"help" => help(rt),
         _ => fail_word(word),
     }
 }

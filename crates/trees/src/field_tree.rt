@@ -66,17 +66,7 @@ fn put_head(
 }
 
 fn is_bitmask(kind: &[u8]) -> bool {
-    let Some(known) = read_type(kind) else {
-        return false;
-    };
-    match known {
-        ParamType::Hex => false,
-        ParamType::Number => false,
-        ParamType::NumberSigned => false,
-        ParamType::NodeNumber => false,
-        ParamType::Boolean => false,
-        ParamType::Bitmask => true,
-    }
+    matches!(read_type(kind), Some(ParamType::Bitmask))
 }
 
 // The nodes of row i, whose P line has this type, if they are a mask.
@@ -89,14 +79,14 @@ fn put_mask(
     rows: &[u64],
     i: usize,
 ) -> usize {
-    if is_bitmask(kind) {
-        let mut nodes = [0u16; MOST_NODES];
-        return match row_nodes(text, mpdu, rows, i, &mut nodes) {
-            Ok(n) => put_first(out, at, &nodes, n),
-            Err(_) => at,
-        };
+    if !is_bitmask(kind) {
+        return at;
     }
-    at
+    let mut nodes = [0u16; MOST_NODES];
+    match row_nodes(text, mpdu, rows, i, &mut nodes) {
+        Ok(n) => put_first(out, at, &nodes, n),
+        Err(_) => at,
+    }
 }
 
 // The lines of row i, by its P line.
@@ -127,10 +117,8 @@ pub fn put_fields(
     picture: bool,
 ) -> usize {
     let mut place = at;
-    let mut i: usize = 0;
-    while i < n {
+    for i in 0..n {
         place = put_field(out, place, text, mpdu, rows, i, picture);
-        i += 1;
     }
     place
 }

@@ -1,6 +1,5 @@
 // Bytes in hexadecimal, sixteen on a line, with the place of the first before them.
-ghost use Rattle.std.specs.Prelude.{◌<◌, ◌≤◌, length};
-
+use std::num::wrapping_add_u64;
 use writer::{Buffer, put, put_byte, put_hex, put_marked};
 
 // How many bytes a line has.
@@ -9,44 +8,27 @@ const LINE: usize = 16;
 // Bytes parted by blanks.
 pub fn put_bytes(out: &mut Buffer, at: usize, bytes: &[u8]) -> usize {
     let mut place = at;
-    let mut i: usize = 0;
-    while i < bytes.len() {
-        let end = i + 1;
+    for byte in bytes {
         place = put_byte(out, place, b' ');
-        place = put_hex(out, place, &bytes[i..end]);
-        i = end;
+        place = put_hex(out, place, &[*byte]);
     }
     place
 }
 
-// The line of the bytes from one place to another.
-fn put_line(out: &mut Buffer, at: usize, bytes: &[u8], from: usize, to: usize) -> usize
-    requires { (from ≤ to) × (to ≤ length bytes.now) }
-{
-    let mut place = put_marked(out, at, b"", from as u64, 6);
+// The line of these bytes, the first of which stands at a place.
+fn put_line(out: &mut Buffer, at: usize, bytes: &[u8], from: u64) -> usize {
+    let mut place = put_marked(out, at, b"", from, 6);
     place = put(out, place, b" ");
-    place = put_bytes(out, place, &bytes[from..to]);
+    place = put_bytes(out, place, bytes);
     put(out, place, b"\n")
-}
-
-// Where the line from a place ends.
-fn line_end(bytes: &[u8], from: usize) -> usize
-    requires { from < length bytes.now }
-    ensures { (from < result) × (result ≤ length bytes.now) }
-{
-    if bytes.len() - from < LINE {
-        return bytes.len();
-    }
-    from + LINE
 }
 
 pub fn put_dump(out: &mut Buffer, at: usize, bytes: &[u8]) -> usize {
     let mut place = at;
-    let mut from: usize = 0;
-    while from < bytes.len() {
-        let to = line_end(bytes, from);
-        place = put_line(out, place, bytes, from, to);
-        from = to;
+    let mut from: u64 = 0;
+    for line in bytes.chunks(LINE) {
+        place = put_line(out, place, line, from);
+        from = wrapping_add_u64(from, LINE as u64);
     }
     place
 }

@@ -7,16 +7,9 @@ const LINE: usize = 16;
 // The most nodes that a mask has: those of 2,048 bytes.
 pub const MOST_NODES: usize = 16384;
 
-fn wide(node: u16) -> u64 {
-    node as u64
-}
-
 // What stands before a node: a line is begun after every sixteenth.
 fn put_gap(out: &mut Buffer, at: usize, i: usize) -> usize {
-    if i == 0 {
-        return put(out, at, b" ");
-    }
-    if i % LINE == 0 {
+    if 0 < i && i % LINE == 0 {
         return put(out, at, b"\n                 ");
     }
     put(out, at, b" ")
@@ -26,19 +19,17 @@ fn put_gap(out: &mut Buffer, at: usize, i: usize) -> usize {
 pub fn put_nodes(out: &mut Buffer, at: usize, nodes: &[u16]) -> usize {
     let mut place = put_marked(out, at, b"", nodes.len() as u64, 10);
     place = put(out, place, b" nodes:");
-    let mut i: usize = 0;
-    while i < nodes.len() {
+    for (i, node) in nodes.iter().enumerate() {
         place = put_gap(out, place, i);
-        place = put_number(out, place, wide(nodes[i]));
-        i += 1;
+        place = put_number(out, place, u64::from(*node));
     }
     put(out, place, b"\n")
 }
 
 // The first n nodes of a table.
 pub fn put_first(out: &mut Buffer, at: usize, nodes: &[u16], n: usize) -> usize {
-    if nodes.len() < n {
-        return at;
+    match nodes.get(..n) {
+        Some(shown) => put_nodes(out, at, shown),
+        None => at,
     }
-    put_nodes(out, at, &nodes[..n])
 }

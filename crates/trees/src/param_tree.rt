@@ -27,10 +27,10 @@ fn name_field(kind: u8) -> usize {
 // The name in line n of a command text.
 fn name_at(text: &[u8], n: u64) -> &[u8] {
     let line = numbered_line(text, n);
-    if line.len() == 0 {
-        return line;
+    match line.first() {
+        Some(kind) => field_of(line, name_field(*kind)),
+        None => line,
     }
-    field_of(line, name_field(line[0]))
 }
 
 // Name and bytes of row i.
@@ -115,22 +115,7 @@ fn put_said(
 
 // Is this the name of the type of a Q that may be a mask?
 fn is_bitmask(kind: &[u8]) -> bool {
-    let Some(known) = read_type(kind) else {
-        return false;
-    };
-    match known {
-        ParamType::Byte => false,
-        ParamType::StructByte => false,
-        ParamType::Const => false,
-        ParamType::Marker => false,
-        ParamType::Word => false,
-        ParamType::Bit24 => false,
-        ParamType::Dword => false,
-        ParamType::Array => false,
-        ParamType::Variant => false,
-        ParamType::Bitmask => true,
-        ParamType::MultiArray => false,
-    }
+    matches!(read_type(kind), Some(ParamType::Bitmask))
 }
 
 // The nodes of row i, if they are a mask.
@@ -142,14 +127,15 @@ fn put_mask(
     rows: &[u64],
     i: usize,
 ) -> usize {
-    if is_bitmask(field_of(numbered_line(text, cell(rows, ROW_WIDTH, i, LINE)), 2)) {
-        let mut nodes = [0u16; MOST_NODES];
-        return match row_nodes(text, payload, rows, i, &mut nodes) {
-            Ok(n) => put_first(out, at, &nodes, n),
-            Err(_) => at,
-        };
+    let line = numbered_line(text, cell(rows, ROW_WIDTH, i, LINE));
+    if !is_bitmask(field_of(line, 2)) {
+        return at;
     }
-    at
+    let mut nodes = [0u16; MOST_NODES];
+    match row_nodes(text, payload, rows, i, &mut nodes) {
+        Ok(n) => put_first(out, at, &nodes, n),
+        Err(_) => at,
+    }
 }
 
 // The lines of row i.
@@ -177,10 +163,8 @@ pub fn put_params(
     n: usize,
 ) -> usize {
     let mut place = at;
-    let mut i: usize = 0;
-    while i < n {
+    for i in 0..n {
         place = put_param(out, place, text, payload, rows, i);
-        i += 1;
     }
     place
 }

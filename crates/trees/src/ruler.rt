@@ -11,28 +11,21 @@ const LINE: usize = 32;
 
 // The letter of row i.
 pub fn letter(i: usize) -> u8 {
-    if i < 26 {
-        return b'a' + i as u8;
+    match i {
+        0..=25 => b'a' + i as u8,
+        26..=51 => b'A' + (i - 26) as u8,
+        _ => b'*',
     }
-    if i < 52 {
-        return b'A' + (i - 26) as u8;
-    }
-    b'*'
 }
 
 fn covers(rows: &[u64], i: usize, bit: u64) -> bool {
     let start = cell(rows, ROW_WIDTH, i, START);
-    if bit < start {
-        return false;
-    }
-    bit - start < cell(rows, ROW_WIDTH, i, BITS)
+    start <= bit && bit - start < cell(rows, ROW_WIDTH, i, BITS)
 }
 
 // The letter of the last of n rows that cover a bit: a field stands before those inside it. A dot where there is none.
 fn mark_at(rows: &[u64], n: usize, bit: u64) -> u8 {
-    let mut i = n;
-    while 0 < i {
-        i -= 1;
+    for i in (0..n).rev() {
         if covers(rows, i, bit) {
             return letter(i);
         }
@@ -42,32 +35,27 @@ fn mark_at(rows: &[u64], n: usize, bit: u64) -> u8 {
 
 // The digit of a bit. First is the highest of the first byte.
 fn digit_at(mpdu: &[u8], bit: usize) -> u8 {
-    let k = bit / 8;
-    if mpdu.len() <= k {
-        return b' ';
+    match mpdu.get(bit / 8) {
+        Some(byte) if (*byte >> (7 - bit % 8)) & 1 == 1 => b'1',
+        Some(_) => b'0',
+        None => b' ',
     }
-    if (mpdu[k] >> (7 - bit % 8)) & 1 == 1 {
-        return b'1';
-    }
-    b'0'
 }
 
 // A character for a bit, with a blank before each byte.
 fn put_bit(out: &mut Buffer, at: usize, bit: usize, character: u8) -> usize {
+    let mut place = at;
     if bit % 8 == 0 {
-        let place = put_byte(out, at, b' ');
-        return put_byte(out, place, character);
+        place = put_byte(out, place, b' ');
     }
-    put_byte(out, at, character)
+    put_byte(out, place, character)
 }
 
 // The digits of the bits from one place to another.
 fn put_digits(out: &mut Buffer, at: usize, mpdu: &[u8], from: usize, to: usize) -> usize {
     let mut place = at;
-    let mut bit = from;
-    while bit < to {
+    for bit in from..to {
         place = put_bit(out, place, bit, digit_at(mpdu, bit));
-        bit += 1;
     }
     place
 }
@@ -75,10 +63,8 @@ fn put_digits(out: &mut Buffer, at: usize, mpdu: &[u8], from: usize, to: usize) 
 // The letters below them.
 fn put_marks(out: &mut Buffer, at: usize, rows: &[u64], n: usize, from: usize, to: usize) -> usize {
     let mut place = at;
-    let mut bit = from;
-    while bit < to {
+    for bit in from..to {
         place = put_bit(out, place, bit, mark_at(rows, n, bit as u64));
-        bit += 1;
     }
     place
 }
@@ -108,10 +94,7 @@ fn line_end(from: usize, end: usize) -> usize
     requires { from < end }
     ensures { (from < result) × (result ≤ end) }
 {
-    if end - from < LINE {
-        return end;
-    }
-    from + LINE
+    from + LINE.min(end - from)
 }
 
 // The picture of the first `end` bits of an MPDU, by the n rows of its header.

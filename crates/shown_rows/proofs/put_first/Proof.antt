@@ -1,8 +1,0 @@
--- `shown_rows::put_first` meets its contract, by the laws of the crate. Assumes nothing.
-use Rattle.shown_rows.proofs.Laws.{laws}
-use borrow.Author.Rules.{rules}
-use Rattle.shown_rows.proofs.put_first.Statement.{statement}
-use Rattle.shown_rows.proofs.put_first.Tie as tie
-
-pub put_first_spec : {M : Type 1} → statement M
-put_first_spec = tie.close (tie.spec (λ c. search (rules, laws)) (λ c. search (rules, laws)) (λ c κs. search (rules, laws)) (λ c. search (rules, laws)))

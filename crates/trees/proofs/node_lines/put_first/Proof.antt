@@ -1,9 +1,0 @@
--- `trees::node_lines::put_first` meets its contract, by the laws of the crate. Assumes nothing.
-use Rattle.std.proofs.Common.{rules}
-use Rattle.text.proofs.Laws.{front_count}
-use Rattle.trees.proofs.node_lines.put_first.Statement.{statement}
-use Rattle.trees.proofs.node_lines.put_first.Tie as tie
-
-pub put_first_spec : {M : Type 1} → statement M
-put_first_spec =
-    tie.close (tie.spec (λ c. search rules) (λ c. search (rules, front_count)) (λ c κs. search rules) (λ c. search rules))
