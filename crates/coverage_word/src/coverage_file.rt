@@ -73,10 +73,8 @@ fn count_file(
 {
     let mut name = io::buffer();
     let n = argument(rt, k, &mut name);
-    if spent {
-        if is_standard(&name[..n]) {
-            return day.failed();
-        }
+    if spent && is_standard(&name[..n]) {
+        return day.failed();
     }
     match open_name(rt, &name[..n]) {
         Ok(mut reader) => count_opened(text, options, &mut reader, sets, counts, day),
@@ -100,15 +98,11 @@ fn count_files(
     let end = argument_count(rt);
     let mut day = Day::new();
     let mut spent = false;
-    let mut k: usize = 2;
-    while k < end {
-        if k != options.file {
-            if next_file(rt, k) == k {
-                day = count_file(rt, text, options, k, spent, sets, counts, day);
-                spent = is_spent(rt, k, spent);
-            }
+    for k in 2..end {
+        if k != options.file && next_file(rt, k) == k {
+            day = count_file(rt, text, options, k, spent, sets, counts, day);
+            spent = is_spent(rt, k, spent);
         }
-        k += 1;
     }
     day
 }

@@ -1,5 +1,5 @@
 // The word `coverage`: what captures have tried of a frame text.
-#![tactic(auto)]
+#![tactic(auto, using(crate::proofs::Laws::laws, crate::proofs::tried::Laws::fills_laws, crate::proofs::tried::Laws::names_laws))]
 
 pub mod coverage_file;
 pub mod lines_page;

@@ -13,6 +13,13 @@ const WIDTH: usize = 10;
 // The most E lines of a D line.
 const OF_A_SET: usize = 64;
 
+// The refusals that have a count.
+pub const REFUSALS: [Refusal; 3] = [
+    Refusal::TooShort(0),
+    Refusal::NoBase(0),
+    Refusal::NoCandidate,
+];
+
 // Where the counts stand of the next H, P and E line, and of the first E line below the next D line.
 #[derive(Clone, Copy)]
 pub struct Walk {
@@ -53,22 +60,16 @@ impl Walk {
         self
     }
 
-    // The place of the count of a line of this kind; the number of counts where lines of that kind have none.
-    pub fn place(self, kind: u8) -> usize {
-        match kind {
+    // The count of the next line of this kind; None where lines of that kind have none.
+    pub fn count(self, counts: &[u64; COUNTS], kind: u8) -> Option<u64> {
+        let at = match kind {
             b'H' => self.header,
             b'P' => self.param,
             b'E' => self.entry,
-            _ => COUNTS,
-        }
+            _ => return None,
+        };
+        counts.get(at).copied()
     }
-}
-
-pub fn count_at(counts: &[u64; COUNTS], at: usize) -> u64 {
-    if at < COUNTS {
-        return counts[at];
-    }
-    0
 }
 
 // A count at the right of its column.
@@ -83,14 +84,12 @@ pub fn put_count(out: &mut Buffer, at: usize, n: u64) -> usize {
 
 // Two spaces for each level of a P line, whose digit the field is.
 fn put_level(out: &mut Buffer, at: usize, field: &[u8]) -> usize {
-    if field.len() == 0 {
+    let Some(&digit) = field.first() else {
         return at;
-    }
+    };
     let mut place = at;
-    let mut level = field[0];
-    while b'0' < level {
+    for _ in b'0'..digit {
         place = put(out, place, b"  ");
-        level -= 1;
     }
     place
 }
@@ -104,10 +103,9 @@ pub fn put_header(out: &mut Buffer, at: usize, row: &[u8]) -> usize {
 
 // What the line of an owner of P or E lines is called.
 pub fn put_owner(out: &mut Buffer, at: usize, row: &[u8]) -> usize {
-    if row.len() == 0 {
+    let Some(&kind) = row.first() else {
         return at;
-    }
-    let kind = row[0];
+    };
     match kind {
         b'B' => {
             let place = put(out, at, b"base header ");
@@ -150,18 +148,8 @@ fn put_line(out: &mut Buffer, at: usize, kind: u8, row: &[u8], n: u64) -> usize 
     }
 }
 
-// The refusal of a number from 5 to 7.
-fn refusal_of(number: usize) -> Refusal {
-    match number {
-        5 => Refusal::TooShort(0),
-        6 => Refusal::NoBase(0),
-        _ => Refusal::NoCandidate,
-    }
-}
-
 // The line of a refusal.
-pub fn put_refusal(out: &mut Buffer, at: usize, number: usize, n: u64) -> usize {
-    let refusal = refusal_of(number);
+pub fn put_refusal(out: &mut Buffer, at: usize, refusal: Refusal, n: u64) -> usize {
     let mut place = put_count(out, at, n);
     place = put(out, place, b"refused by ");
     place = put_number(out, place, refusal.number() as u64);
@@ -170,8 +158,9 @@ pub fn put_refusal(out: &mut Buffer, at: usize, number: usize, n: u64) -> usize 
     put_byte(out, place, b'\n')
 }
 
-pub fn refusal_count(counts: &[u64; COUNTS], number: usize) -> u64 {
-    count_at(counts, wrapping_add_usize(REFUSED, number))
+pub fn refusal_count(counts: &[u64; COUNTS], refusal: Refusal) -> u64 {
+    let at = REFUSED + refusal.number() as usize;
+    counts.get(at).copied().unwrap_or(0)
 }
 
 // Every line of the text that has a count, and the refusals.
@@ -181,20 +170,13 @@ pub fn put_lines(text: &[u8], counts: &[u64; COUNTS], out: &mut Buffer, before: 
     let mut at: usize = 0;
     while at < text.len() {
         let kind = text[at];
-        place = put_line(
-            out,
-            place,
-            kind,
-            line(text, at),
-            count_at(counts, walk.place(kind)),
-        );
+        let n = walk.count(counts, kind).unwrap_or(0);
+        place = put_line(out, place, kind, line(text, at), n);
         walk = walk.behind(kind);
         at = next_line(text, at);
     }
-    let mut number: usize = 5;
-    while number < 8 {
-        place = put_refusal(out, place, number, refusal_count(counts, number));
-        number += 1;
+    for refusal in REFUSALS {
+        place = put_refusal(out, place, refusal, refusal_count(counts, refusal));
     }
     place
 }
@@ -228,7 +210,7 @@ fn tried_lines(text: &[u8], counts: &[u64; COUNTS], kind: u8) -> Tried {
     while at < text.len() {
         let here = text[at];
         if here == kind {
-            all = all.with(count_at(counts, walk.place(kind)));
+            all = all.with(walk.count(counts, kind).unwrap_or(0));
         }
         walk = walk.behind(here);
         at = next_line(text, at);
@@ -237,10 +219,11 @@ fn tried_lines(text: &[u8], counts: &[u64; COUNTS], kind: u8) -> Tried {
 }
 
 fn tried_refusals(counts: &[u64; COUNTS]) -> Tried {
-    Tried::new()
-        .with(refusal_count(counts, 5))
-        .with(refusal_count(counts, 6))
-        .with(refusal_count(counts, 7))
+    let mut all = Tried::new();
+    for refusal in REFUSALS {
+        all = all.with(refusal_count(counts, refusal));
+    }
+    all
 }
 
 fn put_tried(out: &mut Buffer, at: usize, tried: Tried, what: &[u8]) -> usize {

@@ -1,7 +1,7 @@
 // What no capture has tried of a frame text, one a line: a field behind its owner and by its path, a symbol behind its set. Of a kind of frame that was
 // never tried the fields are left out.
 use crate::lines_page::{
-    Walk, count_at, put_count, put_header, put_owner, put_refusal, refusal_count,
+    REFUSALS, Walk, put_count, put_header, put_owner, put_refusal, refusal_count,
 };
 use coverage::COUNTS;
 use readers::line_fields::field_of;
@@ -10,23 +10,16 @@ use writer::{Buffer, put, put_byte};
 
 // Is this the digit of a P line's level?
 fn is_level(row: &[u8], digit: u8) -> bool {
-    let field = field_of(row, 1);
-    if field.len() == 0 {
-        return false;
-    }
-    field[0] == digit
+    field_of(row, 1).first() == Some(&digit)
 }
 
-// Where the last P line of a level begins between two places, the second where there is none.
-fn last_of_level(text: &[u8], from: usize, end: usize, digit: u8) -> usize {
-    let mut found = end;
+// Where the last P line of a level begins between two places.
+fn last_of_level(text: &[u8], from: usize, end: usize, digit: u8) -> Option<usize> {
+    let mut found = None;
     let mut at = from;
-    while at < text.len() {
-        if end <= at {
-            return found;
-        }
+    while at < text.len() && at < end {
         if text[at] == b'P' && is_level(line(text, at), digit) {
-            found = at;
+            found = Some(at);
         }
         at = next_line(text, at);
     }
@@ -37,15 +30,13 @@ fn last_of_level(text: &[u8], from: usize, end: usize, digit: u8) -> usize {
 fn put_path(out: &mut Buffer, before: usize, text: &[u8], owner: usize, at: usize) -> usize {
     let row = line(text, at);
     let mut place = before;
-    let mut digit: u8 = b'0';
-    while digit < b'8' {
+    for digit in b'0'..b'8' {
         if is_level(row, digit) {
             return put(out, place, field_of(row, 5));
         }
-        let above = last_of_level(text, owner, at, digit);
+        let above = last_of_level(text, owner, at, digit).unwrap_or(at);
         place = put(out, place, field_of(line(text, above), 5));
         place = put_byte(out, place, b'.');
-        digit += 1;
     }
     place
 }
@@ -54,10 +45,9 @@ fn put_path(out: &mut Buffer, before: usize, text: &[u8], owner: usize, at: usiz
 fn put_untried(out: &mut Buffer, before: usize, text: &[u8], owner: usize, at: usize) -> usize {
     let row = line(text, at);
     let mut place = put_count(out, before, 0);
-    if row.len() == 0 {
+    let Some(&kind) = row.first() else {
         return place;
-    }
-    let kind = row[0];
+    };
     if kind == b'H' {
         place = put_header(out, place, row);
         return put_byte(out, place, b'\n');
@@ -72,28 +62,17 @@ fn put_untried(out: &mut Buffer, before: usize, text: &[u8], owner: usize, at: u
     put_byte(out, place, b'\n')
 }
 
-// Has a line of this kind a count, and is it 0?
-fn is_untried(counts: &[u64; COUNTS], walk: Walk, kind: u8) -> bool {
-    let place = walk.place(kind);
-    if COUNTS <= place {
-        return false;
-    }
-    count_at(counts, place) == 0
-}
-
 // Is this the kind of a line that P or E lines stand under?
 fn is_owner(kind: u8) -> bool {
-    kind == b'B' || kind == b'H' || kind == b'D'
+    matches!(kind, b'B' | b'H' | b'D')
 }
 
 fn put_refusals(counts: &[u64; COUNTS], out: &mut Buffer, before: usize) -> usize {
     let mut place = before;
-    let mut number: usize = 5;
-    while number < 8 {
-        if refusal_count(counts, number) == 0 {
-            place = put_refusal(out, place, number, 0);
+    for refusal in REFUSALS {
+        if refusal_count(counts, refusal) == 0 {
+            place = put_refusal(out, place, refusal, 0);
         }
-        number += 1;
     }
     place
 }
@@ -111,7 +90,7 @@ pub fn put_missing(text: &[u8], counts: &[u64; COUNTS], out: &mut Buffer, before
             owner = at;
             is_hidden = false;
         }
-        if is_untried(counts, walk, kind) {
+        if walk.count(counts, kind) == Some(0) {
             if !is_hidden {
                 place = put_untried(out, place, text, owner, at);
             }

@@ -52,15 +52,13 @@ pub fn find_sets(text: &[u8], sets: &mut [u8])
     let mut at: usize = 0;
     let mut k: usize = 0;
     while at < text.len() {
-        if text[at] != b'P' {
-            at = next_line(text, at);
-            continue;
+        if text[at] == b'P' {
+            if sets.len() <= k {
+                return;
+            }
+            sets[k] = set_number(text, field_of(line(text, at), 6));
+            k += 1;
         }
-        if sets.len() <= k {
-            return;
-        }
-        sets[k] = set_number(text, field_of(line(text, at), 6));
-        k += 1;
         at = next_line(text, at);
     }
 }
@@ -112,10 +110,7 @@ fn count_frames(
     requires { verdict text.now ≡ Ok tt }
 {
     let mut at: usize = 1;
-    loop {
-        let Some(span) = next_body(payload, at) else {
-            return;
-        };
+    while let Some(span) = next_body(payload, at) {
         let start = span.start.0;
         let end = span.end.0;
         count_body(text, options, &payload[start..end], sets, counts);
@@ -158,8 +153,7 @@ fn take_item(
     match item {
         Item::Payload(count) => take_payload(text, options, count, payload, sets, counts, day),
         Item::Nothing => day,
-        Item::NotHex(line, column) => pass_line(line, column, day),
-        Item::NoCapture(line, column) => pass_line(line, column, day),
+        Item::NotHex(line, column) | Item::NoCapture(line, column) => pass_line(line, column, day),
         Item::Unreadable => day.failed(),
     }
 }

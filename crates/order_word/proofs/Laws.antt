@@ -9,6 +9,6 @@ use Rattle.std.specs.Prelude.{Result, Ok}
 use Rattle.refusal.specs.declared.Refusal.{Refusal}
 
 -- so many bytes stand in it
-pub length-sorted : (t b : List ℕ) (r : Result ℕ Refusal) (b' : List ℕ) (n : ℕ) → Sorts t b r b' → r ≡ Ok n → n ≤ length b'
-length-sorted t b r b' n so e =
+pub length_sorted : (t b : List ℕ) (r : Result ℕ Refusal) (b' : List ℕ) (n : ℕ) → Sorts t b r b' → r ≡ Ok n → n ≤ length b'
+length_sorted t b r b' n so e =
     length_by (verdict t) (sorted_text t) b (length t) r b' n (λ q. sym (sorted-long t q)) so.answer so.buffer e

@@ -11,10 +11,7 @@ use writer::STDERR_FILENO;
 fn count_before(text: &[u8], kind: u8, end: usize) -> u64 {
     let mut at: usize = 0;
     let mut n: u64 = 0;
-    while at < text.len() {
-        if end <= at {
-            return n;
-        }
+    while at < text.len() && at < end {
         if text[at] == kind {
             n = wrapping_add_u64(n, 1);
         }
@@ -27,20 +24,14 @@ fn count_before(text: &[u8], kind: u8, end: usize) -> u64 {
 fn is_like(text: &[u8], at: usize, kind: u8, name: &[u8]) -> bool
     requires { at < length text.now }
 {
-    if text[at] == kind {
-        return is_same(field_of(line(text, at), 4), name);
-    }
-    false
+    text[at] == kind && is_same(field_of(line(text, at), 4), name)
 }
 
 // How many such lines begin before a place.
 fn count_like(text: &[u8], kind: u8, name: &[u8], end: usize) -> u64 {
     let mut at: usize = 0;
     let mut n: u64 = 0;
-    while at < text.len() {
-        if end <= at {
-            return n;
-        }
+    while at < text.len() && at < end {
         if is_like(text, at, kind, name) {
             n = wrapping_add_u64(n, 1);
         }
@@ -67,13 +58,7 @@ fn find_like(text: &[u8], kind: u8, name: &[u8], n: u64) -> usize {
 
 // Does a line of this kind own what follows?
 fn is_owner(kind: u8) -> bool {
-    match kind {
-        b'F' => true,
-        b'B' => true,
-        b'H' => true,
-        b'D' => true,
-        _ => false,
-    }
+    matches!(kind, b'F' | b'B' | b'H' | b'D')
 }
 
 // How many P lines stand under the line at a place.
@@ -109,10 +94,7 @@ fn say_range(first: u64, n: u64) {
 
 // That n P lines moved. Answers how many lines were said.
 fn say_params(old: u64, new: u64, n: u64) -> u64 {
-    if n == 0 {
-        return 0;
-    }
-    if old == new {
+    if n == 0 || old == new {
         return 0;
     }
     io::write_all(STDERR_FILENO, b"P ");
@@ -163,10 +145,7 @@ pub fn say_moved(old: &[u8], new: &[u8]) {
     let mut said: u64 = 0;
     while at < new.len() {
         let kind = new[at];
-        if kind == b'H' {
-            said = wrapping_add_u64(said, say_section(old, new, at, kind));
-        }
-        if kind == b'B' {
+        if kind == b'H' || kind == b'B' {
             said = wrapping_add_u64(said, say_section(old, new, at, kind));
         }
         at = next_line(new, at);

@@ -47,14 +47,12 @@ fn say_pair(text: &[u8], a: usize, b: usize, told: u64) {
 fn count_headers(text: &[u8]) -> usize
     requires { verdict text.now ≡ Ok tt }
 {
-    let mut n: usize = 0;
-    while n < HEADERS {
-        let Some(_) = find_header(text, n) else {
+    for n in 0..HEADERS {
+        if find_header(text, n).is_none() {
             return n;
-        };
-        n += 1;
+        }
     }
-    n
+    HEADERS
 }
 
 // Pairs of one base: those that are apart, and those of which it cannot be told.
@@ -85,29 +83,15 @@ fn take_pair(text: &[u8], a: usize, b: usize, pairs: Pairs) -> Pairs
     }
 }
 
-// The pairs of a header and each behind it.
-fn take_pairs(text: &[u8], a: usize, n: usize, before: Pairs) -> Pairs
-    requires { verdict text.now ≡ Ok tt }
-{
-    let mut pairs = before;
-    let mut b: usize = a;
-    while b < n {
-        if a < b {
-            pairs = take_pair(text, a, b, pairs);
-        }
-        b += 1;
-    }
-    pairs
-}
-
+// The pairs of each header and those behind it.
 fn take_all(text: &[u8], n: usize) -> Pairs
     requires { verdict text.now ≡ Ok tt }
 {
     let mut pairs = Pairs { apart: 0, open: 0 };
-    let mut a: usize = 0;
-    while a < n {
-        pairs = take_pairs(text, a, n, pairs);
-        a += 1;
+    for a in 0..n {
+        for b in a + 1..n {
+            pairs = take_pair(text, a, b, pairs);
+        }
     }
     pairs
 }

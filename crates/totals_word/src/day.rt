@@ -17,10 +17,7 @@ use totals::{TOTALS, add_accepted};
 // The F code of the first frame's region, as the table of frames has it.
 fn first_code(payload: &[u8], firmware: usize, reading: Reading) -> u64 {
     let mut at: usize = 1;
-    loop {
-        let Some(span) = next_body(payload, at) else {
-            return frame_code(0);
-        };
+    while let Some(span) = next_body(payload, at) {
         let start = span.start.0;
         let end = span.end.0;
         if let Ok(frame) = parse_record(&payload[start..end], firmware, reading) {
@@ -28,6 +25,7 @@ fn first_code(payload: &[u8], firmware: usize, reading: Reading) -> u64 {
         }
         at = end + 2;
     }
+    frame_code(0)
 }
 
 // The region by which the frames of a payload are decoded.
@@ -87,8 +85,7 @@ fn take_item(
     match item {
         Item::Payload(count) => take_payload(text, options, count, payload, totals, day),
         Item::Nothing => day,
-        Item::NotHex(line, column) => pass_line(line, column, day),
-        Item::NoCapture(line, column) => pass_line(line, column, day),
+        Item::NotHex(line, column) | Item::NoCapture(line, column) => pass_line(line, column, day),
         Item::Unreadable => day.failed(),
     }
 }

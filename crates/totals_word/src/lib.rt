@@ -1,5 +1,5 @@
 // The word `totals`: what captures come to, as a page of numbers.
-#![tactic(auto)]
+#![tactic(auto, using(crate::proofs::Laws::laws, crate::proofs::words_page::Laws::named_laws, crate::proofs::words_page::Laws::share_laws))]
 
 pub mod day;
 pub mod totals_file;

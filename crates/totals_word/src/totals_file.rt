@@ -22,11 +22,8 @@ const ROOM: usize = 32768;
 // The page, line by line.
 fn print_page(totals: &[u64; TOTALS]) {
     let mut page = [0u8; ROOM];
-    match print_totals(totals, &mut page) {
-        Ok(n) => {
-            io::write_all(STDOUT_FILENO, &page[..n]);
-        }
-        Err(_) => {}
+    if let Ok(n) = print_totals(totals, &mut page) {
+        io::write_all(STDOUT_FILENO, &page[..n]);
     }
 }
 
@@ -82,10 +79,8 @@ fn add_file(
 {
     let mut name = io::buffer();
     let n = argument(rt, k, &mut name);
-    if spent {
-        if is_standard(&name[..n]) {
-            return day.failed();
-        }
+    if spent && is_standard(&name[..n]) {
+        return day.failed();
     }
     match open_name(rt, &name[..n]) {
         Ok(mut reader) => add_opened(text, options, &mut reader, totals, day),
@@ -107,13 +102,11 @@ fn add_files(
     let end = argument_count(rt);
     let mut day = Day::new();
     let mut spent = false;
-    let mut k: usize = 2;
-    while k < end {
+    for k in 2..end {
         if next_file(rt, k) == k {
             day = add_file(rt, text, options, k, spent, totals, day);
             spent = is_spent(rt, k, spent);
         }
-        k += 1;
     }
     day
 }

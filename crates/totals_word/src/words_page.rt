@@ -21,19 +21,14 @@ const NUMBERS: usize = 10;
 const KEYS: usize = 256;
 
 fn total(totals: &[u64; TOTALS], at: usize) -> u64 {
-    if at < TOTALS {
-        return totals[at];
-    }
-    0
+    totals.get(at).copied().unwrap_or(0)
 }
 
 // Those of so many places from one on, together.
 fn sum(totals: &[u64; TOTALS], from: usize, count: usize) -> u64 {
     let mut all: u64 = 0;
-    let mut i: usize = 0;
-    while i < count {
+    for i in 0..count {
         all = wrapping_add_u64(all, total(totals, wrapping_add_usize(from, i)));
-        i += 1;
     }
     all
 }
@@ -107,11 +102,7 @@ fn name_of(text: &[u8], key: usize) -> &[u8]
 {
     let mut at: usize = 0;
     while at < text.len() {
-        if text[at] != b'H' {
-            at = next_line(text, at);
-            continue;
-        }
-        if is_number(field_of(line(text, at), 1), key) {
+        if text[at] == b'H' && is_number(field_of(line(text, at), 1), key) {
             return field_of(line(text, at), 4);
         }
         at = next_line(text, at);
@@ -122,11 +113,9 @@ fn name_of(text: &[u8], key: usize) -> &[u8]
 // The counts of a key at each rate.
 fn put_rates(totals: &[u64; TOTALS], from: usize, out: &mut Buffer, at: usize) -> usize {
     let mut place = at;
-    let mut rate: usize = 0;
-    while rate < RATE_COUNT {
+    for rate in 0..RATE_COUNT {
         let n = total(totals, wrapping_add_usize(from, rate));
         place = put_marked(out, place, b"", n, NUMBERS);
-        rate += 1;
     }
     place
 }
@@ -155,10 +144,8 @@ fn put_kind(
 
 fn put_kinds(text: &[u8], totals: &[u64; TOTALS], all: u64, out: &mut Buffer, at: usize) -> usize {
     let mut place = at;
-    let mut key: usize = 0;
-    while key < KEYS {
+    for key in 0..KEYS {
         place = put_kind(text, totals, key, all, out, place);
-        key += 1;
     }
     place
 }
