@@ -22,6 +22,7 @@ fn tell(params: Result<Rows, Refusal>) -> u64
 }
 
 // The public call, which checks the text.
+#[tactic(auto, using(crate::proofs::Laws::laws))]
 #[unsafe(no_mangle)]
 pub extern "C" fn bench_decode_params(
     text: &[u8],
@@ -38,6 +39,7 @@ pub extern "C" fn bench_decode_params(
 }
 
 // The call by an accepted text.
+#[tactic(auto, using(crate::proofs::Laws::laws))]
 fn decode_often(text: &[u8], payload: &[u8], rows: &mut [u64], times: u64) -> u64
     requires { verdict text.now ≡ Ok tt }
     ensures { result ≡ in_one (answer_of Answered text.now payload.now (length rows.old)) }

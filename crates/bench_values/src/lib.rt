@@ -23,6 +23,7 @@ fn tell(written: Result<usize, Refusal>) -> u64
     }
 }
 
+#[tactic(auto, using(crate::proofs::Laws::laws))]
 fn show_often(
     text: &[u8],
     mpdu: &[u8],
@@ -36,7 +37,7 @@ fn show_often(
     ensures { result ≡ told (header_value text.now mpdu.now region speed row (length buffer.old)) }
 {
     for _ in 1..times {
-        value_accepted(text, mpdu, region, speed, row, buffer);
+        let _ = value_accepted(text, mpdu, region, speed, row, buffer);
     }
     tell(value_accepted(text, mpdu, region, speed, row, buffer))
 }
@@ -60,12 +61,13 @@ pub extern "C" fn bench_header_value(
     }
 }
 
+#[tactic(auto, using(crate::proofs::Laws::laws))]
 fn show_row_often(text: &[u8], payload: &[u8], row: usize, buffer: &mut [u8], times: u64) -> u64
     requires { commandVerdict text.now ≡ Ok tt }
     ensures { result ≡ told (command_value Answered text.now payload.now row (length buffer.old)) }
 {
     for _ in 1..times {
-        command_value::value_accepted(text, payload, Offsets::Answered, row, buffer);
+        let _ = command_value::value_accepted(text, payload, Offsets::Answered, row, buffer);
     }
     tell(command_value::value_accepted(text, payload, Offsets::Answered, row, buffer))
 }

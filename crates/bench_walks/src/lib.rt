@@ -13,7 +13,7 @@ ghost use Rattle.bench_walks.specs.Told.{told};
 
 use frame_definition::{base_key, find_base, next_candidate};
 use frame_text::check_frame_text;
-use header::{decode_accepted, decode_header};
+use header::{DecodedHeader, decode_accepted, decode_header};
 use header_candidates::read_base;
 use header_fields::LINE_WIDTH;
 use header_paths::{BitOffset, SCRATCH_WIDTH};
@@ -32,6 +32,7 @@ fn tell(decoded: Result<DecodedHeader, Refusal>) -> u64
 }
 
 // The public call, which checks the text.
+#[tactic(auto, using(crate::proofs::Laws::laws))]
 #[unsafe(no_mangle)]
 pub extern "C" fn bench_decode_header(
     text: &[u8],
@@ -44,12 +45,13 @@ pub extern "C" fn bench_decode_header(
     ensures { result ≡ told (decoded text.now mpdu.now region speed (length rows.old)) }
 {
     for _ in 1..times {
-        decode_header(text, mpdu, region, speed, rows);
+        let _ = decode_header(text, mpdu, region, speed, rows);
     }
     tell(decode_header(text, mpdu, region, speed, rows))
 }
 
 // The call by an accepted text.
+#[tactic(auto, using(crate::proofs::Laws::laws))]
 fn decode_often(
     text: &[u8],
     mpdu: &[u8],
@@ -62,7 +64,7 @@ fn decode_often(
     ensures { result ≡ told (decoded text.now mpdu.now region speed (length rows.old)) }
 {
     for _ in 1..times {
-        decode_accepted(text, mpdu, region, speed, rows);
+        let _ = decode_accepted(text, mpdu, region, speed, rows);
     }
     tell(decode_accepted(text, mpdu, region, speed, rows))
 }
@@ -86,6 +88,7 @@ pub extern "C" fn bench_decode_accepted(
 }
 
 // Finds candidates, as many as are there and asked for.
+#[tactic(auto, using(crate::proofs::Laws::laws))]
 fn find_candidates(text: &[u8], key: u64, many: u64) -> u64
     requires { verdict text.now ≡ Ok tt }
 {
@@ -115,6 +118,7 @@ fn find_lines(text: &[u8], region: u64, speed: u64, many: u64) -> u64
 }
 
 // Finding lines alone. Answers how many candidates were found.
+#[tactic(auto, using(crate::proofs::Laws::laws))]
 #[unsafe(no_mangle)]
 pub extern "C" fn bench_find(text: &[u8], region: u64, speed: u64, many: u64, times: u64) -> u64 {
     let Ok(()) = check_frame_text(text) else {
@@ -128,6 +132,7 @@ pub extern "C" fn bench_find(text: &[u8], region: u64, speed: u64, many: u64, ti
 }
 
 // Loads and walks the base header whose P lines follow the place.
+#[tactic(auto, using(crate::proofs::Laws::laws))]
 fn read_often(text: &[u8], mpdu: &[u8], key: u64, place: Place, n: usize, times: u64) -> u64
     requires text_value { (verdict text.now ≡ Ok tt) × (length mpdu.now ≤ most_frame) }
     requires finds_base { FindsBase text.now key (Some (place, n)) }
@@ -143,6 +148,7 @@ fn read_often(text: &[u8], mpdu: &[u8], key: u64, place: Place, n: usize, times:
 }
 
 // Loading and walking the base header alone. Answers its rows.
+#[tactic(auto, using(crate::proofs::Laws::laws))]
 #[unsafe(no_mangle)]
 pub extern "C" fn bench_read_base(
     text: &[u8],
@@ -173,6 +179,7 @@ pub struct BenchWalked {
 }
 
 // The walk over loaded lines, from the line `first` on, behind n rows.
+#[tactic(auto, using(crate::proofs::Laws::laws))]
 fn walk_often(
     text: &[u8],
     mpdu: &[u8],

@@ -1,5 +1,5 @@
 -- Laws of the requests on frames. Assumes nothing.
-use Rattle.std.proofs.Common.{◌≡◌, ℕ, ◌*◌, ◌<◌, ◌≤◌, Bool, true, false, cond, eqb, leb, List, length, take, sym, refl, ◌∙◌, arith, length-take-le, le-leb}
+use Rattle.std.proofs.Common.{◌≡◌, ℕ, ◌*◌, ◌<◌, ◌≤◌, Bool, true, false, cond, eqb, leb, List, length, take, sym, ap, refl, ◌∙◌, arith, length-take-le, le-leb}
 use borrow.Author.Tests.{lt-leb}
 use Rattle.request.specs.Request.{two_of}
 use Rattle.request.proofs.Laws.{two_words, two_laws, request_laws}
@@ -53,15 +53,18 @@ pub by_rest : (words : List ℕ) (named : Bool) (r : Option (Capture × ℕ)) (c
 by_rest words named r capture at is e =
     by_name named (two_of words) (λ a b n h. two_words words (two_of words) a b n refl h) (sym is ∙ e)
   where
-    by_reading : (t : Bool) (q : Capture) (n : ℕ) → n ≤ length words → cond t (Some (q, n)) None ≡ Some (capture, at) → at ≤ length words
-    by_reading true q n few h = let z : n ≡ at = cc in omega arith
+    by_reading : (t : Bool) (q : Capture) (n : ℕ) → n ≤ length words → cond {A = Option (Capture × ℕ)} t (Some (q, n)) None ≡ Some (capture, at)
+        → at ≤ length words
+    by_reading true q n few h = let both : ◌≡◌ {A = Capture × ℕ} (q, n) (capture, at) = cc in omega (arith, ap (λ p. p.1) both)
     by_reading false q n few h = absurd (let z : ◌≡◌ {A = ℕ} 0 1 = cc in omega arith)
 
     by_name : (t : Bool) (two : Option (ℕ × ℕ × ℕ)) → ((a b n : ℕ) → two ≡ Some (a, b, n) → n ≤ length words)
-        → cond t (by_two two) (Some ((record { firmware = 2; family = false }), 0)) ≡ Some (capture, at) → at ≤ length words
+        → cond {A = Option (Capture × ℕ)} t (by_two two) (Some (record { firmware = 2; family = false }, 0)) ≡ Some (capture, at) → at ≤ length words
     by_name true (Some (a, b, n)) inside h = by_reading (leb b 1) (record { firmware = a; family = eqb b 1 }) n (inside a b n refl) h
     by_name true None inside h = absurd (let z : ◌≡◌ {A = ℕ} 0 1 = cc in omega arith)
-    by_name false two inside h = let z : 0 ≡ at = cc in omega arith
+    by_name false two inside h =
+        let both : ◌≡◌ {A = Capture × ℕ} (record { firmware = 2; family = false }, 0) (capture, at) = cc in
+        omega (arith, ap (λ p. p.1) both)
 
 -- ---- as many records as are filled stand in the table of frame records
 pub filled-inside : (records : List FrameRecord) (rows₀ rows : List ℕ) (n lent : ℕ) (t : FrameTable) → FilledFirst records rows₀ n lent t

@@ -1,5 +1,5 @@
 // The requests on the frames of a capture: on rates, on single records, and on every frame of a payload.
-#![tactic(auto)]
+#![tactic(auto, using(crate::proofs::Laws::laws))]
 
 mod frame_table;
 mod frames;

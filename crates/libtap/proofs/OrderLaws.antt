@@ -5,7 +5,7 @@ use Rattle.refusal.specs.Refusal.{number_of, carried_by}
 use Rattle.libtap.specs.declared.TapAnswer.{TapAnswer}
 use Rattle.libtap.specs.Answers.{answered}
 use Rattle.libtap.specs.Orders.{told_harmless}
-use Rattle.std.specs.Prelude.{Result, Ok, Err, Bool}
+use Rattle.std.specs.Prelude.{Result, Ok, Err, Bool, true, false}
 
 pub tells-yes : (x : Result Bool Refusal) (r : TapAnswer) → x ≡ Ok true → r ≡ answered (0, 1) → r ≡ told_harmless x
 tells-yes x r e is = rw e is

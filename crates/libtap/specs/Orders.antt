@@ -1,5 +1,5 @@
 -- The answers of the calls on the order of headers as C has them.
-use Rattle.std.specs.Prelude.{◌≡◌, List, ℕ, Result, Ok, Err, Bool}
+use Rattle.std.specs.Prelude.{◌≡◌, List, ℕ, Result, Ok, Err, Bool, true, false}
 use Rattle.refusal.specs.Refusal.{number_of, carried_by}
 use Rattle.overlaps.specs.Calls.{TellsHarmless}
 use Rattle.sorting.specs.Sorting.{Sorts}

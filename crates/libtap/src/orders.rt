@@ -8,6 +8,7 @@ use overlaps::is_harmless;
 use refusal::Refusal;
 use sorting::sort_headers;
 
+#[tactic(auto, using(crate::proofs::OrderLaws::order_laws))]
 fn tell_harmless(told: Result<bool, Refusal>) -> TapAnswer
     ensures { result ≡ told_harmless told }
 {

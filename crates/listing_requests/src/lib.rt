@@ -1,5 +1,5 @@
 // The request on a listing.
-#![tactic(auto)]
+#![tactic(auto, using(crate::proofs::Laws::laws))]
 
 ghost use Rattle.std.specs.Prelude.{◌-◌, ◌≤◌, length};
 

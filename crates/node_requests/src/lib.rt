@@ -1,5 +1,5 @@
 // The requests on the nodes that a row addresses.
-#![tactic(auto)]
+#![tactic(auto, using(crate::proofs::Laws::laws))]
 
 ghost use Rattle.std.specs.Prelude.{◌≤◌, length};
 ghost use Rattle.libtap.specs.Answers.{Stands};

@@ -1,6 +1,6 @@
 // Answers the requests of standard input, one a line, each with a line on standard output: the door by which vectors,
 // differential runs and outside checks reach the proved calls.
-#![tactic(auto)]
+#![tactic(auto, using(crate::proofs::Laws::laws))]
 
 mod definitions;
 mod input;

@@ -1,5 +1,5 @@
 // The request on the totals of a capture.
-#![tactic(auto)]
+#![tactic(auto, using(crate::proofs::Laws::laws))]
 
 use answer::table::{BYTE, put_written};
 use libtap::TapAnswer;

@@ -1,5 +1,5 @@
 // The requests on values as people read them.
-#![tactic(auto)]
+#![tactic(auto, using(crate::proofs::Laws::laws))]
 
 ghost use Rattle.std.specs.Prelude.{◌≤◌, length};
 

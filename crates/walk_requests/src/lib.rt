@@ -1,5 +1,5 @@
 // The requests on the header of an MPDU and on the parameters of a command, both by a definition text.
-#![tactic(auto)]
+#![tactic(auto, using(crate::proofs::Laws::laws))]
 
 ghost use Rattle.std.specs.Prelude.{◌≤◌, ◌*◌, length};
 ghost use Rattle.answer.specs.Table.{Ample};

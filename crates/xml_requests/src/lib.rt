@@ -1,5 +1,5 @@
 // The requests on a frame text as XML, and on XML as a frame text.
-#![tactic(auto)]
+#![tactic(auto, using(crate::proofs::Laws::laws))]
 
 use answer::table::{BYTE, MOST_BYTES, put_written};
 use libtap::xml_texts::{tap_frame_text_to_xml, tap_xml_to_frame_text};

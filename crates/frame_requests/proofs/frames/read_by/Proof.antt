@@ -1,8 +1,0 @@
--- `frame_requests::frames::read_by` meets its contract, by the laws of the crate. Assumes nothing.
-use Rattle.frame_requests.proofs.Laws.{laws}
-use Rattle.std.proofs.Common.{rules}
-use Rattle.frame_requests.proofs.frames.read_by.Statement.{statement}
-use Rattle.frame_requests.proofs.frames.read_by.Tie as tie
-
-pub read_by_spec : {M : Type 1} → statement M
-read_by_spec = tie.close (tie.spec (λ c κs. search (rules, laws)) (λ c. search (rules, laws)) (λ c. search (rules, laws)))
