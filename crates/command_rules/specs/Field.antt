@@ -57,7 +57,7 @@ abbrev pub variant_rule : Option Size → Rule
 variant_rule None = Open
 variant_rule (Some s) = cond (eqb s.offset 255 || eqb s.mask 0) Open (Counted s.offset s.mask (record { 0 = s.shift }))
 
--- C5: by the first M; one without a length hands over to R, as None does
+-- C5: by the first M; one without a length hands over to R, as none does
 abbrev pub variable_rule : Option (Option ℕ) → Option Size → Rule
 variable_rule None r = variant_rule r
 variable_rule (Some None) r = variant_rule r

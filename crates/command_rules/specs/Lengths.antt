@@ -34,7 +34,7 @@ holds None mask es = true
 
 -- ---- lengths
 
--- C6, C11, C13: Some bits of a byte, as a number
+-- C6, C11, C13: some bits of a byte, as a number
 abbrev pub masked : ℕ → ℕ → BitShift → ℕ
 masked b mask shift = bit_and b mask / 2 ^ shift.0
 

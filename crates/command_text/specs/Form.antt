@@ -140,7 +140,7 @@ bits_fields fs = up_to 255 (field 1 fs) && (optional_up_to 255 (field 2 fs) && n
 abbrev pub bits_form : List (List ℕ) → Bool
 bits_form fs = eqb (length fs) 4 && bits_fields fs
 
--- T29: a length, or None
+-- T29: a length, or none
 abbrev pub bitmask_form : List (List ℕ) → Bool
 bitmask_form fs = eqb (length fs) 2 && optional_up_to 255 (field 1 fs)
 

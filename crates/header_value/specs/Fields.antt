@@ -7,7 +7,7 @@ use Rattle.display.specs.Display.{display_value}
 
 -- ---- its symbol
 
--- H17: the text of the E of number n, from 1, among these; None for 0
+-- H17: the text of the E of number n, from 1, among these; none for 0
 unfoldable pub entry_text : ℕ → List Entry → List ℕ
 entry_text n [] = []
 entry_text n (e ∷ es) = cond (eqb n 1) e.text (entry_text (n - 1) es)

@@ -113,7 +113,7 @@ module _ (key : ℕ) (d : List ℕ) (base : List (P 7)) where
   abbrev standing : List Frame → List (Candidate 7)
   standing fs = map candidate_of (candidates key fs)
 
-  -- where one holds, None that it is apart from holds
+  -- where one holds, none that it is apart from holds
   fails_behind : (f : Frame) → Keyed key f → (fs : List (Field 7)) → Holds 7 d base (candidate_of f) fs → (gs : List Frame)
       → apart_from_all (head_of f) (map head_of gs) ≡ true → Every Fails (standing gs)
   fails_behind f kf fs h [] e = tt
@@ -128,7 +128,7 @@ module _ (key : ℕ) (d : List ℕ) (base : List (P 7)) where
       go true kg a ih = (λ zs k. apart-no key f g kf kg a d base fs zs h k, ih)
       go false kg a ih = ih
 
-  -- OV5: of candidates that are all apart, None holds behind one that holds
+  -- OV5: of candidates that are all apart, none holds behind one that holds
   none-behind : (fs : List Frame) → all_apart (map head_of fs) ≡ true → (xs : List (Candidate 7)) (c : Candidate 7) (ys : List (Candidate 7))
       → standing fs ≡ xs ++ c ∷ ys → (zs : List (Field 7)) → Holds 7 d base c zs → Every Fails ys
   none-behind [] a xs c ys e zs h = absurd (none-split xs c ys e)

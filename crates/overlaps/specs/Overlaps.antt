@@ -47,7 +47,7 @@ abbrev pub has_outer : List ℕ → List Param → Bool
 has_outer x [] = false
 has_outer x (p ∷ ps) = (eqb p.level 0 && same p.name x) || has_outer x ps
 
--- OV3: behind a P of this level, order and name, up to the next P of a lower level: None of its level has a lower order or its name
+-- OV3: behind a P of this level, order and name, up to the next P of a lower level: none of its level has a lower order or its name
 abbrev pub clear_of : ℕ → ℕ → List ℕ → List Param → Bool
 clear_of level order name [] = true
 clear_of level order name (q ∷ qs) =
@@ -152,6 +152,6 @@ tell_both None g = 4
 tell_both (Some f) None = 4
 tell_both (Some f) (Some g) = tell f g
 
--- OV4: what is told of the headers of two numbers: 4 too where there is None of a number
+-- OV4: what is told of the headers of two numbers: 4 too where there is none of a number
 unfoldable pub tell_numbers : List ℕ → ℕ → ℕ → ℕ
 tell_numbers t a b = tell_both (head_of_number a (heads_of t)) (head_of_number b (heads_of t))

@@ -20,7 +20,7 @@ use Rattle.reorder.specs.Blocks.{Section, gap, blocks, lines_of, header_numbers,
 
 -- ---- the move
 
--- O2: t' is t with its H blocks in another order. (A line before the first section has no owner; an accepted text has None: `whole`.)
+-- O2: t' is t with its H blocks in another order. (A line before the first section has no owner; an accepted text has none: `whole`.)
 pub record Reordered (t t' : List ℕ) : Type 0 where
   -- the sections of t, with their numbers in t, as they stand in t'
   pub order : List (Section Line)
@@ -88,7 +88,7 @@ pub record Refuses (table : List ℕ) (y : Refusal) (r : Result DecodedHeader Re
   pub answer : r ≡ Err y
   pub as_it_was : table' ≡ table
 
--- c holds, by the reading fs, and of the candidates of cs that hold None has a lower number after the move
+-- c holds, by the reading fs, and of the candidates of cs that hold none has a lower number after the move
 pub record Foremost (n : ℕ) (d : List ℕ) (base : List (P n)) (cs : List (Candidate n)) (h : ℕ → ℕ) (c : Candidate n)
     (fs : List (Field n)) : Type 0 where
   pub front : List (Candidate n)
@@ -123,7 +123,7 @@ pub record Harmless (t t' d : List ℕ) (region speed : ℕ) (table : List ℕ) 
   -- no base header has it, before and after
   pub no_base : base_by t region speed ≡ None → Refuses table (NoBase (key_of t region speed)) r table₁
       × Refuses table (NoBase (key_of t region speed)) r' table₂
-  -- where no candidate holds, None holds after the move, and both calls say so
+  -- where no candidate holds, none holds after the move, and both calls say so
   pub none-holds : (b : Base) → base_by t region speed ≡ Some b → NoneHold 7 d (trees b.params) (candidates_by t region speed)
       → NoneHolds (definition t') d (key_of t' region speed) × Refuses table NoCandidate r table₁ × Refuses table NoCandidate r' table₂
   -- where exactly one holds, both calls answer it: key, flags, payload offset, checksum result and rows are the same but for the numbers of H and P lines
@@ -132,7 +132,7 @@ pub record Harmless (t t' d : List ℕ) (region speed : ℕ) (table : List ℕ) 
       → length (rows_by t d fs) ≤ length table / row_width
       → Gives table (header_by t d speed c fs) (rows_by t d fs) r table₁
       × Gives table (with_number h t' (header_by t d speed c fs)) (map (renumbered g) (rows_by t d fs)) r' table₂
-  -- where Some hold, one of them stands first after the move
+  -- where some hold, one of them stands first after the move
   pub some_hold : (b : Base) → base_by t region speed ≡ Some b → OneHolds 7 d (trees b.params) (candidates_by t region speed)
       → (c : Candidate 7) × (fs : List (Field 7)) × Foremost 7 d (trees b.params) (candidates_by t region speed) h c fs
   -- and that one is the answer after it

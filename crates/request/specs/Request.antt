@@ -25,7 +25,7 @@ further l None = None
 abbrev pub two_of : List ℕ → Option (ℕ × ℕ × ℕ)
 two_of l = further l (leading_of l)
 
--- ---- "(Option ℕ) are lower-case hex without spaces, `-` for none"
+-- ---- "Bytes are lower-case hex without spaces, `-` for none"
 -- what a digit says; 16 for a byte that is none
 abbrev pub digit_of : ℕ → ℕ
 digit_of x = cond (leb 48 x && leb x 57) (x - 48) (cond (leb 97 x && leb x 102) (x - 87) 16)

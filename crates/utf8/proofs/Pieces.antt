@@ -129,7 +129,7 @@ cut_most (x ∷ xs) (suc n) w h e = go (rest table x) refl
     go (Some rs) q = rw (cut_some x xs rs q) (omega (arith, fits-most rs n xs w (omega arith) (rw (form_some x (take n xs ++ w) rs q) at e)))
 
 -- ---- two bytes or more are a front of a well-formed sequence
--- no byte of a row may be 0, and each may be Some
+-- no byte of a row may be 0, and each may be some
 abbrev sound : Row → Bool
 sound [] = true
 sound (r ∷ rs) = (leb 1 r.0 && leb r.0 r.1) && sound rs

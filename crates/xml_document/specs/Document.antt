@@ -31,7 +31,7 @@ moved d c (Bad n) = nowhere
 moved d c (Shut k) = leave d k
 moved d c (Open k) = cond (closed c) (leave (enter d k) k) (enter d k)
 
--- ---- is it within what is read: None, or where the first fault is
+-- ---- is it within what is read: `None`, or where the first fault is
 
 -- X8: the place of the fault in a tag that stands at a place: its `<`, if the tag itself is right
 abbrev pub fault_at : ℕ → List ℕ → Tag → ℕ

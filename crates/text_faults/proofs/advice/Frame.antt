@@ -1,4 +1,4 @@
--- A fault is told of a line of a frame text exactly where the line is None of the forms. Assumes nothing.
+-- A fault is told of a line of a frame text exactly where the line is none of the forms. Assumes nothing.
 use mathlib.Core.Path.{◌≡◌, refl, sym, ap, subst, ◌∙◌}
 use mathlib.Core.Bool.{Bool, true, false, cond, ◌&&◌}
 use mathlib.Core.List.{List, [], ◌∷◌}
