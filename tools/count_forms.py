@@ -28,6 +28,17 @@ def block(text, at):
 FILES = {p: code(p) for p in sorted(glob.glob('crates/*/src/**/*.rt', recursive=True))}
 
 
+def places(pattern):
+    """Each place where a pattern stands: its file, the file's text and the match."""
+    for path, text in FILES.items():
+        for m in re.finditer(pattern, text):
+            yield path, text, m
+
+
+def line_of(text, m):
+    return text[:m.start()].count('\n') + 1
+
+
 def functions():
     """Each function: its file, name, parameters, clauses and body."""
     for path, text in FILES.items():
@@ -50,32 +61,27 @@ def functions():
             yield path, m.group(1), params, clauses, body
 
 
-def tell(point, places):
-    places = sorted(places)
-    print(f'{point}: {len(places)}')
+def tell(point, found):
+    print(f'{point}: {len(found)}')
     if LIST:
-        for place in places:
+        for place in sorted(found):
             print('    ' + place)
 
 
 # 1: own enums of the shape of Option or Result
 shapes = []
-for path, text in FILES.items():
-    for m in re.finditer(r'\benum (\w+)[^{;]*', text):
-        inner, _ = block(text, m.start())
-        cases = re.findall(r'(?:^|,)\s*(\w+)\s*(\(|\{)?', re.sub(r'[({][^(){}]*[)}]', lambda x: x.group(0)[0], inner))
-        bare = [c for c, mark in cases if not mark]
-        full = [c for c, mark in cases if mark]
-        if (len(cases) == 2 and len(full) >= 1) or 'Refused' in full:
-            shapes.append(f'{path} {m.group(1)} {" ".join(c for c, _ in cases)}')
+for path, text, m in places(r'\benum (\w+)[^{;]*'):
+    inner, _ = block(text, m.start())
+    cases = re.findall(r'(?:^|,)\s*(\w+)\s*(\(|\{)?', re.sub(r'[({][^(){}]*[)}]', lambda x: x.group(0)[0], inner))
+    full = [c for c, mark in cases if mark]
+    if (len(cases) == 2 and full) or 'Refused' in full:
+        shapes.append(f'{path} {m.group(1)} {" ".join(c for c, _ in cases)}')
 tell('1 own enums of the shape of Option or Result', shapes)
 
 # 1: answers passed on by hand
-by_hand = []
-for path, text in FILES.items():
-    for m in re.finditer(r'\w*::?(?:Refused|Err)\((\w+)\) => (?:return )?[\w:]*(?:Refused|Err)\(\1\)|\bErr\((\w+)\) => (?:return )?Err\(\2\)|else \{\s*return (?:None|[A-Z]\w*::(?:Not|Nothing|NoMore|Missing|Stop|Bad|Absent|Fails));?\s*\}', text):
-        by_hand.append(f'{path}:{text[:m.start()].count(chr(10)) + 1}')
-tell('1 refusals and absences passed on by hand', by_hand)
+BY_HAND = (r'\w*::?(?:Refused|Err)\((\w+)\) => (?:return )?[\w:]*(?:Refused|Err)\(\1\)|\bErr\((\w+)\) => (?:return )?Err\(\2\)'
+           r'|else \{\s*return (?:None|[A-Z]\w*::(?:Not|Nothing|NoMore|Missing|Stop|Bad|Absent|Fails));?\s*\}')
+tell('1 refusals and absences passed on by hand', [f'{path}:{line_of(text, m)}' for path, text, m in places(BY_HAND)])
 
 # 2: functions whose code differs only in names, types and numbers
 groups = collections.defaultdict(list)
@@ -89,13 +95,12 @@ tell('2 functions of one shape with another', [' = '.join(g) for g in groups.val
 
 # 3: loops that count an index by hand
 loops = []
-for path, text in FILES.items():
-    for m in re.finditer(r'\bwhile ([^{]*)\{', text):
-        inner, _ = block(text, m.start())
-        for v in re.findall(r'[a-z]\w*', m.group(1)):
-            if re.search(r'(?<![\w.])' + v + r' (\+|-)= 1;|(?<![\w.])' + v + r' = ' + v + r' [+-] 1;', inner):
-                loops.append(f'{path}:{text[:m.start()].count(chr(10)) + 1} while {" ".join(m.group(1).split())}')
-                break
+for path, text, m in places(r'\bwhile ([^{]*)\{'):
+    inner, _ = block(text, m.start())
+    for v in re.findall(r'[a-z]\w*', m.group(1)):
+        if re.search(r'(?<![\w.])' + v + r' (\+|-)= 1;|(?<![\w.])' + v + r' = ' + v + r' [+-] 1;', inner):
+            loops.append(f'{path}:{line_of(text, m)} while {" ".join(m.group(1).split())}')
+            break
 tell('3 loops that count an index by hand', loops)
 
 # 4: equality, conversion and printing by hand
@@ -132,14 +137,10 @@ for path, name, params, clauses, body in functions():
 tell('6 buffers with a length beside them', beside)
 
 # 7: switches on which step to run
-steps = []
-for path, text in FILES.items():
-    for m in re.finditer(r'\benum (State|Step|Within|Turn|Word|Lead|Filled|Found)\b', text):
-        steps.append(f'{path} {m.group(1)}')
-tell('7 switches on which step to run', steps)
+STEPS = r'\benum (State|Step|Within|Turn|Word|Lead|Filled|Found)\b'
+tell('7 switches on which step to run', [f'{path} {m.group(1)}' for path, text, m in places(STEPS)])
 
 # 8: proofs
-proofs = [p for p in glob.glob('crates/*/proofs/**/Proof.antt', recursive=True)]
-tell('8 proofs in the older positional form', proofs if LIST else proofs)
+tell('8 proofs in the older positional form', glob.glob('crates/*/proofs/**/Proof.antt', recursive=True))
 lines = sum(open(p).read().count('\n') for p in glob.glob('crates/*/proofs/**/*.antt', recursive=True))
 print(f'8 lines below crates/*/proofs: {lines}')
