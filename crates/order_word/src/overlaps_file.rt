@@ -83,7 +83,7 @@ fn take_pair(text: &[u8], a: usize, b: usize, pairs: Pairs) -> Pairs
     }
 }
 
-// The pairs of each header and those behind it.
+// The pairs of each header and those after it.
 fn take_all(text: &[u8], n: usize) -> Pairs
     requires { verdict text.now ≡ Ok tt }
 {

@@ -77,7 +77,7 @@ parent_is k h = either parents k 0 nowhere h
 pub parent-none : (k : ℕ) → 13 ≤ k → 15 ≡ parent_of k
 parent-none k h = past parents k nowhere h
 
--- ---- one entry after another: what is left of the row begins with a field that is behind us
+-- ---- one entry after another: what is left of the row begins with a field that is passed
 module _ (rest : List ℕ) (r : Option (ℕ × ℕ)) (is : Follows rest r) where
   pub entry_last : r ≡ None → drop 1 (fields rest) ≡ []
   entry_last q = rw q at is
@@ -98,7 +98,7 @@ module _ (rest : List ℕ) (r : Option (ℕ × ℕ)) (is : Follows rest r) where
     pub entry_less : length (take (length rest - a) (drop a rest)) < length rest
     entry_less = rw (tail, length-drop) (omega (arith, entry_now.1, entry_now.0))
 
-    -- the entry is what the code takes for it, and behind it stand those of what is left from there
+    -- the entry is what the code takes for it, and after it stand those of what is left from there
     pub entry_is : drop 1 (fields rest) ≡ take len (take (length rest - a) (drop a rest)) ∷ drop 1 (fields (take (length rest - a) (drop a rest)))
     entry_is = rw tail entry_now.2
 

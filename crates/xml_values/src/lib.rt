@@ -241,7 +241,7 @@ fn is_hex(l: &[u8]) -> bool
     matches!(l, [b'0', b'x' | b'X', ..])
 }
 
-// The number that l says in the base, behind a `+` or not.
+// The number that l says in the base, after a `+` or not.
 fn signed_in(base: u8, l: &[u8]) -> Option<u64>
     requires { (1 ≤ base) × (base ≤ 16) }
     ensures { result ≡ numeral_in base (unsigned l.now) }
