@@ -1,34 +1,61 @@
 -- Laws of the beam count. Assumes nothing.
 use mathlib.Core.Path.{◌≡◌, refl, ◌∙◌}
-use mathlib.Core.Bool.{Bool, true, false, cond, ◌&&◌}
+use mathlib.Core.Bool.{Bool, true, false, cond, ◌&&◌, and-false}
 use mathlib.Core.List.{List, [], ◌∷◌}
 use Prim.Native.Nat.{ℕ, zero, suc, ◌+◌, ◌-◌, ◌*◌, ◌/◌, ◌%◌, ◌≤◌, ◌<◌}
+use native.Mathlib.Nat.{add-zero}
 use native.Mathlib.Omega.{arith}
 use lib.Dec.{eqb, leb}
 use lib.ListN.{length, get_or, take, drop, length-drop}
-use lib.Seq.{length-take-le, drop-drop}
+use lib.Seq.{length-take-le, get_or-take, drop-drop}
 use borrow.Author.Tests.{le-leb, lt-ltb, le-ltb, eq-eqb, ne_eqb}
-use Rattle.std.specs.List.{starts_with as slice_starts}
-use Rattle.laws.proofs.Lists.{next, done, tail}
+use Rattle.laws.proofs.Lists.{next, done}
 use Rattle.radio.specs.declared.beam.BeamTarget.{BeamTarget}
 use Rattle.radio.specs.Beam.{starts_with, width_of, again, beams_of, told_by, ordinary_target, long_target, target_of}
 
 -- ---- the first bytes at a place
-starts_by : (f l : List ℕ) → slice_starts eqb l f ≡ starts_with f l
-starts_by [] l = refl
-starts_by (x ∷ xs) [] = refl
-starts_by (x ∷ xs) (y ∷ ys) = rw (starts_by xs ys) refl
-
--- what `repeats_at` is to answer
-abbrev asked : List ℕ → ℕ → ℕ → Bool
-asked m at w = eqb (get_or m at 0) 0x55 && starts_with (take w m) (drop at m)
+too_short : (f l : List ℕ) → length l < length f → starts_with f l ≡ false
+too_short [] l h = absurd (omega arith)
+too_short (x ∷ xs) [] h = refl
+too_short (x ∷ xs) (y ∷ ys) h = rw (too_short xs ys (omega arith), and-false) refl
 
 module _ (m : List ℕ) (at w : ℕ) where
-  pub no_marker : (get_or m at 0 ≡ 0x55 → ⊥) → false ≡ asked m at w
+  -- what the answer is to be
+  abbrev asked : Bool
+  asked = eqb (get_or m at 0) 0x55 && starts_with (take w m) (drop at m)
+
+  pub no_marker : (get_or m at 0 ≡ 0x55 → ⊥) → false ≡ asked
   no_marker h = rw (ne_eqb (get_or m at 0) 0x55 h) refl
 
-  pub marked : (t : Bool) → t ≡ slice_starts eqb (take (length m - at) (drop at m)) (take w m) → get_or m at 0 ≡ 0x55 → t ≡ asked m at w
-  marked t e h = rw (eq-eqb (get_or m at 0) 0x55 h) (rw (tail m at, starts_by (take w m) (drop at m)) at e)
+  pub no_room : w ≤ length m → length m - at < w → false ≡ asked
+  no_room in-m h = rw (too_short (take w m) (drop at m) (rw (length-drop, length-take-le w m in-m) h), and-false) refl
+
+  -- the first i bytes are the same
+  pub record Same (i : ℕ) : Type 0 where
+    pub rest : starts_with (take w m) (drop at m) ≡ starts_with (drop i (take w m)) (drop (at + i) m)
+    pub few : i ≤ w
+
+  pub same_starts : Same 0
+  same_starts = record { rest = rw add-zero refl; few = omega arith }
+
+  module _ (i : ℕ) (s : Same i) (in-m : w ≤ length m) (more : i < w) (room : w ≤ length m - at) where
+    here : starts_with (take w m) (drop at m) ≡ eqb (get_or m i 0) (get_or m (at + i) 0) && starts_with (drop (i + 1) (take w m)) (drop (at + i + 1) m)
+    here =
+        let f : drop i (take w m) ≡ get_or m i 0 ∷ drop (i + 1) (take w m) =
+        rw (← get_or-take w m i 0 more) (next (take w m) i (rw (length-take-le w m in-m) more)) in
+        s.rest ∙ rw (f, next m (at + i) (omega arith)) refl
+
+    pub same_differs : (get_or m i 0 ≡ get_or m (at + i) 0 → ⊥) → false ≡ asked
+    same_differs h = rw (here, ne_eqb (get_or m i 0) (get_or m (at + i) 0) h, and-false) refl
+
+    pub same_more : get_or m i 0 ≡ get_or m (at + i) 0 → Same (i + 1)
+    same_more h =
+        let e : at + (i + 1) ≡ at + i + 1 = omega arith in
+        record { rest = here ∙ rw (eq-eqb (get_or m i 0) (get_or m (at + i) 0) h, e) refl; few = omega arith }
+
+  pub same-all : (i : ℕ) → Same i → w ≤ length m → w ≤ i → get_or m at 0 ≡ 0x55 → true ≡ asked
+  same-all i s in-m all marker =
+      rw (eq-eqb (get_or m at 0) 0x55 marker, s.rest, done (take w m) i (rw (length-take-le w m in-m) all)) refl
 
 -- ---- the count
 skip : (f : List ℕ) (k : ℕ) (l : List ℕ) → again f k l ≡ again f 0 (drop k l)
@@ -145,7 +172,11 @@ beams_low rate m =
 
 pub ruleset beam_laws = (
   no_marker,
-  marked,
+  no_room,
+  same_starts,
+  same_differs,
+  same_more,
+  same-all,
   beaming_starts,
   beams_all,
   beaming_hit,

@@ -31,7 +31,18 @@ fn repeats_at(middle: &[u8], at: usize, width: usize) -> bool
     requires { (at < length middle.now) × (width ≤ length middle.now) }
     ensures { result ≡ (eqb (get_or middle.now at 0) 0x55 && starts_with (take width middle.now) (drop at middle.now)) }
 {
-    middle[at] == BEAM_MARKER && middle[at..].starts_with(&middle[..width])
+    if middle[at] != BEAM_MARKER {
+        return false;
+    }
+    if middle.len() - at < width {
+        return false;
+    }
+    for i in 0..width {
+        if middle[i] != middle[at + i] {
+            return false;
+        }
+    }
+    true
 }
 
 // Counts how often a beam repeats in the middle bytes of a record. Each candidate repetition is compared with the first, and the
