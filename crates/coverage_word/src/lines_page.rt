@@ -148,8 +148,18 @@ fn put_line(out: &mut Buffer, at: usize, kind: u8, row: &[u8], n: u64) -> usize 
     }
 }
 
+// The refusal of a number from 5 to 7.
+fn refusal_of(number: usize) -> Refusal {
+    match number {
+        5 => Refusal::TooShort(0),
+        6 => Refusal::NoBase(0),
+        _ => Refusal::NoCandidate,
+    }
+}
+
 // The line of a refusal.
-pub fn put_refusal(out: &mut Buffer, at: usize, refusal: Refusal, n: u64) -> usize {
+pub fn put_refusal(out: &mut Buffer, at: usize, number: usize, n: u64) -> usize {
+    let refusal = refusal_of(number);
     let mut place = put_count(out, at, n);
     place = put(out, place, b"refused by ");
     place = put_number(out, place, refusal.number() as u64);
@@ -158,8 +168,8 @@ pub fn put_refusal(out: &mut Buffer, at: usize, refusal: Refusal, n: u64) -> usi
     put_byte(out, place, b'\n')
 }
 
-pub fn refusal_count(counts: &[u64; COUNTS], refusal: Refusal) -> u64 {
-    let at = REFUSED + refusal.number() as usize;
+pub fn refusal_count(counts: &[u64; COUNTS], number: usize) -> u64 {
+    let at = wrapping_add_usize(REFUSED, number);
     counts.get(at).copied().unwrap_or(0)
 }
 
@@ -176,7 +186,8 @@ pub fn put_lines(text: &[u8], counts: &[u64; COUNTS], out: &mut Buffer, before: 
         at = next_line(text, at);
     }
     for refusal in REFUSALS {
-        place = put_refusal(out, place, refusal, refusal_count(counts, refusal));
+        let number = refusal.number() as usize;
+        place = put_refusal(out, place, number, refusal_count(counts, number));
     }
     place
 }
@@ -221,7 +232,7 @@ fn tried_lines(text: &[u8], counts: &[u64; COUNTS], kind: u8) -> Tried {
 fn tried_refusals(counts: &[u64; COUNTS]) -> Tried {
     let mut all = Tried::new();
     for refusal in REFUSALS {
-        all = all.with(refusal_count(counts, refusal));
+        all = all.with(refusal_count(counts, refusal.number() as usize));
     }
     all
 }

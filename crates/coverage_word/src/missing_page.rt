@@ -70,8 +70,9 @@ fn is_owner(kind: u8) -> bool {
 fn put_refusals(counts: &[u64; COUNTS], out: &mut Buffer, before: usize) -> usize {
     let mut place = before;
     for refusal in REFUSALS {
-        if refusal_count(counts, refusal) == 0 {
-            place = put_refusal(out, place, refusal, 0);
+        let number = refusal.number() as usize;
+        if refusal_count(counts, number) == 0 {
+            place = put_refusal(out, place, number, 0);
         }
     }
     place
